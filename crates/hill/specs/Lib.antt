@@ -1,0 +1,12 @@
+pub mod Verdict
+pub mod Log
+pub mod Hill
+pub mod Map
+pub mod Summary
+pub mod Tree
+pub mod Spell
+pub mod Finish
+pub mod Figure
+pub mod Literal
+pub mod Row
+pub mod Valid

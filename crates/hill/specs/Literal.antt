@@ -1,0 +1,258 @@
+-- The values of a chunk's hill in document 01's own words, read off the chunk; and that they are those of the hill. Assumes nothing.
+use mathlib.Core.Path.{_≡_, refl, ap, sym, _∙_}
+use mathlib.Core.Bool.{Bool, true, false, _&&_, _||_, not}
+use mathlib.Core.List.{List, [], _∷_, _++_, append-assoc, append-nil}
+use Prim.Native.Nat.{ℕ, zero, suc, _+_, _-_, _<_, _≤_, min}
+use native.Mathlib.Nat.{add-zero, add-suc}
+use native.Mathlib.Omega.{arith}
+use lib.Dec.{eqb}
+use lib.ListN.{length}
+use borrow.Author.Tests.{eq-eqb, ne-eqb, eqb-true}
+use Rattle.algebra.specs.Algebra.{Algebra, Laws}
+use Rattle.hill.specs.Hill.{Hill, hill, empty, hillOf}
+use Rattle.hill.specs.Map.{mapUp, mapDown, mapHill, map-hillOf}
+use Rattle.hill.specs.Log.{Record, opening, closing, depth, startLevel, endOf, peakOf, joints, items}
+use Rattle.hill.specs.Summary.{rise, fall}
+use Rattle.hill.specs.Tree.{Forest, nil, tree, write, free, value, value-hom}
+use Rattle.hill.specs.Spell.{left, right, spell, peakFrom, spell-run}
+use Rattle.hill.specs.Verdict.{pass}
+use Rattle.hill.specs.Finish.{joints-meet, end-from}
+use Rattle.hill.specs.Figure.{when}
+
+module _ {R : Type 0} where
+  -- A close at depth d is among the records.
+  abbrev pub closedIn : ℕ → List (Record R) → Bool
+  closedIn d [] = false
+  closedIn d (opening c r ∷ xs) = closedIn d xs
+  closedIn d (closing c ∷ xs) = eqb c d || closedIn d xs
+
+module _ {R : Type 0} (𝒜 : Algebra R) where
+  open Algebra 𝒜 using (Fig, ι, _⊗_, node)
+
+  infixl 70 _⊗_
+  -- The figures, combined, of the records of depth d that are opened and closed here, before the first close at depth d - 1 if there is one.
+  abbrev pub done : ℕ → List (Record R) → Fig
+  done d [] = ι
+  done d (opening c r ∷ xs) = when (eqb c d && closedIn d xs) (node r (done (suc d) xs) ⊗ done d xs) (done d xs)
+  done d (closing c ∷ xs) = when (eqb (suc c) d) ι (done d xs)
+
+  -- The record of depth c that is opened here and not closed, with its held figures so far; none, or one.
+  abbrev pub pending : ℕ → List (Record R) → List (R × Fig)
+  pending c [] = []
+  pending c (opening d r ∷ xs) = when (eqb d c && not (closedIn c xs)) ((r, done (suc c) xs) ∷ []) (pending c xs)
+  pending c (closing d ∷ xs) = pending c xs
+
+  -- The left values from level p + 1 to p + n, and the unclosed records of depth p + n - 1 down to p.
+  abbrev pub lefts : ℕ → ℕ → List (Record R) → List Fig
+  lefts p zero xs = []
+  lefts p (suc n) xs = done (suc p) xs ∷ lefts (suc p) n xs
+
+  abbrev pub rights : ℕ → ℕ → List (Record R) → List (R × Fig)
+  rights p zero xs = []
+  rights p (suc n) xs = pending (p + n) xs ++ rights p n xs
+
+  -- The hill of a chunk that goes from level p + m down to p and up to p + n.
+  abbrev pub literalHill : ℕ → ℕ → ℕ → List (Record R) → Hill Fig R
+  literalHill p m n xs = hill (lefts p m xs) (done p xs) (rights p n xs)
+
+and-false : (b : Bool) → b && false ≡ false
+and-false true = refl
+and-false false = refl
+
+module _ {R : Type 0} where
+  closedIn-append : (d : ℕ) (xs ys : List (Record R)) → closedIn d (xs ++ ys) ≡ closedIn d xs || closedIn d ys
+  closedIn-append d [] ys = refl
+  closedIn-append d (opening c r ∷ xs) ys = closedIn-append d xs ys
+  closedIn-append d (closing c ∷ xs) ys = go (eqb c d) (closedIn-append d xs ys)
+    where
+      go : (b : Bool) → closedIn d (xs ++ ys) ≡ closedIn d xs || closedIn d ys → b || closedIn d (xs ++ ys) ≡ b || closedIn d xs || closedIn d ys
+      go true e = refl
+      go false e = e
+
+  closedIn-deeper : (d e : ℕ) (f : Forest R) (ys : List (Record R)) → d < e → closedIn d (write e f ++ ys) ≡ closedIn d ys
+  closedIn-deeper d e nil ys l = refl
+  closedIn-deeper d e (tree r k f) ys l =
+      rw (append-assoc (write (suc e) k) (closing e ∷ write e f) ys, closedIn-deeper d (suc e) k (closing e ∷ (write e f ++ ys)) (omega arith), ne-eqb e d (omega arith))
+      (closedIn-deeper d e f ys l)
+
+  closedIn-here : (d : ℕ) (xs ys : List (Record R)) → closedIn d (xs ++ (closing d ∷ ys)) ≡ true
+  closedIn-here d [] ys = rw (eq-eqb d d refl)
+  closedIn-here d (opening c r ∷ xs) ys = closedIn-here d xs ys
+  closedIn-here d (closing c ∷ xs) ys = go (eqb c d) (closedIn-here d xs ys)
+    where
+      go : (b : Bool) → closedIn d (xs ++ (closing d ∷ ys)) ≡ true → b || closedIn d (xs ++ (closing d ∷ ys)) ≡ true
+      go true e = refl
+      go false e = e
+
+  -- The open at depth e of a tree is closed after it.
+  open-closed : (c e : ℕ) (xs ys : List (Record R)) → eqb e c && not (closedIn c (xs ++ (closing e ∷ ys))) ≡ false
+  open-closed c e xs ys = go (eqb e c) refl
+    where
+      go : (b : Bool) → eqb e c ≡ b → b && not (closedIn c (xs ++ (closing e ∷ ys))) ≡ false
+      go true p = rw (eqb-true e c p, closedIn-here c xs ys)
+      go false p = refl
+
+module _ {R : Type 0} (𝒜 : Algebra R) where
+  open Algebra 𝒜 using (Fig, ι, _⊗_, node)
+
+  infixl 70 _⊗_
+  done-deeper : (d e : ℕ) (f : Forest R) (ys : List (Record R)) → d < e → done 𝒜 d (write e f ++ ys) ≡ done 𝒜 d ys
+  done-deeper d e nil ys l = refl
+  done-deeper d e (tree r k f) ys l =
+      rw (ne-eqb e d (omega arith), append-assoc (write (suc e) k) (closing e ∷ write e f) ys, done-deeper d (suc e) k (closing e ∷ (write e f ++ ys)) (omega arith), ne-eqb (suc e) d (omega arith))
+      (done-deeper d e f ys l)
+
+  -- A record that is closed is not pending.
+  pending-write : (c e : ℕ) (f : Forest R) (ys : List (Record R)) → pending 𝒜 c (write e f ++ ys) ≡ pending 𝒜 c ys
+  pending-write c e nil ys = refl
+  pending-write c e (tree r k f) ys =
+      rw (append-assoc (write (suc e) k) (closing e ∷ write e f) ys, open-closed c e (write (suc e) k) (write e f ++ ys), pending-write c (suc e) k (closing e ∷ (write e f ++ ys)))
+      (pending-write c e f ys)
+
+  -- Over the left slope: no record of its peak's depth or a lower one is opened, and each that it opens is closed.
+  done-left : (l p : ℕ) (u : List (Forest R)) (ys : List (Record R)) → l ≤ p → done 𝒜 l (left p u ++ ys) ≡ done 𝒜 l ys
+  done-left l p [] ys h = refl
+  done-left l p (f ∷ u) ys h =
+      rw (
+        append-assoc (left (suc p) u) (write (suc p) f ++ (closing p ∷ [])) ys,
+        append-assoc (write (suc p) f) (closing p ∷ []) ys,
+        done-left l (suc p) u (write (suc p) f ++ (closing p ∷ ys)) (omega arith),
+        done-deeper l (suc p) f (closing p ∷ ys) (omega arith),
+        ne-eqb (suc p) l (omega arith),
+      )
+
+  pending-left : (c p : ℕ) (u : List (Forest R)) (ys : List (Record R)) → pending 𝒜 c (left p u ++ ys) ≡ pending 𝒜 c ys
+  pending-left c p [] ys = refl
+  pending-left c p (f ∷ u) ys =
+      rw (append-assoc (left (suc p) u) (write (suc p) f ++ (closing p ∷ [])) ys, append-assoc (write (suc p) f) (closing p ∷ []) ys, pending-left c (suc p) u (write (suc p) f ++ (closing p ∷ ys)), pending-write c (suc p) f (closing p ∷ ys))
+
+  -- Records at level t that close nothing below and open nothing that they close: what follows on a right slope.
+  abbrev Quiet : ℕ → List (Record R) → Type 0
+  Quiet t ys = ((c : ℕ) → c < t → closedIn c ys ≡ false) × ((l : ℕ) → l ≤ t → done 𝒜 l ys ≡ ι)
+
+  quiet-open : (t : ℕ) (r : R) (h : Forest R) (ys : List (Record R)) → Quiet (suc t) ys → Quiet t (opening t r ∷ (write (suc t) h ++ ys))
+  quiet-open t r h ys q = (
+    λ c l. closedIn-deeper c (suc t) h ys (omega arith) ∙ q .0 c (omega arith),
+    λ l g. rw (closedIn-deeper l (suc t) h ys (omega arith), q .0 l (omega arith), and-false (eqb t l), done-deeper l (suc t) h ys (omega arith)) (q .1 l (omega arith)),
+  )
+
+  pending-right : (c p : ℕ) (d : List (R × Forest R)) (ys : List (Record R)) → p + length d ≤ c → pending 𝒜 c (right p d ++ ys) ≡ pending 𝒜 c ys
+  pending-right c p [] ys l = refl
+  pending-right c p (e ∷ d) ys l =
+      rw (
+        append-assoc (right p d) (opening (p + length d) (e .0) ∷ write (suc (p + length d)) (e .1)) ys,
+        pending-right c p d (opening (p + length d) (e .0) ∷ (write (suc (p + length d)) (e .1) ++ ys)) (omega arith),
+        ne-eqb (p + length d) c (omega arith),
+        pending-write c (suc (p + length d)) (e .1) ys,
+      )
+
+  rights-left : (p n q : ℕ) (u : List (Forest R)) (ys : List (Record R)) → rights 𝒜 p n (left q u ++ ys) ≡ rights 𝒜 p n ys
+  rights-left p zero q u ys = refl
+  rights-left p (suc n) q u ys = rw (pending-left (p + n) q u ys, rights-left p n q u ys)
+
+  rights-write : (p n e : ℕ) (f : Forest R) (ys : List (Record R)) → rights 𝒜 p n (write e f ++ ys) ≡ rights 𝒜 p n ys
+  rights-write p zero e f ys = refl
+  rights-write p (suc n) e f ys = rw (pending-write (p + n) e f ys, rights-write p n e f ys)
+
+  module _ (ℒ : Laws 𝒜) where
+    open Laws ℒ using (assoc, unit-l, unit-r)
+
+    done-write : (d : ℕ) (f : Forest R) (ys : List (Record R)) → done 𝒜 d (write d f ++ ys) ≡ value 𝒜 f ⊗ done 𝒜 d ys
+    done-write d nil ys = sym (unit-l (done 𝒜 d ys))
+    done-write d (tree r k f) ys =
+        rw (
+          eq-eqb d d refl,
+          append-assoc (write (suc d) k) (closing d ∷ write d f) ys,
+          closedIn-here d (write (suc d) k) (write d f ++ ys),
+          done-deeper d (suc d) k (closing d ∷ (write d f ++ ys)) (omega arith),
+          ne-eqb (suc d) d (omega arith),
+        )
+        (rw (done-write (suc d) k (closing d ∷ (write d f ++ ys)), eq-eqb (suc d) (suc d) refl, unit-r (value 𝒜 k), done-write d f ys) (sym (assoc (node r (value 𝒜 k)) (value 𝒜 f) (done 𝒜 d ys))))
+
+    lefts-left : (p : ℕ) (u : List (Forest R)) (ys : List (Record R)) → lefts 𝒜 p (length u) (left p u ++ ys) ≡ mapUp (value 𝒜) u
+    lefts-left p [] ys = refl
+    lefts-left p (f ∷ u) ys =
+        rw (
+          append-assoc (left (suc p) u) (write (suc p) f ++ (closing p ∷ [])) ys,
+          append-assoc (write (suc p) f) (closing p ∷ []) ys,
+          done-left (suc p) (suc p) u (write (suc p) f ++ (closing p ∷ ys)) (omega arith),
+          done-write (suc p) f (closing p ∷ ys),
+          eq-eqb (suc p) (suc p) refl,
+          unit-r (value 𝒜 f),
+          lefts-left (suc p) u (write (suc p) f ++ (closing p ∷ ys)),
+        )
+
+    rights-right : (p : ℕ) (d : List (R × Forest R)) (ys : List (Record R)) → Quiet (p + length d) ys → rights 𝒜 p (length d) (right p d ++ ys) ≡ mapDown (value 𝒜) d
+    rights-right p [] ys q = refl
+    rights-right p (e ∷ d) ys q =
+        let t : ℕ = p + length d in
+        let k : Quiet (suc t) ys = rw add-suc at q in
+        rw (
+          append-assoc (right p d) (opening t (e .0) ∷ write (suc t) (e .1)) ys,
+          pending-right t p d (opening t (e .0) ∷ (write (suc t) (e .1) ++ ys)) (omega arith),
+          eq-eqb t t refl,
+          closedIn-deeper t (suc t) (e .1) ys (omega arith),
+          k .0 t (omega arith),
+          done-write (suc t) (e .1) ys,
+          k .1 (suc t) (omega arith),
+          unit-r (value 𝒜 (e .1)),
+          rights-right p d (opening t (e .0) ∷ (write (suc t) (e .1) ++ ys)) (quiet-open t (e .0) (e .1) ys k),
+        )
+
+    quiet-right : (p : ℕ) (d : List (R × Forest R)) (ys : List (Record R)) → Quiet (p + length d) ys → Quiet p (right p d ++ ys)
+    quiet-right p [] ys q = rw add-zero at q
+    quiet-right p (e ∷ d) ys q =
+        let t : ℕ = p + length d in
+        rw (append-assoc (right p d) (opening t (e .0) ∷ write (suc t) (e .1)) ys)
+        (quiet-right p d (opening t (e .0) ∷ (write (suc t) (e .1) ++ ys)) (quiet-open t (e .0) (e .1) ys (rw add-suc at q)))
+
+    literal-spell : (p : ℕ) (a : Hill (Forest R) R) → literalHill 𝒜 p (rise a) (fall a) (spell p a) ≡ mapHill (value 𝒜) a
+    literal-spell p (hill u m d) =
+        let q : Quiet (p + length d) [] = (λ c l. refl, λ l g. refl) in
+        let none : done 𝒜 p (right p d) ≡ ι = rw (append-nil (right p d)) at (quiet-right p d [] q .1 p (omega arith)) in
+        let some : rights 𝒜 p (length d) (right p d) ≡ mapDown (value 𝒜) d = rw (append-nil (right p d)) at (rights-right p d [] q) in
+        rw (
+          lefts-left p u (write p m ++ right p d),
+          done-left p p u (write p m ++ right p d) (omega arith),
+          done-write p m (right p d),
+          none,
+          unit-r (value 𝒜 m),
+          rights-left p (length d) p u (write p m ++ right p d),
+          rights-write p (length d) p m (right p d),
+          some,
+        )
+
+module _ {R : Type 0} where
+  peak-from : (p : ℕ) (x : Record R) (xs : List (Record R)) → peakFrom p (x ∷ xs) ≡ min p (peakOf x xs)
+  peak-from p x [] = refl
+  peak-from p x (y ∷ ys) = peak-from (min p (depth x)) y ys ∙ omega arith
+
+  depth-start : (x : Record R) → depth x ≤ startLevel x
+  depth-start (opening d r) = omega arith
+  depth-start (closing d) = omega arith
+
+  peak-depth : (x : Record R) (xs : List (Record R)) → peakOf x xs ≤ depth x
+  peak-depth x [] = omega arith
+  peak-depth x (y ∷ ys) = omega arith
+
+  -- A chunk whose records meet is spelt by its hill in the algebra of forests, over the lowest level it reaches, between its start and its end level.
+  pub chunk-spelt : (x : Record R) (xs : List (Record R)) → joints x xs ≡ pass →
+      (spell (peakOf x xs) (hillOf (free R) (items (x ∷ xs))) ≡ x ∷ xs) ×
+      (peakOf x xs + rise (hillOf (free R) (items (x ∷ xs))) ≡ startLevel x) ×
+      (peakOf x xs + fall (hillOf (free R) (items (x ∷ xs))) ≡ endOf x xs)
+  chunk-spelt x xs v =
+      let t = spell-run (startLevel x) (empty (free R)) (x ∷ xs) (add-zero (startLevel x), joints-meet x xs v) in
+      let k : peakOf x xs ≡ peakFrom (startLevel x) (x ∷ xs) = sym (peak-from (startLevel x) x xs ∙ omega (arith, depth-start x, peak-depth x xs)) in
+      let h : Hill (Forest R) R = hillOf (free R) (items (x ∷ xs)) in
+      (ap (λ (p : ℕ). spell p h) k ∙ t .0, ap (λ (p : ℕ). p + rise h) k ∙ t .1 ∙ add-zero (startLevel x), ap (λ (p : ℕ). p + fall h) k ∙ t .2 ∙ end-from x xs)
+
+module _ {R : Type 0} (𝒜 : Algebra R) (ℒ : Laws 𝒜) where
+  -- The hill of a chunk has just the values that document 01 says.
+  pub hillOf-literal : (x : Record R) (xs : List (Record R)) → joints x xs ≡ pass →
+      hillOf 𝒜 (items (x ∷ xs)) ≡ literalHill 𝒜 (peakOf x xs) (startLevel x - peakOf x xs) (endOf x xs - peakOf x xs) (x ∷ xs)
+  hillOf-literal x xs v =
+      let h : Hill (Forest R) R = hillOf (free R) (items (x ∷ xs)) in
+      let t = chunk-spelt x xs v in
+      let i : rise h ≡ startLevel x - peakOf x xs = omega (arith, t .1) in
+      let j : fall h ≡ endOf x xs - peakOf x xs = omega (arith, t .2) in
+      sym (map-hillOf (free R) 𝒜 (value-hom 𝒜 ℒ) (items (x ∷ xs))) ∙ sym (literal-spell 𝒜 ℒ (peakOf x xs) h) ∙ rw (t .0, i, j)

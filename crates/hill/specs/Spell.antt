@@ -1,0 +1,98 @@
+-- In the algebra of forests the hill of a chunk spells the chunk. So a log from level 0 to level 0 is the traversal of just one forest. Assumes nothing.
+use mathlib.Core.Path.{_≡_, refl, ap, sym, _∙_}
+use mathlib.Core.List.{List, [], _∷_, _++_, append-assoc, append-nil}
+use Prim.Native.Nat.{ℕ, suc, _+_, _≤_, min}
+use native.Mathlib.Nat.{add-zero, add-suc}
+use native.Mathlib.Omega.{arith}
+use lib.ListN.{length}
+use Rattle.hill.specs.Hill.{Item, Hill, hill, push, empty, join, close, step, run, hillOf}
+use Rattle.hill.specs.Log.{Record, opening, closing, depth, startLevel, endLevel, itemOf, items, endOf}
+use Rattle.hill.specs.Summary.{rise, fall, middle, fall-join, rise-join}
+use Rattle.hill.specs.Tree.{Forest, nil, tree, beside, write, write-beside, free, free-laws, hillOf-write, value-free}
+
+module _ {R : Type 0} where
+  -- The records of the left slope over peak p, and of the right slope.
+  abbrev pub left : ℕ → List (Forest R) → List (Record R)
+  left p [] = []
+  left p (f ∷ u) = left (suc p) u ++ (write (suc p) f ++ (closing p ∷ []))
+
+  abbrev pub right : ℕ → List (R × Forest R) → List (Record R)
+  right p [] = []
+  right p (e ∷ d) = right p d ++ (opening (p + length d) (e .0) ∷ write (suc (p + length d)) (e .1))
+
+  abbrev pub spell : ℕ → Hill (Forest R) R → List (Record R)
+  spell p (hill u m d) = left p u ++ (write p m ++ right p d)
+
+  spell-join : (p : ℕ) (w : Forest R) (a : Hill (Forest R) R) → spell p (join (free R) w a) ≡ spell p a ++ write (p + fall a) w
+  spell-join p w (hill u m []) = simp (write-beside, append-nil, append-assoc, add-zero)
+  spell-join p w (hill u m (e ∷ d)) = simp (write-beside, append-assoc, add-suc)
+
+  -- One record more.
+  spell-step : (p : ℕ) (a : Hill (Forest R) R) (x : Record R) → p + fall a ≡ startLevel x → spell (min p (depth x)) (step (free R) a (itemOf x)) ≡ spell p a ++ (x ∷ [])
+  spell-step p (hill u m d) (opening c r) l =
+      let q : min p c ≡ p = omega arith in
+      let k : c ≡ p + length d = omega arith in
+      rw (q, k) (simp append-assoc)
+  spell-step p (hill u m []) (closing c) l =
+      let q : min p c ≡ c = omega arith in
+      let k : p ≡ suc c = omega arith in
+      rw (q, k) (simp (append-assoc, append-nil))
+  spell-step p (hill u m (e ∷ d)) (closing c) l =
+      let q : min p c ≡ p = omega arith in
+      let k : c ≡ p + length d = omega arith in
+      rw (q, k) (spell-join p (tree (e .0) (e .1) nil) (hill u m d) ∙ simp append-assoc)
+
+  rise-step : (p : ℕ) (a : Hill (Forest R) R) (x : Record R) → p + fall a ≡ startLevel x → min p (depth x) + rise (step (free R) a (itemOf x)) ≡ p + rise a
+  rise-step p (hill u m d) (opening c r) l = omega arith
+  rise-step p (hill u m []) (closing c) l = omega arith
+  rise-step p (hill u m (e ∷ d)) (closing c) l = rw (rise-join (free R) (tree (e .0) (e .1) nil) (hill u m d)) (omega arith)
+
+  fall-step : (p : ℕ) (a : Hill (Forest R) R) (x : Record R) → p + fall a ≡ startLevel x → min p (depth x) + fall (step (free R) a (itemOf x)) ≡ endLevel x
+  fall-step p (hill u m d) (opening c r) l = omega arith
+  fall-step p (hill u m []) (closing c) l = omega arith
+  fall-step p (hill u m (e ∷ d)) (closing c) l = rw (fall-join (free R) (tree (e .0) (e .1) nil) (hill u m d)) (omega arith)
+
+  -- Records that meet, from level l on; where they end, and the lowest level if they start over peak p.
+  abbrev pub Meets : ℕ → List (Record R) → Type 0
+  Meets l [] = Unit {0}
+  Meets l (x ∷ xs) = (l ≡ startLevel x) × Meets (endLevel x) xs
+
+  abbrev pub endFrom : ℕ → List (Record R) → ℕ
+  endFrom l [] = l
+  endFrom l (x ∷ xs) = endFrom (endLevel x) xs
+
+  abbrev pub peakFrom : ℕ → List (Record R) → ℕ
+  peakFrom p [] = p
+  peakFrom p (x ∷ xs) = peakFrom (min p (depth x)) xs
+
+  -- A hill grows by just the records that it is run on.
+  pub spell-run : (p : ℕ) (a : Hill (Forest R) R) (xs : List (Record R)) → Meets (p + fall a) xs →
+      (spell (peakFrom p xs) (run (free R) a (items xs)) ≡ spell p a ++ xs) ×
+      (peakFrom p xs + rise (run (free R) a (items xs)) ≡ p + rise a) ×
+      (peakFrom p xs + fall (run (free R) a (items xs)) ≡ endFrom (p + fall a) xs)
+  spell-run p a [] k = (sym (append-nil (spell p a)), refl, refl)
+  spell-run p a (x ∷ xs) k =
+      let ih = spell-run (min p (depth x)) (step (free R) a (itemOf x)) xs (rw (fall-step p a x (k .0)) (k .1)) in
+      (ih .0 ∙ rw (spell-step p a x (k .0)) (append-assoc (spell p a) (x ∷ []) xs), ih .1 ∙ rise-step p a x (k .0), ih .2 ∙ rw (fall-step p a x (k .0)))
+
+  -- The forest of a log.
+  abbrev pub treeOf : List (Record R) → Forest R
+  treeOf log = middle (hillOf (free R) (items log))
+
+  -- A hill with no slopes, over level 0.
+  flat : (p : ℕ) (a : Hill (Forest R) R) (log : List (Record R)) → spell p a ≡ log → p + rise a ≡ 0 → p + fall a ≡ 0 → write 0 (middle a) ≡ log
+  flat p (hill [] m []) log s j k =
+      let q : p ≡ 0 = omega arith in
+      sym (append-nil (write 0 m)) ∙ (rw q at s)
+  flat p (hill [] m (e ∷ d)) log s j k = absurd (omega arith)
+  flat p (hill (f ∷ u) m d) log s j k = absurd (omega arith)
+
+  -- A log whose records meet and that goes from level 0 to level 0 is the traversal of its forest ..
+  pub write-treeOf : (log : List (Record R)) → Meets 0 log → endFrom 0 log ≡ 0 → write 0 (treeOf log) ≡ log
+  write-treeOf log k e =
+      let t = spell-run 0 (empty (free R)) log k in
+      flat (peakFrom 0 log) (hillOf (free R) (items log)) log (t .0) (t .1) (t .2 ∙ e)
+
+  -- .. and of no other.
+  pub treeOf-write : (d : ℕ) (f : Forest R) → treeOf (write d f) ≡ f
+  treeOf-write d f = rw (hillOf-write (free R) (free-laws R) d f) (value-free f)

@@ -1,0 +1,11 @@
+pub mod Row
+pub mod PlanHolds
+pub mod PlanBound
+pub mod Log
+pub mod LogJoins
+pub mod RowLevels
+pub mod LogPlan
+pub mod Folded
+pub mod LogFolded
+pub mod PlanFacts
+pub mod LogEnds

@@ -1,0 +1,3 @@
+-- What the functions of `number` mean, and laws of these definitions.
+pub mod Bytes
+pub mod Laws

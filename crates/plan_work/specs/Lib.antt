@@ -1,0 +1,9 @@
+pub mod Base
+pub mod Levels
+pub mod Work
+pub mod Clauses
+pub mod Proof
+pub mod Hill
+pub mod Bridge
+pub mod Figure
+pub mod Pieces
