@@ -39,8 +39,13 @@ pub fn merge_row(row: &[Summary]) -> Summary {
     if row.len() == 1 {
         return row[0].clone();
     }
-    let (left, right) = row.split_at(row.len().div_ceil(2));
+    let (left, right) = row.split_at(left_half(row.len()));
     merge(&merge_row(left), &merge_row(right))
+}
+
+/// How many of a row make its left half: "the left half having the odd one".
+pub fn left_half(count: usize) -> usize {
+    count - count / 2
 }
 
 /// The lowest of the questions 7 to 11 that gets a "no" for the log that a row

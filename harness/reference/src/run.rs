@@ -51,7 +51,8 @@ pub fn figure_of_join(row: &[Summary], line: &Line, x: Held) -> i64 {
 }
 
 /// Further from 0 than any figure: at most 100,000 records are opened, of at most
-/// 10^9 grams each, so no figure is beyond ±10^14.
+/// 10^9 grams each, and question 5 holds stored values to the same sum, so that no
+/// figure is beyond ±10^14.
 const FAR: i64 = 1_000_000_000_000_000;
 
 /// The run of a line of the plan of a row.
@@ -124,7 +125,7 @@ pub fn put_through(run: &Run, x: Held) -> i64 {
     }
 }
 
-/// A run's mode and three numbers; A "is -2^63 where nothing".
+/// A run's mode and three numbers. Where A is nothing, it "is stored as -2^63".
 pub fn numbers(run: &Run) -> (Mode, [i64; 3]) {
     match *run {
         Run::Net { a } => (Mode::Net, [a, 0, 0]),
