@@ -22,3 +22,5 @@ pub mod SummaryLaws
 pub mod FinishLaws
 pub mod Valid
 pub mod RowLaws
+pub mod Places
+pub mod HeldPlaces
