@@ -1,3 +1,4 @@
+pub mod Plan
 pub mod Row
 pub mod PlanHolds
 pub mod PlanBound
@@ -9,3 +10,4 @@ pub mod Folded
 pub mod LogFolded
 pub mod PlanFacts
 pub mod LogEnds
+pub mod Examples
