@@ -4,12 +4,9 @@ use mathlib.Core.Path.{_≡_, refl, _∙_}
 use mathlib.Core.List.{List, [], _∷_, _++_}
 use native.Mathlib.Decide.{decLt}
 use native.Mathlib.Omega.{arith}
-use Rattle.join_plan.specs.Row.{Levels, blank, hill, Line, lineIf, lineOf, passed, walk, linesTo, plan, after, levelAt, Meets}
-
--- the number of levels folded along a plan
-unfoldable pub folded : List Line → ℕ
-folded [] = 0
-folded (l ∷ ls) = l .highest - l .lowest + 1 + folded ls
+use Rattle.join_plan.specs.Plan.{Levels, blank, hill, Line, folded}
+use Rattle.join_plan.specs.Scan.{lineIf, lineOf, passed, walk, linesTo, plan}
+use Rattle.join_plan.specs.Joins.{after, levelAt, Meets}
 
 folded-append : (a b : List Line) → folded (a ++ b) ≡ folded a + folded b
 unfolding folded

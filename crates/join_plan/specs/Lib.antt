@@ -1,6 +1,7 @@
 pub mod Plan
-pub mod Row
-pub mod PlanHolds
+pub mod Scan
+pub mod Joins
+pub mod ScanExact
 pub mod PlanBound
 pub mod Log
 pub mod LogJoins

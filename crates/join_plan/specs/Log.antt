@@ -4,7 +4,7 @@ use mathlib.Core.Path.{_≡_}
 use mathlib.Core.Logic.{_≢_, _⊎_}
 use mathlib.Core.List.{List, [], _∷_, _++_}
 use lib.ListN.{length, getD}
-use Rattle.join_plan.specs.Row.{Levels, blank, hill, Line}
+use Rattle.join_plan.specs.Plan.{Levels, blank, hill, Line}
 
 -- a record, as far as levels go: its kind and depth
 pub data Rec : Type 0 where

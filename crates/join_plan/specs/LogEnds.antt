@@ -6,8 +6,10 @@ use mathlib.Core.List.{List, [], _∷_, _++_, map, List·Memᴰ, List·Memᴰ·h
 use native.Mathlib.Decide.{decLt}
 use native.Mathlib.Omega.{arith}
 use lib.ListN.{length, length-append}
-use Rattle.join_plan.specs.Row.{Joins, Line, scanOf, rowOf, Before}
-use Rattle.join_plan.specs.PlanHolds.{scanOf-exact, scanOf-sorted, scanOf-some, line-unique}
+use Rattle.join_plan.specs.Plan.{Line, rowOf, Before}
+use Rattle.join_plan.specs.Scan.{scanOf}
+use Rattle.join_plan.specs.Joins.{Joins}
+use Rattle.join_plan.specs.ScanExact.{scanOf-exact, scanOf-sorted, scanOf-some, line-unique}
 use Rattle.join_plan.specs.PlanFacts.{last-line}
 use Rattle.join_plan.specs.Log.{Rec, opening, closing, depth, from, to, at, levelBefore, WellFormedLog, ClosedBy, whole, place, InChunk, levelsOf, Joined}
 use Rattle.join_plan.specs.LogJoins.{place-le, joins-exact}

@@ -6,9 +6,10 @@ use mathlib.Core.List.{List, map}
 use native.Mathlib.Decide.{decLt, decLe}
 use native.Mathlib.Omega.{arith}
 use lib.ListN.{length, length-map}
-use Rattle.join_plan.specs.Row.{Levels, blank, hill, scanOf}
+use Rattle.join_plan.specs.Plan.{Levels, blank, hill, folded}
+use Rattle.join_plan.specs.Scan.{scanOf}
 use Rattle.join_plan.specs.RowLevels.{opener}
-use Rattle.join_plan.specs.Folded.{folded, falls, fallsOf, plan-folded}
+use Rattle.join_plan.specs.Folded.{falls, fallsOf, plan-folded}
 use Rattle.join_plan.specs.Log.{Rec, closing, depth, from, at, levelBefore, WellFormedLog, ClosedBy, whole, place, InChunk, rowOfChunks, levelsOf, Crossing, Tally}
 use Rattle.join_plan.specs.LogJoins.{depth-least, Deep, Span, chunk-span, chunk-closes, joins-exact, closed-high, closed-deep, first-closes, place-inside, place-le}
 use Rattle.join_plan.specs.LogPlan.{place-all, level-place, row-meets, row-of}

@@ -8,7 +8,8 @@ use native.Mathlib.Omega.{arith}
 use native.Mathlib.Nat.{zero-add, add-assoc}
 use lib.ListN.{length, getD, length-append, List·getD-append}
 use lib.Seq.{getD-append-add}
-use Rattle.join_plan.specs.Row.{Levels, blank, hill, Opens, Closes, Above, LeftOpen, Joins}
+use Rattle.join_plan.specs.Plan.{Levels, blank, hill}
+use Rattle.join_plan.specs.Joins.{Opens, Closes, Above, LeftOpen, Joins}
 use Rattle.join_plan.specs.Log.{Rec, opening, closing, depth, from, to, at, levelBefore, WellFormedLog, ClosedBy, whole, place, before, levelsOf, rowOfChunks, Joined}
 
 -- a record that starts above level d, and does not close depth d, stays above it

@@ -5,8 +5,10 @@ use mathlib.Core.Logic.{_↔_}
 use mathlib.Core.List.{List, [], _∷_, map, List·Memᴰ}
 use native.Mathlib.Omega.{arith}
 use lib.ListN.{length, length-append, length-map, List·getD-map}
-use Rattle.join_plan.specs.Row.{Levels, blank, hill, Joins, Line, rowOf, scanOf, IsLine, Sorted, after, levelAt, Meets, WellFormed}
-use Rattle.join_plan.specs.PlanHolds.{scanOf-exact, scanOf-only}
+use Rattle.join_plan.specs.Plan.{Levels, blank, hill, Line, rowOf, Sorted}
+use Rattle.join_plan.specs.Scan.{scanOf}
+use Rattle.join_plan.specs.Joins.{Joins, IsLine, after, levelAt, Meets, WellFormed}
+use Rattle.join_plan.specs.ScanExact.{scanOf-exact, scanOf-only}
 use Rattle.join_plan.specs.PlanBound.{scanOf-bound}
 use Rattle.join_plan.specs.RowLevels.{joins-convex}
 use Rattle.join_plan.specs.Log.{Rec, from, at, levelBefore, WellFormedLog, whole, place, levelsOf, rowOfChunks, Joined, PlanLine}

@@ -6,7 +6,9 @@ use mathlib.Core.List.{List}
 use native.Mathlib.Decide.{decLt, decLe}
 use native.Mathlib.Omega.{arith}
 use lib.ListN.{length, length-append}
-use Rattle.join_plan.specs.Row.{Levels, blank, hill, lineIf, lineOf, passed, walk, linesTo, plan, rowOf, scanOf, levelAt, after, WellFormed, Meets}
+use Rattle.join_plan.specs.Plan.{Levels, blank, hill, rowOf}
+use Rattle.join_plan.specs.Scan.{lineIf, lineOf, passed, walk, linesTo, plan, scanOf}
+use Rattle.join_plan.specs.Joins.{levelAt, after, WellFormed, Meets}
 
 -- the number of lines of a chunk, 0 or 1, written so that `omega` reads it
 size : (c : Levels) (p m : ℕ) → ℕ

@@ -5,8 +5,10 @@ use mathlib.Core.Logic.{_⊎_, ⊎-elim, dite}
 use mathlib.Core.List.{List, [], _∷_, _++_, List·Memᴰ, List·Memᴰ·head, List·Memᴰ·tail, List·Memᴰ·not-nil, List·Memᴰ·cases-cons}
 use native.Mathlib.Decide.{decLt}
 use native.Mathlib.Omega.{arith}
-use Rattle.join_plan.specs.Row.{Levels, blank, hill, Opens, Closes, Above, LeftOpen, Joins, Line, lineIf, lineOf, passed, walk, plan, Before, Sorted}
-use Rattle.join_plan.specs.PlanHolds.{before-asym}
+use Rattle.join_plan.specs.Plan.{Levels, blank, hill, Line, Before, Sorted}
+use Rattle.join_plan.specs.Scan.{lineIf, lineOf, passed, walk, plan}
+use Rattle.join_plan.specs.Joins.{Opens, Closes, Above, LeftOpen, Joins}
+use Rattle.join_plan.specs.ScanExact.{before-asym}
 
 -- a chunk that opens or closes depth d is not above it
 opens-not-above : (c : Levels) (d : ℕ) → Opens c d → Above c d → ⊥

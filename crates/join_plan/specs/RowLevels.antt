@@ -4,8 +4,9 @@ use mathlib.Core.Path.{_≡_, refl}
 use mathlib.Core.Logic.{dite}
 use native.Mathlib.Decide.{decLe, le-ind}
 use native.Mathlib.Omega.{arith}
-use Rattle.join_plan.specs.PlanHolds.{open-here, open-earlier}
-use Rattle.join_plan.specs.Row.{Levels, blank, hill, Opens, Closes, Above, LeftOpen, Joins, after, levelAt, Meets}
+use Rattle.join_plan.specs.ScanExact.{open-here, open-earlier}
+use Rattle.join_plan.specs.Plan.{Levels, blank, hill}
+use Rattle.join_plan.specs.Joins.{Opens, Closes, Above, LeftOpen, Joins, after, levelAt, Meets}
 
 -- the depths that a chunk opens, closes or passes are an interval
 opens-convex : (c : Levels) (a b d : ℕ) → Opens c a → Opens c b → a ≤ d → d ≤ b → Opens c d

@@ -7,7 +7,9 @@ use mathlib.Core.List.{List·Memᴰ·append-cases, List·Memᴰ·eq-of-singleton
 use native.Mathlib.Decide.{decLt}
 use native.Mathlib.Omega.{arith}
 use lib.ListN.{length, List·getD-eq-default}
-use Rattle.join_plan.specs.Row.{Levels, blank, hill, Opens, Closes, Above, LeftOpen, Joins, Line, lineIf, lineOf, passed, walk, linesTo, plan, rowOf, scanOf, For, IsLine, Before, Sorted}
+use Rattle.join_plan.specs.Plan.{Levels, blank, hill, Line, rowOf, Before, Sorted}
+use Rattle.join_plan.specs.Scan.{lineIf, lineOf, passed, walk, linesTo, plan, scanOf}
+use Rattle.join_plan.specs.Joins.{Opens, Closes, Above, LeftOpen, Joins, For, IsLine}
 
 for-iff : (D E : ℕ → Type 0) (l : Line) → ((d : ℕ) → D d ↔ E d) → For D l → For E l
 for-iff D E l e f = record { some = f .some; depths = λ d. (λ x. f .depths d .0 (e d .1 x), λ x. e d .0 (f .depths d .1 x)) }
