@@ -2,6 +2,8 @@ pub mod Plan
 pub mod Scan
 pub mod Joins
 pub mod ScanExact
+pub mod PlanFacts
+pub mod PlanExact
 pub mod PlanBound
 pub mod Log
 pub mod LogJoins
@@ -9,6 +11,5 @@ pub mod RowLevels
 pub mod LogPlan
 pub mod Folded
 pub mod LogFolded
-pub mod PlanFacts
 pub mod LogEnds
 pub mod Examples

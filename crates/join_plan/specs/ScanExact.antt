@@ -15,7 +15,7 @@ for-iff : (D E : ℕ → Type 0) (l : Line) → ((d : ℕ) → D d ↔ E d) → 
 for-iff D E l e f = record { some = f .some; depths = λ d. (λ x. f .depths d .0 (e d .1 x), λ x. e d .0 (f .depths d .1 x)) }
 
 -- the depths from p to below m
-abbrev Within : (p m d : ℕ) → Type 0
+abbrev pub Within : (p m d : ℕ) → Type 0
 Within p m d = (p ≤ d) × (d < m)
 
 lineOf-sound : (c : Levels) (i j p m : ℕ) (l : Line) → List·Memᴰ l (lineOf c i j p m) → (l .i ≡ i) × (l .j ≡ j) × For (λ d. Opens c d × Within p m d) l
@@ -40,7 +40,7 @@ lineOf-complete (hill s q e) i j p m d o w = go (decLt (max q p) (min e m))
     go (yes y) = (_, List·Memᴰ·head refl)
 
 -- below the bound once c is passed: below the bound, and c closes no record so deep
-passed-iff : (c : Levels) (m d : ℕ) → (d < passed c m) ↔ ((d < m) × Above c d)
+pub passed-iff : (c : Levels) (m d : ℕ) → (d < passed c m) ↔ ((d < m) × Above c d)
 unfolding passed
 passed-iff blank m d = (λ h. (h, tt), λ h. h .0)
 passed-iff (hill s p e) m d = (λ h. omega arith, λ h. omega arith)

@@ -1,0 +1,190 @@
+-- The plan is what the scan gives, so it has a line for each join and no other, in order. Assumes nothing.
+use Prim.Native.Nat.{ℕ, zero, suc, _-_, _≤_, _<_, min, max}
+use mathlib.Core.Path.{_≡_, refl, sym, ap, _∙_, subst}
+use mathlib.Core.Logic.{_↔_, dite}
+use mathlib.Core.Bool.{Bool, true, false, not, _&&_, cond, and-eq-true-iff, false≢true}
+use mathlib.Core.List.{List, [], _∷_, _++_, append-assoc, append-nil, List·Memᴰ, flatMap}
+use native.Mathlib.Decide.{decLt}
+use native.Mathlib.Omega.{arith}
+use lib.ListN.{length, take, drop}
+use lib.Dec.{leb, ltb}
+use borrow.Author.Tests.{leb-true, le-leb, ltb-true, lt-ltb}
+use Rattle.join_plan.specs.Plan.{Levels, blank, hill, Line, leavesOpen, closesEarlier, belowPeaks, rowOf, chunksBetween, joinedAt, upTo, downFrom, select, endLevel, depthsJoined, lastOf, lineFor, planOf, Sorted}
+use Rattle.join_plan.specs.Scan.{lineIf, lineOf, passed, walk, linesTo, plan, scanOf}
+use Rattle.join_plan.specs.Joins.{Opens, Closes, Above, LeftOpen, Joins, IsLine}
+use Rattle.join_plan.specs.ScanExact.{Within, passed-iff, scanOf-exact, scanOf-some, scanOf-sorted, scanOf-only}
+use Rattle.join_plan.specs.PlanFacts.{walk-stop}
+
+-- what the tests say
+interval : (a d b : ℕ) → (leb a d && ltb d b ≡ true) ↔ ((a ≤ d) × (d < b))
+interval a d b = let i = and-eq-true-iff (leb a d) (ltb d b) in (λ h. (leb-true a d (i .0 h .0), ltb-true d b (i .0 h .1)), λ h. i .1 (le-leb a d (h .0), lt-ltb d b (h .1)))
+
+opens-iff : (c : Levels) (d : ℕ) → (leavesOpen c d ≡ true) ↔ Opens c d
+opens-iff blank d = (λ h. absurd (false≢true h), λ h. absurd h)
+opens-iff (hill s p e) d = interval p d e
+
+closes-iff : (c : Levels) (d : ℕ) → (closesEarlier c d ≡ true) ↔ Closes c d
+closes-iff blank d = (λ h. absurd (false≢true h), λ h. absurd h)
+closes-iff (hill s p e) d = interval p d s
+
+below-cons : (c : Levels) (cs : List Levels) (d : ℕ) → (belowPeaks (c ∷ cs) d ≡ true) ↔ (Above c d × (belowPeaks cs d ≡ true))
+below-cons blank cs d = (λ h. (tt, h), λ h. h .1)
+below-cons (hill s p e) cs d = let i = and-eq-true-iff (ltb d p) (belowPeaks cs d) in (λ h. (ltb-true d p (i .0 h .0), i .0 h .1), λ h. i .1 (lt-ltb d p (h .0), h .1))
+
+below-take : (row : List Levels) (n d : ℕ) → (belowPeaks (take n row) d ≡ true) ↔ ((k : ℕ) → k < n → Above (rowOf row k) d)
+below-take row zero d = (λ h k b. absurd (omega arith), λ h. refl)
+below-take [] (suc n) d = (λ h k b. tt, λ h. refl)
+below-take (c ∷ row) (suc n) d = (λ h. there (below-cons c (take n row) d .0 h) (below-take row n d .0), λ h. below-cons c (take n row) d .1 (h 0 (omega arith), below-take row n d .1 (λ k b. h (suc k) (omega arith))))
+  where
+    there : Above c d × (belowPeaks (take n row) d ≡ true) → (belowPeaks (take n row) d ≡ true → (k : ℕ) → k < n → Above (rowOf row k) d) → (k : ℕ) → k < suc n → Above (rowOf (c ∷ row) k) d
+    there x ih zero b = x .0
+    there x ih (suc k) b = ih (x .1) k (omega arith)
+
+below-between : (row : List Levels) (i j d : ℕ) → (belowPeaks (chunksBetween row i j) d ≡ true) ↔ ((k : ℕ) → i < k → k < j → Above (rowOf row k) d)
+below-between row i zero d = (λ h k a b. absurd (omega arith), λ h. refl)
+below-between [] i (suc j) d = (λ h k a b. tt, λ h. refl)
+below-between (c ∷ row) zero (suc j) d = (λ h. there (below-take row j d .0 h), λ h. below-take row j d .1 (λ k b. h (suc k) (omega arith) (omega arith)))
+  where
+    there : ((k : ℕ) → k < j → Above (rowOf row k) d) → (k : ℕ) → 0 < k → k < suc j → Above (rowOf (c ∷ row) k) d
+    there f zero a b = absurd (omega arith)
+    there f (suc k) a b = f k (omega arith)
+below-between (c ∷ row) (suc i) (suc j) d = (λ h. there (below-between row i j d .0 h), λ h. below-between row i j d .1 (λ k a b. h (suc k) (omega arith) (omega arith)))
+  where
+    there : ((k : ℕ) → i < k → k < j → Above (rowOf row k) d) → (k : ℕ) → suc i < k → k < suc j → Above (rowOf (c ∷ row) k) d
+    there f zero a b = absurd (omega arith)
+    there f (suc k) a b = f k (omega arith) (omega arith)
+
+-- the test of the plan is the join
+pub joined-iff : (row : List Levels) (i j d : ℕ) → i < j → (joinedAt row i j d ≡ true) ↔ Joins (rowOf row) i j d
+unfolding joinedAt
+joined-iff row i j d b =
+    let outer = and-eq-true-iff (leavesOpen (rowOf row i) d && closesEarlier (rowOf row j) d) (belowPeaks (chunksBetween row i j) d) in
+    let inner = and-eq-true-iff (leavesOpen (rowOf row i) d) (closesEarlier (rowOf row j) d) in (
+      λ h. let (x, z) = outer .0 h in let (x, y) = inner .0 x in (record { before = b; opens = opens-iff (rowOf row i) d .0 x; between = below-between row i j d .0 z }, closes-iff (rowOf row j) d .0 y),
+      λ h. outer .1 (inner .1 (opens-iff (rowOf row i) d .1 (h .0 .opens), closes-iff (rowOf row j) d .1 (h .1)), below-between row i j d .1 (h .0 .between)),
+    )
+
+-- the list starts with a and ends with b - 1, or is empty where b is not above a
+abbrev Ends : List ℕ → (a b : ℕ) → Type 0
+Ends [] a b = b ≤ a
+Ends (d ∷ ds) a b = (d ≡ a) × (suc (lastOf d ds) ≡ b) × (a < b)
+
+ends-line : (i j : ℕ) (ds : List ℕ) (a b : ℕ) → Ends ds a b → lineFor i j ds ≡ lineIf i j a b (decLt a b)
+unfolding lineFor lineIf
+ends-line i j [] a b h = go (decLt a b)
+  where
+    go : (t : Dec (a < b)) → [] ≡ lineIf i j a b t
+    go (yes y) = absurd (omega arith)
+    go (no y) = refl
+ends-line i j (d ∷ ds) a b h = go (decLt a b)
+  where
+    high : lastOf d ds ≡ b - 1
+    high = omega arith
+
+    go : (t : Dec (a < b)) → record { i = i; j = j; lowest = d; highest = lastOf d ds } ∷ [] ≡ lineIf i j a b t
+    go (yes y) = λ k. record { i = i; j = j; lowest = h .0 k; highest = high k } ∷ []
+    go (no y) = absurd (y (h .2))
+
+last-append : (d : ℕ) (ds : List ℕ) (n : ℕ) → lastOf d (ds ++ (n ∷ [])) ≡ n
+last-append d [] n = refl
+last-append d (e ∷ ds) n = last-append e ds n
+
+ends-grow : (ds : List ℕ) (a n : ℕ) → a ≤ n → Ends ds a n → Ends (ds ++ (n ∷ [])) a (suc n)
+ends-grow [] a n b h = (omega arith, refl, omega arith)
+ends-grow (d ∷ ds) a n b h = (h .0, ap suc (last-append d ds n), omega arith)
+
+ends-stay : (ds : List ℕ) (a b n : ℕ) → ¬ Within a b n → Ends ds a (min b n) → Ends ds a (min b (suc n))
+ends-stay [] a b n w h = dite (decLt n a) (λ x. omega arith) (λ x. dite (decLt n b) (λ y. absurd (w (omega arith))) (λ y. omega arith))
+ends-stay (d ∷ ds) a b n w h = dite (decLt n b) (λ y. absurd (w (omega arith))) (λ y. (h .0, omega arith, omega arith))
+
+select-append : (test : ℕ → Bool) (x y : List ℕ) → select test (x ++ y) ≡ select test x ++ select test y
+unfolding select
+select-append test [] y = refl
+select-append test (d ∷ x) y = go (test d) (select-append test x y)
+  where
+    go : (t : Bool) → select test (x ++ y) ≡ select test x ++ select test y → cond t (d ∷ select test (x ++ y)) (select test (x ++ y)) ≡ cond t (d ∷ select test x) (select test x) ++ select test y
+    go true ih = ap (λ v. d ∷ v) ih
+    go false ih = ih
+
+-- the depths that pass a test, where those are the depths from a to below b
+select-ends : (test : ℕ → Bool) (a b n : ℕ) → ((d : ℕ) → (test d ≡ true) ↔ Within a b d) → Ends (select test (upTo n)) a (min b n)
+unfolding select upTo
+select-ends test a b zero h = omega arith
+select-ends test a b (suc n) h = rw (select-append test (upTo n) (n ∷ [])) (go (test n) refl (select-ends test a b n h))
+  where
+    go : (t : Bool) → test n ≡ t → Ends (select test (upTo n)) a (min b n) → Ends (select test (upTo n) ++ cond t (n ∷ []) []) a (min b (suc n))
+    go true e ih =
+        let w = h n .0 e in
+        let x : min b n ≡ n = omega arith in
+        let y : min b (suc n) ≡ suc n = omega arith in
+        rw y (ends-grow (select test (upTo n)) a n (w .0) (rw x at ih))
+    go false e ih = rw (append-nil (select test (upTo n))) (ends-stay (select test (upTo n)) a b n (λ w. false≢true (sym e ∙ h n .1 w)) ih)
+
+-- so the line of the depths joined is that of the scan
+depths-line : (test : ℕ → Bool) (c : Levels) (i j p m : ℕ) → ((d : ℕ) → (test d ≡ true) ↔ (Opens c d × Within p m d)) → lineFor i j (select test (upTo (endLevel c))) ≡ lineOf c i j p m
+unfolding lineOf lineFor select upTo
+depths-line test blank i j p m h = refl
+depths-line test (hill s q e) i j p m h =
+    let x : min (min e m) e ≡ min e m = omega arith in
+    ends-line i j (select test (upTo e)) (max q p) (min e m) (rw x at (select-ends test (max q p) (min e m) e (λ d. (λ t. let w = h d .0 t in omega arith, λ w. h d .1 (omega arith)))))
+
+flatMap-last : (f : ℕ → List Line) (x : List ℕ) (n : ℕ) → flatMap f (x ++ (n ∷ [])) ≡ flatMap f x ++ f n
+unfolding flatMap
+flatMap-last f [] n = append-nil (f n)
+flatMap-last f (d ∷ x) n = rw (flatMap-last f x n) (sym (append-assoc (f d) (flatMap f x) (f n)))
+
+module _ (row : List Levels) where
+  -- the lines to chunk j from the chunks below n, where it closes the depths from p to below s, and those below m are still open after the chunks from n on
+  walk-lines : (j p s m n : ℕ) → n ≤ j → ((d : ℕ) → Closes (rowOf row j) d ↔ Within p s d) → ((d : ℕ) → (d < m) ↔ ((d < s) × ((k : ℕ) → n ≤ k → k < j → Above (rowOf row k) d))) →
+      flatMap (λ i. lineFor i j (depthsJoined row i j)) (downFrom n) ≡ walk (rowOf row) j p m n
+  unfolding flatMap downFrom walk depthsJoined
+  walk-lines j p s m zero b c f = refl
+  walk-lines j p s m (suc n) b c f =
+      rw (depths-line (joinedAt row n j) (rowOf row n) n j p m here, walk-lines j p s (passed (rowOf row n) m) n (omega arith) c below)
+    where
+      here : (d : ℕ) → (joinedAt row n j d ≡ true) ↔ (Opens (rowOf row n) d × Within p m d)
+      here d =
+          let x = joined-iff row n j d b in (
+            λ t. let (o, e) = x .0 t in let w = c d .0 e in (o .opens, (w .0, f d .1 (w .1, o .between))),
+            λ t. let w = f d .0 (t .1 .1) in x .1 (record { before = b; opens = t .0; between = w .1 }, c d .1 (t .1 .0, w .0)),
+          )
+
+      below : (d : ℕ) → (d < passed (rowOf row n) m) ↔ ((d < s) × ((k : ℕ) → n ≤ k → k < j → Above (rowOf row k) d))
+      below d =
+          let x = passed-iff (rowOf row n) m d in (
+            λ t. let (u, v) = x .0 t in let w = f d .0 u in (w .0, λ k y z. dite (decLt n k) (λ a. w .1 k a z) (λ a. let e : n ≡ k = omega arith in subst (λ i. Above (rowOf row i) d) e v)),
+            λ t. x .1 (f d .1 (t .0, λ k y z. t .1 k (omega arith) z), t .1 n (omega arith) b),
+          )
+
+  lines-to : (c : Levels) (j : ℕ) → ((d : ℕ) → Closes (rowOf row j) d ↔ Closes c d) → flatMap (λ i. lineFor i j (depthsJoined row i j)) (downFrom j) ≡ linesTo (rowOf row) c j
+  unfolding linesTo
+  lines-to blank j h = walk-lines j 0 0 0 j (omega arith) (λ d. (λ x. absurd (h d .0 x), λ x. h d .1 (omega arith))) (λ d. (λ x. absurd (omega arith), λ x. x .0)) ∙ walk-stop (rowOf row) j 0 0 j (omega arith)
+  lines-to (hill s p e) j h = walk-lines j p s s j (omega arith) h (λ d. (λ x. (x, λ k y z. absurd (omega arith)), λ x. x .0))
+
+  lines-all : (n : ℕ) → flatMap (λ j. flatMap (λ i. lineFor i j (depthsJoined row i j)) (downFrom j)) (upTo n) ≡ plan (rowOf row) n
+  unfolding flatMap upTo plan
+  lines-all zero = refl
+  lines-all (suc n) =
+      flatMap-last (λ j. flatMap (λ i. lineFor i j (depthsJoined row i j)) (downFrom j)) (upTo n) n ∙
+      rw (lines-all n, lines-to (rowOf row n) n (λ d. (λ x. x, λ x. x)))
+
+  -- THE SCAN GIVES THE PLAN
+  pub planOf-scan : planOf row ≡ scanOf row
+  unfolding planOf scanOf
+  planOf-scan = lines-all (length row)
+
+  -- a line is in the plan exactly if its chunks are joined, in just its depths
+  pub planOf-exact : (l : Line) → List·Memᴰ l (planOf row) ↔ IsLine (rowOf row) l
+  planOf-exact l = rw planOf-scan (scanOf-exact row l)
+
+  -- each join has a line
+  pub planOf-some : (i j d : ℕ) → Joins (rowOf row) i j d → (l : Line) × List·Memᴰ l (planOf row) × (l .i ≡ i) × (l .j ≡ j)
+  planOf-some i j d h = rw planOf-scan (scanOf-some row i j d h)
+
+  -- the lines go by rising j, then falling i
+  pub planOf-sorted : Sorted (planOf row)
+  planOf-sorted = rw planOf-scan (scanOf-sorted row)
+
+  -- and no other list has just those lines in that order
+  pub planOf-only : (ls : List Line) → Sorted ls → ((l : Line) → List·Memᴰ l ls ↔ IsLine (rowOf row) l) → ls ≡ planOf row
+  planOf-only ls s h = scanOf-only row ls s h ∙ sym planOf-scan
