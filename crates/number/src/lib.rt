@@ -1,10 +1,13 @@
-// Little-endian numbers at a position of a byte slice. Each caller shows that the bytes are there.
+// Little-endian numbers at a position of a byte slice, and arithmetic on numbers. Each caller shows that the bytes are there, and that a sum fits.
 ghost use mathlib.Core.Path.{_≡_};
-ghost use Prim.Native.Nat.{_+_, _≤_, _<_};
+ghost use Prim.Native.Nat.{_+_, _*_, _%_, _^_, _≤_, _<_};
 ghost use lib.ListN.{length};
+ghost use lib.IntN.{pos, _+ℤ_, natAbs};
+ghost use lib.Signed.{_≤ℤ_, _<ℤ_};
 ghost use mir.Syntax.{w32, w64};
 ghost use mir.Val.{toZ, ofZ};
 ghost use Rattle.number.specs.Bytes.{leAt, putAt, i32At, i64At};
+ghost use Rattle.number.specs.Integer.{minZ, maxZ, clamp as clampZ};
 
 // A byte as a wider number, with its bound, which whoever reads a byte needs.
 fn wide(x: u8) -> u16
@@ -126,4 +129,56 @@ pub fn write_i64(s: &mut [u8], at: usize, x: i64)
     ensures { λ _. ⌜ now (s .exit) ≡ putAt 8 (now (s .entry)) at (ofZ w64 x) ⌝ }
 {
     write_u64(s, at, bits_64(x));
+}
+
+pub fn max(a: i64, b: i64) -> i64
+    ensures { λ r. ⌜ r ≡ maxZ a b ⌝ }
+{
+    if a <= b { b } else { a }
+}
+
+pub fn min(a: i64, b: i64) -> i64
+    ensures { λ r. ⌜ r ≡ minZ a b ⌝ }
+{
+    if a <= b { a } else { b }
+}
+
+// Raised to low if below it, then lowered to high if above it.
+pub fn clamp(x: i64, low: i64, high: i64) -> i64
+    ensures { λ r. ⌜ r ≡ clampZ x low high ⌝ }
+{
+    min(max(x, low), high)
+}
+
+pub fn sum(a: i64, b: i64) -> i64
+    requires { ⌜ natAbs a + natAbs b < 2 ^ 63 ⌝ }
+    ensures { λ r. ⌜ r ≡ a +ℤ b ⌝ }
+{
+    a + b
+}
+
+pub fn widen(x: i32) -> i64
+    ensures { λ r. ⌜ r ≡ x ⌝ }
+{
+    x as i64
+}
+
+pub fn to_u32(x: i64) -> u32
+    requires { ⌜ (pos 0 ≤ℤ x) × (x <ℤ pos 4294967296) ⌝ }
+    ensures { λ r. ⌜ pos r ≡ x ⌝ }
+{
+    x as u32
+}
+
+pub fn from_u32(x: u32) -> i64
+    ensures { λ r. ⌜ r ≡ pos x ⌝ }
+{
+    x as i64
+}
+
+// The product modulo 2^32.
+pub fn wrapping_mul(a: u32, b: u32) -> u32
+    ensures { λ r. ⌜ r ≡ (a * b) % 2 ^ 32 ⌝ }
+{
+    ((a as u64) * (b as u64) % 4294967296) as u32
 }

@@ -1,0 +1,2 @@
+-- What a call comes to.
+pub mod Outcome

@@ -1,0 +1,20 @@
+-- The smaller and the greater of two integers, a number held between two ends, and a number modulo 2^32.
+use mathlib.Core.Bool.{cond}
+use Prim.Native.Nat.{ℕ, _-_, _%_, _^_}
+use lib.IntN.{ℤ, pos, negsuc}
+use lib.Signed.{leZ}
+
+unfoldable pub minZ : ℤ → ℤ → ℤ
+minZ a b = cond (leZ a b) a b
+
+unfoldable pub maxZ : ℤ → ℤ → ℤ
+maxZ a b = cond (leZ a b) b a
+
+-- raised to lo if below it, then lowered to hi if above it
+unfoldable pub clamp : ℤ → ℤ → ℤ → ℤ
+clamp x lo hi = minZ (maxZ x lo) hi
+
+-- z modulo 2^32; `negsuc n` is -1 - n
+unfoldable pub wrap : ℤ → ℕ
+wrap (pos n) = n % 2 ^ 32
+wrap (negsuc n) = 2 ^ 32 - 1 - n % 2 ^ 32

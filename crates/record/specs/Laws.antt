@@ -1,0 +1,148 @@
+-- Laws of the reader's definitions. Assumes nothing.
+use mathlib.Core.Path.{_≡_, refl, sym, ap, _∙_, subst}
+use mathlib.Core.Bool.{Bool, true, false, cond, _&&_}
+use mathlib.Core.List.{List, [], _∷_, _++_, append-assoc}
+use Prim.Native.Nat.{ℕ, zero, suc, _-_, _≤_, _<_}
+use native.Mathlib.Nat.{le-refl, le-of-eq}
+use native.Mathlib.Omega.{arith}
+use lib.ListN.{length, take, drop, length-drop}
+use lib.Seq.{take-all}
+use lib.Dec.{T, leb, eqb, lit≤}
+use lib.IntN.{ℤ, pos, negsuc, natAbs}
+use lib.Signed.{leZ}
+use borrow.Author.Tests.{lt-leb, leb-true}
+use Rattle.gate.specs.Outcome.{Outcome, refused, result}
+use Rattle.number.specs.Bytes.{leAt}
+use Rattle.record.specs.Record.{within, inRange, accepted, whole, byShape, readOf, before, andThen, recordsIn, recordsOf, fullOpen, shortOpen, close}
+use Rattle.record.specs.declared.Fields.{Fields}
+
+cond-same : (b : Bool) (r : Outcome Fields) → cond b r r ≡ r
+cond-same true r = refl
+cond-same false r = refl
+
+-- fewer bytes than the shortest record has
+pub read-short : (s : List ℕ) → length s < 6 → readOf s ≡ refused 3
+unfolding readOf byShape whole
+read-short s h =
+    simp (lt-leb 18 (length s) (omega arith), lt-leb 10 (length s) (omega arith), lt-leb 6 (length s) h, cond-same)
+
+-- ---- a record that was read
+
+-- what is known of a record that was read: its bytes are there, and its fields are in range
+pub record Sound (s : List ℕ) (f : Fields) : Type 0 where
+  pub least-6 : 6 ≤ f .length
+  pub inside : f .length ≤ length s
+  pub ranged : inRange (f .depth) (f .value) (f .floor) (f .ceiling) ≡ true
+
+abbrev SoundRead : List ℕ → Outcome Fields → Type 0
+SoundRead s (result f) = Sound s f
+SoundRead s (refused n) = Unit {0}
+
+either : (P : Outcome Fields → Type 0) (b : Bool) (x y : Outcome Fields) → (b ≡ true → P x) → P y → P (cond b x y)
+either P true x y p q = p refl
+either P false x y p q = q
+
+whole-sound : (s : List ℕ) (f : Fields) → 6 ≤ f .length → SoundRead s (whole s f)
+unfolding whole accepted
+whole-sound s f h =
+    either (SoundRead s) (leb (f .length) (length s)) (accepted f) (refused 3) (λ e. either (SoundRead s) (inRange (f .depth) (f .value) (f .floor) (f .ceiling)) (result f) (refused 3) (λ r. record { least-6 = h; inside = leb-true _ _ e; ranged = r }) tt) tt
+
+read-sound : (s : List ℕ) → SoundRead s (readOf s)
+unfolding readOf byShape
+read-sound s =
+    either (SoundRead s) (eqb (leAt 2 s 2) 1) _ _
+    (λ _. either (SoundRead s) (eqb (leAt 2 s 0) 18) _ _ (λ _. whole-sound s (fullOpen s) (lit≤ tt))
+    (either (SoundRead s) (eqb (leAt 2 s 0) 10) _ _ (λ _. whole-sound s (shortOpen s) (lit≤ tt)) tt))
+    (either (SoundRead s) (eqb (leAt 2 s 2) 2) _ _ (λ _. either (SoundRead s) (eqb (leAt 2 s 0) 6) _ _ (λ _. whole-sound s (close s) (lit≤ tt)) tt) tt)
+
+pub sound : (s : List ℕ) (f : Fields) → readOf s ≡ result f → Sound s f
+sound s f e = subst (SoundRead s) e (read-sound s)
+
+and-left : (a b : Bool) → a && b ≡ true → a ≡ true
+and-left true b e = refl
+and-left false b e = e
+
+and-right : (a b : Bool) → a && b ≡ true → b ≡ true
+and-right true b e = e
+and-right false b e = absurd (subst T (sym e) tt)
+
+within-size : (z : ℤ) → within z ≡ true → natAbs z ≤ 1_000_000_000
+unfolding within
+within-size (pos n) e = leb-true n 1_000_000_000 e
+within-size (negsuc n) e = omega (arith, leb-true n 999_999_999 (and-left (leb n 999_999_999) true e))
+
+pub value-size : {s : List ℕ} {f : Fields} → Sound s f → natAbs (f .value) ≤ 1_000_000_000
+unfolding inRange
+value-size {f} p =
+    within-size (f .value) (and-right (leb (f .depth) 63) (within (f .value)) (and-left _ (within (f .floor)) (and-left _ (within (f .ceiling)) (and-left _ (leZ (f .floor) (f .ceiling)) (p .ranged)))))
+
+-- ---- the records of a chunk
+
+nil-in : (n : ℕ) → recordsIn n [] ≡ result []
+unfolding recordsIn
+nil-in zero = refl
+nil-in (suc n) = refl
+
+shorter : (b : ℕ) (s : List ℕ) (f : Fields) → readOf (b ∷ s) ≡ result f → length (drop (f .length) (b ∷ s)) ≤ length s
+shorter b s f e = omega (arith, sound (b ∷ s) f e, length-drop (f .length) (b ∷ s))
+
+-- any fuel that is enough gives the same
+Same : ℕ → Type 0
+Same n = (m : ℕ) (s : List ℕ) → length s ≤ n → length s ≤ m → recordsIn n s ≡ recordsIn m s
+
+same-zero : Same zero
+unfolding Same
+same-zero m [] h k = nil-in zero ∙ sym (nil-in m)
+same-zero m (b ∷ s) h k = absurd (omega arith)
+
+same-suc : (n : ℕ) → Same n → Same (suc n)
+unfolding Same recordsIn
+same-suc n ih m [] h k = sym (nil-in m)
+same-suc n ih zero (b ∷ s) h k = absurd (omega arith)
+same-suc n ih (suc m) (b ∷ s) h k = go (readOf (b ∷ s)) refl
+  where
+    go : (r : Outcome Fields) → readOf (b ∷ s) ≡ r → andThen r (λ f. recordsIn n (drop (f .length) (b ∷ s))) ≡ andThen r (λ f. recordsIn m (drop (f .length) (b ∷ s)))
+    go (result f) e =
+        let l = shorter b s f e in
+        ap (before f) (ih m (drop (f .length) (b ∷ s)) (omega arith) (omega arith))
+    go (refused k) e = refl
+
+enough : (n : ℕ) → Same n
+enough zero = same-zero
+enough (suc n) = same-suc n (enough n)
+
+pub records-nil : recordsOf [] ≡ result []
+unfolding recordsOf recordsIn
+records-nil = refl
+
+pub records-bad : (s : List ℕ) (n : ℕ) → 0 < length s → readOf s ≡ refused n → recordsOf s ≡ refused n
+unfolding recordsOf recordsIn
+records-bad [] n h e = absurd (omega arith)
+records-bad (b ∷ s) n h e = rw e
+
+pub records-next : (s : List ℕ) (f : Fields) → readOf s ≡ result f → recordsOf s ≡ before f (recordsOf (drop (f .length) s))
+unfolding recordsOf recordsIn Same
+records-next [] f e = absurd (omega (arith, sound [] f e))
+records-next (b ∷ s) f e =
+    rw e (ap (before f) (enough (length s) (length (drop (f .length) (b ∷ s))) (drop (f .length) (b ∷ s)) (shorter b s f e) (le-refl _)))
+
+-- a part to the end, as the logic gives it
+pub part-rest : (i : ℕ) (l : List ℕ) → take (length l - i) (drop i l) ≡ drop i l
+part-rest i l = take-all (length l - i) (drop i l) (le-of-eq (length-drop i l))
+
+-- ---- records one after the other
+
+-- these records before the others
+unfoldable pub onto : List Fields → Outcome (List Fields) → Outcome (List Fields)
+onto done (refused n) = refused n
+onto done (result fs) = result (done ++ fs)
+
+pub onto-nil : (o : Outcome (List Fields)) → onto [] o ≡ o
+unfolding onto
+onto-nil (refused n) = refl
+onto-nil (result fs) = refl
+
+pub onto-next : (done : List Fields) (f : Fields) (o : Outcome (List Fields)) → onto done (before f o) ≡ onto (done ++ (f ∷ [])) o
+unfolding onto
+onto-next done f (refused n) = refl
+onto-next done f (result fs) = ap result (sym (append-assoc done (f ∷ []) fs))

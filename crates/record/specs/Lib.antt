@@ -1,0 +1,7 @@
+-- What must be believed: Record. The rest is proved of it.
+pub mod Record
+pub mod Laws
+pub mod Joined
+pub mod Handed
+pub mod Encoding
+pub mod Examples

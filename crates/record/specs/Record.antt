@@ -1,0 +1,90 @@
+-- Records, as document 01's section "Records" has them.
+use Prim.Native.Nat.{ℕ, zero, suc}
+use mathlib.Core.Bool.{Bool, cond, _&&_}
+use mathlib.Core.List.{List, [], _∷_}
+use lib.ListN.{length, drop}
+use lib.Dec.{leb, eqb}
+use lib.IntN.{ℤ, pos, negsuc}
+use lib.Signed.{leZ}
+use Rattle.gate.specs.Outcome.{Outcome, refused, result}
+use Rattle.number.specs.Bytes.{leAt, i32At}
+use Rattle.record.specs.declared.Fields.{Fields}
+use Rattle.record.specs.declared.Read.{Read}
+use Rattle.record.specs.declared.Read.the-variants.{Record, Refused}
+
+-- What the answer of `read_first` says, in the paper's numbers: the record's fields, or refusal 3.
+abbrev pub answerOf : Read → Outcome Fields
+answerOf (Record f) = result f
+answerOf Refused = refused 3
+
+-- "value, floor and ceiling lie within ±1,000,000,000"
+abbrev pub least : ℤ
+least = negsuc 999_999_999
+
+abbrev pub most : ℤ
+most = pos 1_000_000_000
+
+unfoldable pub within : ℤ → Bool
+within z = leZ least z && leZ z most
+
+-- "depth is 0 to 63, value, floor and ceiling lie within ±1,000,000,000, and floor is not above ceiling"
+unfoldable pub inRange : ℕ → ℤ → ℤ → ℤ → Bool
+inRange depth value floor ceiling = leb depth 63 && within value && within floor && within ceiling && leZ floor ceiling
+
+-- The floor and the ceiling of a record of length 10.
+abbrev pub defaultFloor : ℤ
+defaultFloor = negsuc 999_999_999
+
+abbrev pub defaultCeiling : ℤ
+defaultCeiling = pos 1_000_000_000
+
+-- The three layouts: length at 0, kind at 2, depth at 4, then value, floor and ceiling.
+abbrev pub fullOpen : List ℕ → Fields
+fullOpen s = record { kind = 1; length = 18; depth = leAt 2 s 4; value = i32At s 6; floor = i32At s 10; ceiling = i32At s 14 }
+
+abbrev pub shortOpen : List ℕ → Fields
+shortOpen s = record { kind = 1; length = 10; depth = leAt 2 s 4; value = i32At s 6; floor = defaultFloor; ceiling = defaultCeiling }
+
+abbrev pub close : List ℕ → Fields
+close s = record { kind = 2; length = 6; depth = leAt 2 s 4; value = pos 0; floor = pos 0; ceiling = pos 0 }
+
+-- The record f, if its fields are in range.
+unfoldable pub accepted : Fields → Outcome Fields
+accepted f = cond (inRange (f .depth) (f .value) (f .floor) (f .ceiling)) (result f) (refused 3)
+
+-- The record f at the start of s, if "all its bytes are there".
+unfoldable pub whole : List ℕ → Fields → Outcome Fields
+whole s f = cond (leb (f .length) (length s)) (accepted f) (refused 3)
+
+-- The first record of s by its kind and its length: "readable if its length suits its kind", each pairing decided.
+unfoldable pub byShape : ℕ → ℕ → List ℕ → Outcome Fields
+byShape kind len s =
+    cond (eqb kind 1)
+    (cond (eqb len 18) (whole s (fullOpen s)) (cond (eqb len 10) (whole s (shortOpen s)) (refused 3)))
+    (cond (eqb kind 2) (cond (eqb len 6) (whole s (close s)) (refused 3)) (refused 3))
+
+-- READING THE FIRST RECORD. A byte past the end counts 0, so a header that is cut short needs no test of its own: fewer bytes than
+-- the shortest record has are never readable (law `read-short`).
+unfoldable pub readOf : List ℕ → Outcome Fields
+readOf s = byShape (leAt 2 s 2) (leAt 2 s 0) s
+
+-- f before the records of the rest, if those are readable.
+abbrev pub before : Fields → Outcome (List Fields) → Outcome (List Fields)
+before f (refused n) = refused n
+before f (result fs) = result (f ∷ fs)
+
+-- What was read, and then the rest.
+abbrev pub andThen : Outcome Fields → (Fields → Outcome (List Fields)) → Outcome (List Fields)
+andThen (refused n) rest = refused n
+andThen (result f) rest = before f (rest f)
+
+-- The records of s, at most n of them: "after a readable record, the rest of the chunk is read as a chunk of its own".
+unfoldable pub recordsIn : ℕ → List ℕ → Outcome (List Fields)
+recordsIn zero [] = result []
+recordsIn zero (b ∷ s) = refused 3
+recordsIn (suc n) [] = result []
+recordsIn (suc n) (b ∷ s) = andThen (readOf (b ∷ s)) (λ f. recordsIn n (drop (f .length) (b ∷ s)))
+
+-- ALL RECORDS OF A CHUNK, or refusal 3. A chunk has no more records than bytes.
+unfoldable pub recordsOf : List ℕ → Outcome (List Fields)
+recordsOf s = recordsIn (length s) s

@@ -1,0 +1,130 @@
+// Reading records: document 01, "Records".
+ghost use mathlib.Core.Path.{_≡_};
+ghost use Rattle.record.specs.Record.{
+  answerOf,
+  within,
+  inRange,
+  accepted,
+  whole,
+  fullOpen,
+  shortOpen,
+  close,
+  readOf,
+};
+
+// A record's fields. The last three are 0 for a close.
+pub struct Fields {
+    pub kind: u16,
+    pub length: u16,
+    pub depth: u16,
+    pub value: i32,
+    pub floor: i32,
+    pub ceiling: i32,
+}
+
+// What reading the first record of a chunk finds. `answerOf` says what each case means.
+pub enum Read {
+    Record(Fields),
+    Refused,
+}
+
+// The floor and the ceiling of an open record of length 10.
+const DEFAULT_FLOOR: i32 = -1_000_000_000;
+
+const DEFAULT_CEILING: i32 = 1_000_000_000;
+
+// Whether a number of grams is within the limits.
+fn in_limits(grams: i32) -> bool
+    ensures { λ r. ⌜ r ≡ within grams ⌝ }
+{
+    (-1_000_000_000 <= grams) & (grams <= 1_000_000_000)
+}
+
+// Whether a record's fields are in range.
+fn in_range(depth: u16, value: i32, floor: i32, ceiling: i32) -> bool
+    ensures { λ r. ⌜ r ≡ inRange depth value floor ceiling ⌝ }
+{
+    (depth <= 63) & in_limits(value) & in_limits(floor) & in_limits(ceiling) & (floor <= ceiling)
+}
+
+// The record, if its fields are in range.
+fn accept(f: Fields) -> Read
+    ensures { λ r. ⌜ answerOf r ≡ accepted f ⌝ }
+{
+    if in_range(f.depth, f.value, f.floor, f.ceiling) {
+        Read::Record(f)
+    } else {
+        Read::Refused
+    }
+}
+
+fn read_full(chunk: &[u8]) -> Read
+    ensures { λ r. ⌜ answerOf r ≡ whole (now (chunk .entry)) (fullOpen (now (chunk .entry))) ⌝ }
+{
+    if chunk.len() < 18 {
+        return Read::Refused;
+    }
+    accept(Fields {
+        kind: 1,
+        length: 18,
+        depth: number::read_u16(chunk, 4),
+        value: number::read_i32(chunk, 6),
+        floor: number::read_i32(chunk, 10),
+        ceiling: number::read_i32(chunk, 14),
+    })
+}
+
+fn read_short(chunk: &[u8]) -> Read
+    ensures { λ r. ⌜ answerOf r ≡ whole (now (chunk .entry)) (shortOpen (now (chunk .entry))) ⌝ }
+{
+    if chunk.len() < 10 {
+        return Read::Refused;
+    }
+    accept(Fields {
+        kind: 1,
+        length: 10,
+        depth: number::read_u16(chunk, 4),
+        value: number::read_i32(chunk, 6),
+        floor: DEFAULT_FLOOR,
+        ceiling: DEFAULT_CEILING,
+    })
+}
+
+fn read_close(chunk: &[u8]) -> Read
+    ensures { λ r. ⌜ answerOf r ≡ whole (now (chunk .entry)) (close (now (chunk .entry))) ⌝ }
+{
+    if chunk.len() < 6 {
+        return Read::Refused;
+    }
+    accept(Fields {
+        kind: 2,
+        length: 6,
+        depth: number::read_u16(chunk, 4),
+        value: 0,
+        floor: 0,
+        ceiling: 0,
+    })
+}
+
+// The first record of a chunk. Later bytes, and how many there are, are not judged.
+pub fn read_first(chunk: &[u8]) -> Read
+    ensures { λ r. ⌜ answerOf r ≡ readOf (now (chunk .entry)) ⌝ }
+{
+    if chunk.len() < 4 {
+        return Read::Refused;
+    }
+    let length = number::read_u16(chunk, 0);
+    let kind = number::read_u16(chunk, 2);
+    match kind {
+        1 => match length {
+            18 => read_full(chunk),
+            10 => read_short(chunk),
+            _ => Read::Refused,
+        },
+        2 => match length {
+            6 => read_close(chunk),
+            _ => Read::Refused,
+        },
+        _ => Read::Refused,
+    }
+}
