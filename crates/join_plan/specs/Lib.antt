@@ -5,11 +5,13 @@ pub mod ScanExact
 pub mod PlanFacts
 pub mod PlanExact
 pub mod PlanBound
-pub mod Log
-pub mod LogJoins
 pub mod RowLevels
-pub mod LogPlan
 pub mod Folded
+pub mod ByRecords
+pub mod Gate
+pub mod LogLevels
+pub mod LogJoins
+pub mod LogPlan
 pub mod LogFolded
 pub mod LogEnds
 pub mod Examples

@@ -210,7 +210,7 @@ before-asym x y (inr a) (inl b) = omega arith
 before-asym x y (inr a) (inr b) = omega arith
 
 -- two sorted lists with the same members are one
-sorted-unique : (a b : List Line) → Sorted a → Sorted b → ((x : Line) → List·Memᴰ x a ↔ List·Memᴰ x b) → a ≡ b
+pub sorted-unique : (a b : List Line) → Sorted a → Sorted b → ((x : Line) → List·Memᴰ x a ↔ List·Memᴰ x b) → a ≡ b
 sorted-unique [] [] s t h = refl
 sorted-unique [] (y ∷ b) s t h = absurd (List·Memᴰ·not-nil (h y .1 (List·Memᴰ·head refl)))
 sorted-unique (x ∷ a) [] s t h = absurd (List·Memᴰ·not-nil (h x .0 (List·Memᴰ·head refl)))
