@@ -1,4 +1,4 @@
--- The join plan as document 01 says it, by the records of a cut log, and what the plan reads of a summary: definitions only. Assumes nothing.
+-- The join plan of a cut log by its records, as document 01 says it: definitions only. Assumes nothing.
 use Prim.Native.Nat.{ℕ, zero, suc, _+_, _≤_, _<_}
 use mathlib.Core.Path.{_≡_}
 use mathlib.Core.Logic.{_≢_, _⊎_, _↔_}
@@ -7,14 +7,7 @@ use lib.ListN.{length}
 use Rattle.hill.specs.Log.{Record}
 use Rattle.hill.specs.Closing.{ClosedBy}
 use Rattle.hill.specs.Row.{joined}
-use Rattle.hill.specs.Summary.{Summary, blank as blankSummary, part, spoilt, whole, rise, fall}
-use Rattle.join_plan.specs.Plan.{Levels, blank, hill, Line, Sorted}
-
--- the levels of a summary; a spoilt one has none, and the gate lets none through to the plan
-abbrev pub levelsOfSummary : {Fig R : Type 0} → Summary Fig R → Levels
-levelsOfSummary blankSummary = blank
-levelsOfSummary (part (spoilt fault start end opened)) = blank
-levelsOfSummary (part (whole peak opened h)) = hill (peak + rise h) peak (peak + fall h)
+use Rattle.join_plan.specs.Plan.{Line, Sorted}
 
 -- the place in the log, which is `joined cs`, where chunk i begins
 unfoldable pub place : {R : Type 0} → List (List (Record R)) → ℕ → ℕ

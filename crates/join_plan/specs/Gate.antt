@@ -10,10 +10,9 @@ use Rattle.hill.specs.Verdict.{Verdict, pass, refuse, low, between, count, ends
 use Rattle.hill.specs.Summary.{Part, Summary, blank as blankSummary, part, spoilt, whole, rise, fall, middle, verdict, start, end, slopes, make, mergeDraft, mergePart, mergeSummary, rise-merge, fall-merge}
 use Rattle.hill.specs.Finish.{Outcome, figure, refused, outcome, finishOf}
 use Rattle.hill.specs.Row.{mergeAll}
-use Rattle.join_plan.specs.Plan.{Levels, blank, hill, rowOf, planOf, joins}
+use Rattle.join_plan.specs.Plan.{Levels, blank, hill, rowOf, planOf, joins, levelsOfSummary}
 use Rattle.join_plan.specs.Joins.{after, levelAt, Meets, WellFormed}
 use Rattle.join_plan.specs.PlanBound.{planOf-bound}
-use Rattle.join_plan.specs.ByRecords.{levelsOfSummary}
 
 -- chunks that meet one after the other from level l on, and the level after them
 abbrev Follow : ℕ → List Levels → Type 0

@@ -14,4 +14,5 @@ pub mod LogJoins
 pub mod LogPlan
 pub mod LogFolded
 pub mod LogEnds
+pub mod PlanOfLog
 pub mod Examples

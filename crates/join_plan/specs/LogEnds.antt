@@ -18,7 +18,7 @@ use Rattle.hill.specs.Row.{joined}
 use Rattle.join_plan.specs.ByRecords.{place, InChunk, Joined}
 use Rattle.join_plan.specs.LogLevels.{levelBefore, WellFormedLog, levelsOf}
 use Rattle.join_plan.specs.LogJoins.{place-le, joins-exact}
-use Rattle.join_plan.specs.LogPlan.{plan-of-log, row-of}
+use Rattle.join_plan.specs.LogPlan.{log-plan, row-of}
 
 module _ {R : Type 0} where
   -- a record from level 0, and one to level 0
@@ -68,7 +68,7 @@ module _ {R : Type 0} where
       -- no line starts before the first record's chunk, or ends after the last record's
       line-ends : (l : Line) → List·Memᴰ l (planOf (map levelsOf cs)) → (f ≤ l .i) × (l .i < l .j) × (l .j ≤ j)
       line-ends l m =
-          let h = plan-of-log cs w l .0 m in
+          let h = log-plan cs w .lines l .0 m in
           let (p, q, x, y, c) = h .low in
           (chunk-order f (l .i) 0 p u x (omega arith), h .apart, chunk-order (l .j) j q n y v (omega (arith, c .inside)))
 
@@ -85,8 +85,8 @@ module _ {R : Type 0} where
       plan-last z =
           let c : Joined cs f j 0 = (0, n, u, v, whole-closed n e) in
           let b : f < j = omega (arith, chunk-order f j 0 n u v (omega arith)) in
-          let (l, m, x, y) = planOf-some (map levelsOf cs) f j 0 (subst (λ r. Joins r f j 0) (sym (row-of cs w)) (joins-exact cs w f j 0 .1 (b, c))) in
-          let low : l .lowest ≡ 0 = omega (arith, plan-of-log cs w l .0 m .within 0 (rw (x, y) c)) in
+          let (l, m, x, y) = planOf-some (map levelsOf cs) f j 0 (subst (λ r. Joins r f j 0) (sym (row-of cs)) (joins-exact cs w f j 0 .1 (b, c))) in
+          let low : l .lowest ≡ 0 = omega (arith, log-plan cs w .lines l .0 m .within 0 (rw (x, y) c)) in
           let (init, g) = last-line (planOf (map levelsOf cs)) l (planOf-sorted (map levelsOf cs)) m (λ k t. order l k x y m t (line-ends k t)) in
           (init, l, g, x, y, low)
         where

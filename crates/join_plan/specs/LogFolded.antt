@@ -155,4 +155,4 @@ module _ {R : Type 0} where
     folded-crossing = tally-cast (Crossing cs) (place cs (length cs)) (length (joined cs)) (fallsOf (rowOfChunks cs) (length cs)) (folded (planOf (map levelsOf cs))) (place-all cs) (sym sum) (tally-row (length cs))
       where
         sum : folded (planOf (map levelsOf cs)) ≡ fallsOf (rowOfChunks cs) (length cs)
-        sum = planOf-folded (map levelsOf cs) (λ k h. subst (λ r. Meets (r k) (levelAt r k)) (sym (row-of cs w)) (row-meets cs w k)) ∙ rw (length-map cs levelsOf, row-of cs w) refl
+        sum = planOf-folded (map levelsOf cs) (λ k h. subst (λ r. Meets (r k) (levelAt r k)) (sym (row-of cs)) (row-meets cs w k)) ∙ rw (length-map cs levelsOf, row-of cs) refl

@@ -10,8 +10,7 @@ use Rattle.hill.specs.Log.{Record, startLevel, endLevel, endOf, peakOf, openedO
 use Rattle.hill.specs.Closing.{at}
 use Rattle.hill.specs.Summary.{Part, part, spoilt, whole, verdict, start, end, peak, partOf, summaryOf, verdict-partOf, levels}
 use Rattle.hill.specs.Row.{joined, mergeAll, mergeAll-summaries}
-use Rattle.join_plan.specs.Plan.{Levels, blank, hill}
-use Rattle.join_plan.specs.ByRecords.{levelsOfSummary}
+use Rattle.join_plan.specs.Plan.{Levels, blank, hill, levelsOfSummary}
 use Rattle.join_plan.specs.Gate.{summaryFault, fault-parts}
 
 module _ {R : Type 0} where

@@ -6,15 +6,15 @@ use mathlib.Core.List.{List, [], _∷_, map, List·Memᴰ}
 use native.Mathlib.Omega.{arith}
 use lib.ListN.{length, length-append, length-map, List·getD-map}
 use Rattle.join_plan.specs.Plan.{Levels, blank, hill, Line, rowOf, Sorted}
-use Rattle.join_plan.specs.Plan.{planOf}
+use Rattle.join_plan.specs.Plan.{planOf, joins}
 use Rattle.join_plan.specs.Joins.{Joins, IsLine, after, levelAt, Meets, WellFormed}
-use Rattle.join_plan.specs.PlanExact.{planOf-exact, planOf-only, planOf-sorted}
+use Rattle.join_plan.specs.PlanExact.{planOf-exact, planOf-sorted}
 use Rattle.join_plan.specs.PlanBound.{planOf-bound}
 use Rattle.join_plan.specs.RowLevels.{joins-convex}
 use Rattle.hill.specs.Log.{Record, startLevel}
 use Rattle.hill.specs.Closing.{at}
 use Rattle.hill.specs.Row.{joined}
-use Rattle.join_plan.specs.ByRecords.{place, Joined, PlanLine}
+use Rattle.join_plan.specs.ByRecords.{place, Joined, PlanLine, IsPlan}
 use Rattle.join_plan.specs.LogLevels.{levelBefore, WellFormedLog, levelsOf, rowOfChunks}
 use Rattle.join_plan.specs.LogJoins.{depth-least, Span, chunk-span, place-inside, joins-exact}
 
@@ -38,6 +38,10 @@ module _ {R : Type 0} where
   place-all [] = refl
   place-all (c ∷ cs) = omega (arith, place-all cs, length-append c (joined cs))
 
+  -- the row of the chunks' levels
+  pub row-of : (cs : List (List (Record R))) → rowOf (map levelsOf cs) ≡ rowOfChunks cs
+  row-of cs = fun-ext (λ k. List·getD-map levelsOf cs k [])
+
   module _ (cs : List (List (Record R))) (w : WellFormedLog (joined cs)) where
     pub level-place : (i : ℕ) → levelAt (rowOfChunks cs) i ≡ levelBefore (at (joined cs)) (place cs i)
     unfolding levelAt place
@@ -49,10 +53,6 @@ module _ {R : Type 0} where
 
     row-wellformed : WellFormed (rowOfChunks cs) (length cs)
     row-wellformed = record { meets = λ k h. row-meets k; ends = level-place (length cs) ∙ ap (levelBefore (at (joined cs))) (place-all cs) ∙ w .ends }
-
-    -- the row of the chunks' levels
-    pub row-of : rowOf (map levelsOf cs) ≡ rowOfChunks cs
-    row-of = fun-ext (λ k. List·getD-map levelsOf cs k [])
 
     -- what the levels say of a line is what the records say of it
     line-exact : (l : Line) → IsLine (rowOfChunks cs) l ↔ PlanLine cs l
@@ -75,17 +75,15 @@ module _ {R : Type 0} where
           );
         }
 
-    -- THE PLAN: its lines are those that the document describes
-    pub plan-of-log : (l : Line) → List·Memᴰ l (planOf (map levelsOf cs)) ↔ PlanLine cs l
-    plan-of-log l = (
-      λ h. line-exact l .0 (subst (λ r. IsLine r l) row-of (planOf-exact (map levelsOf cs) l .0 h)),
-      λ h. planOf-exact (map levelsOf cs) l .1 (subst (λ r. IsLine r l) (sym row-of) (line-exact l .1 h)),
-    )
+    -- so the plan by the chunks' levels is the plan by the records
+    pub log-plan : IsPlan cs (planOf (map levelsOf cs))
+    log-plan = record {
+      lines = λ l. (
+        λ h. line-exact l .0 (subst (λ r. IsLine r l) (row-of cs) (planOf-exact (map levelsOf cs) l .0 h)),
+        λ h. planOf-exact (map levelsOf cs) l .1 (subst (λ r. IsLine r l) (sym (row-of cs)) (line-exact l .1 h)),
+      );
+      sorted = planOf-sorted (map levelsOf cs);
+    }
 
-    -- and no other list in that order has just those
-    pub plan-of-log-only : (ls : List Line) → Sorted ls → ((l : Line) → List·Memᴰ l ls ↔ PlanLine cs l) → ls ≡ planOf (map levelsOf cs)
-    plan-of-log-only ls s h = planOf-only (map levelsOf cs) ls s (λ l. (λ m. planOf-exact (map levelsOf cs) l .0 (plan-of-log l .1 (h l .0 m)), λ m. h l .1 (plan-of-log l .0 (planOf-exact (map levelsOf cs) l .1 m))))
-
-    pub plan-of-log-bound : 2 ≤ length cs → length (planOf (map levelsOf cs)) + 3 ≤ 2 * length cs
-    plan-of-log-bound h =
-        rw (length-map cs levelsOf) at (planOf-bound (map levelsOf cs) (rw (row-of, length-map cs levelsOf) row-wellformed) (rw (length-map cs levelsOf) h))
+    pub log-bound : 2 ≤ length cs → joins (planOf (map levelsOf cs)) + 3 ≤ 2 * length cs
+    log-bound h = rw (length-map cs levelsOf) at (planOf-bound (map levelsOf cs) (rw (row-of cs, length-map cs levelsOf) row-wellformed) (rw (length-map cs levelsOf) h))

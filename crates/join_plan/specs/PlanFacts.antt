@@ -15,7 +15,7 @@ opens-not-above : (c : Levels) (d : ℕ) → Opens c d → Above c d → ⊥
 opens-not-above blank d o a = o
 opens-not-above (hill s p e) d o a = omega arith
 
-closes-not-above : (c : Levels) (d : ℕ) → Closes c d → Above c d → ⊥
+pub closes-not-above : (c : Levels) (d : ℕ) → Closes c d → Above c d → ⊥
 closes-not-above blank d o a = o
 closes-not-above (hill s p e) d o a = omega arith
 

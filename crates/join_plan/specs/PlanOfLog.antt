@@ -1,0 +1,38 @@
+-- THE PLAN OF A CUT LOG with no fault, from the summaries of its chunks: it is the plan by the records, it is short, and what it folds is counted. Assumes nothing.
+use Prim.Native.Nat.{ℕ, _+_, _*_, _≤_}
+use mathlib.Core.Path.{_≡_}
+use mathlib.Core.Logic.{_↔_}
+use mathlib.Core.List.{List, map, List·Memᴰ}
+use lib.ListN.{length}
+use Rattle.algebra.specs.Algebra.{Algebra, Laws}
+use Rattle.hill.specs.Verdict.{pass}
+use Rattle.hill.specs.Log.{Record, logFault}
+use Rattle.hill.specs.Summary.{summaryOf}
+use Rattle.hill.specs.Row.{joined}
+use Rattle.join_plan.specs.Plan.{Line, levelsOfSummary, planOf, joins, folded}
+use Rattle.join_plan.specs.ByRecords.{PlanLine, IsPlan, Crossing, Tally}
+use Rattle.join_plan.specs.ScanExact.{sorted-unique}
+use Rattle.join_plan.specs.LogLevels.{log-well-formed, levels-of-log}
+use Rattle.join_plan.specs.LogPlan.{log-plan, log-bound}
+use Rattle.join_plan.specs.LogFolded.{folded-crossing}
+
+-- the plan of a cut log is one list
+pub plan-unique : {R : Type 0} (cs : List (List (Record R))) (ls ms : List Line) → IsPlan cs ls → IsPlan cs ms → ls ≡ ms
+plan-unique cs ls ms a b = sorted-unique ls ms (a .sorted) (b .sorted) (λ l. (λ m. b .lines l .1 (a .lines l .0 m), λ m. a .lines l .1 (b .lines l .0 m)))
+
+module _ {R : Type 0} (𝒜 : Algebra R) (ℒ : Laws 𝒜) (cs : List (List (Record R))) (v : logFault (joined cs) ≡ pass) where
+  -- just the lines that the records say, in order
+  pub plan-of-log : IsPlan cs (planOf (map levelsOfSummary (map (summaryOf 𝒜) cs)))
+  plan-of-log = rw (levels-of-log 𝒜 ℒ cs v) (log-plan cs (log-well-formed (joined cs) v))
+
+  -- and any list of just those lines in that order is it
+  pub plan-only : (ls : List Line) → IsPlan cs ls → ls ≡ planOf (map levelsOfSummary (map (summaryOf 𝒜) cs))
+  plan-only ls h = plan-unique cs ls (planOf (map levelsOfSummary (map (summaryOf 𝒜) cs))) h plan-of-log
+
+  -- of P ≥ 2 chunks at most 2 P - 3 lines
+  pub plan-few : 2 ≤ length cs → joins (planOf (map levelsOfSummary (map (summaryOf 𝒜) cs))) + 3 ≤ 2 * length cs
+  plan-few h = rw (levels-of-log 𝒜 ℒ cs v) (log-bound cs (log-well-formed (joined cs) v) h)
+
+  -- the levels folded: as many as there are records that are closed in another chunk than the one that opened them
+  pub plan-folds : Tally (Crossing cs) (length (joined cs)) (folded (planOf (map levelsOfSummary (map (summaryOf 𝒜) cs))))
+  plan-folds = rw (levels-of-log 𝒜 ℒ cs v) (folded-crossing cs (log-well-formed (joined cs) v))
