@@ -1,16 +1,15 @@
 -- A row of summaries that the gate lets through: its hills meet, and it begins and ends at level 0. Assumes nothing.
-use Prim.Native.Nat.{ℕ, zero, suc, _+_, _*_, _≤_, _<_, min}
+use Prim.Native.Nat.{ℕ, zero, suc, _+_, _*_, _≤_, _<_}
 use mathlib.Core.Path.{_≡_, refl, sym, ap, _∙_}
 use mathlib.Core.List.{List, [], _∷_, map}
 use native.Mathlib.Omega.{arith}
 use lib.ListN.{length, length-map}
 use Rattle.algebra.specs.Algebra.{Algebra}
-use Rattle.hill.specs.Hill.{Hill, merge}
 use Rattle.hill.specs.Verdict.{Verdict, pass, refuse, low, between, count, ends, low-fst, low-snd, between-pass, ends-pass, refuse-pass}
 use Rattle.hill.specs.Summary.{Part, Summary, blank as blankSummary, part, spoilt, whole, rise, fall, middle, verdict, start, end, slopes, make, mergeDraft, mergePart, mergeSummary, rise-merge, fall-merge}
-use Rattle.hill.specs.Finish.{Outcome, figure, refused, outcome, finishOf}
+use Rattle.hill.specs.Finish.{figure, outcome, finishOf}
 use Rattle.hill.specs.Row.{mergeAll}
-use Rattle.join_plan.specs.Plan.{Levels, blank, hill, rowOf, planOf, joins, levelsOfSummary}
+use Rattle.join_plan.specs.Plan.{Levels, rowOf, planOf, joins, levelsOfSummary}
 use Rattle.join_plan.specs.Joins.{after, levelAt, Meets, WellFormed}
 use Rattle.join_plan.specs.PlanBound.{planOf-bound}
 

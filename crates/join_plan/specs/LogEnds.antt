@@ -1,24 +1,33 @@
 -- The last line of the plan is that of the record which the log begins with; with no line, all records are in one chunk. Assumes nothing.
 use Prim.Native.Nat.{ℕ, suc, _-_, _≤_, _<_}
 use mathlib.Core.Path.{_≡_, refl, sym, ap, _∙_, subst}
-use mathlib.Core.Logic.{_⊎_, inl, inr, _≢_, dite}
-use mathlib.Core.List.{List, [], _∷_, _++_, map, List·Memᴰ, List·Memᴰ·head}
+use mathlib.Core.Logic.{_⊎_, inl, inr, ⊎-elim, _≢_, dite}
+use mathlib.Core.List.{List, [], _∷_, _++_, map, List·Memᴰ, List·Memᴰ·head, List·Memᴰ·tail, List·Memᴰ·not-nil, List·Memᴰ·cases-cons}
 use native.Mathlib.Decide.{decLt}
 use native.Mathlib.Omega.{arith}
 use lib.ListN.{length, length-append}
-use Rattle.join_plan.specs.Plan.{Line, rowOf, Before}
-use Rattle.join_plan.specs.Plan.{planOf}
+use Rattle.join_plan.specs.Plan.{Line, rowOf, Before, Sorted, planOf}
 use Rattle.join_plan.specs.Joins.{Joins}
-use Rattle.join_plan.specs.ScanExact.{line-unique}
+use Rattle.join_plan.specs.ScanExact.{before-asym, line-unique}
 use Rattle.join_plan.specs.PlanExact.{planOf-exact, planOf-sorted, planOf-some}
-use Rattle.join_plan.specs.PlanFacts.{last-line}
-use Rattle.hill.specs.Log.{Record, opening, closing, depth, startLevel, endLevel}
+use Rattle.hill.specs.Log.{Record, opening, closing, startLevel, endLevel}
 use Rattle.hill.specs.Closing.{at, OpensAt, ClosedBy}
 use Rattle.hill.specs.Row.{joined}
 use Rattle.join_plan.specs.ByRecords.{place, InChunk, Joined}
 use Rattle.join_plan.specs.LogLevels.{levelBefore, WellFormedLog, levelsOf}
 use Rattle.join_plan.specs.LogJoins.{place-le, joins-exact}
 use Rattle.join_plan.specs.LogPlan.{log-plan, row-of}
+
+-- the line that all others of a sorted list stand before is its last
+last-line : (ls : List Line) (l : Line) → Sorted ls → List·Memᴰ l ls → ((y : Line) → List·Memᴰ y ls → (y ≡ l) ⊎ Before y l) → (init : List Line) × (ls ≡ init ++ (l ∷ []))
+last-line [] l s m h = absurd (List·Memᴰ·not-nil m)
+last-line (x ∷ ls) l s m h = ⊎-elim (head ls s h) (λ k. let (init, e) = last-line ls l (s .1) k (λ y z. h y (List·Memᴰ·tail z)) in (x ∷ init, ap (λ v. x ∷ v) e)) (List·Memᴰ·cases-cons m)
+  where
+    head : (ls : List Line) → Sorted (x ∷ ls) → ((y : Line) → List·Memᴰ y (x ∷ ls) → (y ≡ l) ⊎ Before y l) → l ≡ x → (init : List Line) × (x ∷ ls ≡ init ++ (l ∷ []))
+    head [] s h e = ([], ap (λ v. v ∷ []) (sym e))
+    head (y ∷ ls) s h e =
+        let b : Before l y = subst (λ v. Before v y) (sym e) (s .0 y (List·Memᴰ·head refl)) in
+        absurd (⊎-elim (λ f. let c : Before l l = subst (λ v. Before l v) f b in before-asym l l c c) (λ c. before-asym l y b c) (h y (List·Memᴰ·tail (List·Memᴰ·head refl))))
 
 module _ {R : Type 0} where
   -- a record from level 0, and one to level 0
@@ -73,16 +82,16 @@ module _ {R : Type 0} where
           (chunk-order f (l .i) 0 p u x (omega arith), h .apart, chunk-order (l .j) j q n y v (omega (arith, c .inside)))
 
       -- all records in one chunk: there is no line
-      pub plan-none : f ≡ j → planOf (map levelsOf cs) ≡ []
-      plan-none z = go (planOf (map levelsOf cs)) line-ends
+      pub log-none : f ≡ j → planOf (map levelsOf cs) ≡ []
+      log-none z = go (planOf (map levelsOf cs)) line-ends
         where
           go : (ls : List Line) → ((l : Line) → List·Memᴰ l ls → (f ≤ l .i) × (l .i < l .j) × (l .j ≤ j)) → ls ≡ []
           go [] h = refl
           go (l ∷ ls) h = absurd (omega (arith, h l (List·Memᴰ·head refl)))
 
       -- else the last line is from the first record's chunk to the last record's, with lowest depth 0
-      pub plan-last : f ≢ j → (init : List Line) × (l : Line) × (planOf (map levelsOf cs) ≡ init ++ (l ∷ [])) × (l .i ≡ f) × (l .j ≡ j) × (l .lowest ≡ 0)
-      plan-last z =
+      pub log-last : f ≢ j → (init : List Line) × (l : Line) × (planOf (map levelsOf cs) ≡ init ++ (l ∷ [])) × (l .i ≡ f) × (l .j ≡ j) × (l .lowest ≡ 0)
+      log-last z =
           let c : Joined cs f j 0 = (0, n, u, v, whole-closed n e) in
           let b : f < j = omega (arith, chunk-order f j 0 n u v (omega arith)) in
           let (l, m, x, y) = planOf-some (map levelsOf cs) f j 0 (subst (λ r. Joins r f j 0) (sym (row-of cs)) (joins-exact cs w f j 0 .1 (b, c))) in

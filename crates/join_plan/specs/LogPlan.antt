@@ -2,11 +2,10 @@
 use Prim.Native.Nat.{ℕ, zero, suc, _+_, _*_, _≤_, _<_}
 use mathlib.Core.Path.{_≡_, refl, sym, ap, _∙_, subst, fun-ext}
 use mathlib.Core.Logic.{_↔_}
-use mathlib.Core.List.{List, [], _∷_, map, List·Memᴰ}
+use mathlib.Core.List.{List, [], _∷_, map}
 use native.Mathlib.Omega.{arith}
 use lib.ListN.{length, length-append, length-map, List·getD-map}
-use Rattle.join_plan.specs.Plan.{Levels, blank, hill, Line, rowOf, Sorted}
-use Rattle.join_plan.specs.Plan.{planOf, joins}
+use Rattle.join_plan.specs.Plan.{Levels, blank, hill, Line, rowOf, planOf, joins}
 use Rattle.join_plan.specs.Joins.{Joins, IsLine, after, levelAt, Meets, WellFormed}
 use Rattle.join_plan.specs.PlanExact.{planOf-exact, planOf-sorted}
 use Rattle.join_plan.specs.PlanBound.{planOf-bound}

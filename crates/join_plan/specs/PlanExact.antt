@@ -6,15 +6,15 @@ use mathlib.Core.Bool.{Bool, true, false, not, _&&_, cond, and-eq-true-iff, fals
 use mathlib.Core.List.{List, [], _∷_, _++_, append-assoc, append-nil, List·Memᴰ, flatMap}
 use native.Mathlib.Decide.{decLt}
 use native.Mathlib.Omega.{arith}
-use lib.ListN.{length, take, drop}
+use lib.ListN.{length, take}
 use lib.Dec.{leb, ltb}
 use borrow.Author.Tests.{leb-true, le-leb, ltb-true, lt-ltb}
 use Rattle.join_plan.specs.Plan.{Levels, blank, hill, Line, leftOpen, closesEarlier, belowPeaks, rowOf, chunksBetween, upTo, downFrom, select, depthsJoined, lastOf, lineFor, planOf, Sorted}
 use Rattle.join_plan.specs.Scan.{lineIf, lineOf, passed, walk, linesTo, plan, scanOf}
-use Rattle.join_plan.specs.Joins.{Opens, Closes, Above, LeftOpen, Joins, IsLine, levelAt, Meets}
+use Rattle.join_plan.specs.Joins.{Opens, Closes, Above, Joins, IsLine, levelAt, Meets}
 use Rattle.join_plan.specs.ScanExact.{Within, passed-iff, scanOf-exact, scanOf-some, scanOf-sorted, scanOf-only}
-use Rattle.join_plan.specs.PlanFacts.{walk-stop, closes-not-above}
-use Rattle.join_plan.specs.RowLevels.{joins-of-low}
+use Rattle.join_plan.specs.PlanFacts.{walk-stop}
+use Rattle.join_plan.specs.RowLevels.{closes-not-above, joins-of-low}
 
 -- what the tests say
 interval : (a d b : ℕ) → (leb a d && ltb d b ≡ true) ↔ ((a ≤ d) × (d < b))

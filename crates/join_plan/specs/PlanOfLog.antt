@@ -1,8 +1,8 @@
 -- THE PLAN OF A CUT LOG with no fault, from the summaries of its chunks: it is the plan by the records, it is short, and what it folds is counted. Assumes nothing.
-use Prim.Native.Nat.{ℕ, _+_, _*_, _≤_}
+use Prim.Native.Nat.{ℕ, suc, _+_, _*_, _≤_}
 use mathlib.Core.Path.{_≡_}
-use mathlib.Core.Logic.{_↔_}
-use mathlib.Core.List.{List, map, List·Memᴰ}
+use mathlib.Core.Logic.{_≢_}
+use mathlib.Core.List.{List, [], _∷_, _++_, map}
 use lib.ListN.{length}
 use Rattle.algebra.specs.Algebra.{Algebra, Laws}
 use Rattle.hill.specs.Verdict.{pass}
@@ -10,11 +10,12 @@ use Rattle.hill.specs.Log.{Record, logFault}
 use Rattle.hill.specs.Summary.{summaryOf}
 use Rattle.hill.specs.Row.{joined}
 use Rattle.join_plan.specs.Plan.{Line, levelsOfSummary, planOf, joins, folded}
-use Rattle.join_plan.specs.ByRecords.{PlanLine, IsPlan, Crossing, Tally}
+use Rattle.join_plan.specs.ByRecords.{InChunk, IsPlan, Crossing, Tally}
 use Rattle.join_plan.specs.ScanExact.{sorted-unique}
 use Rattle.join_plan.specs.LogLevels.{log-well-formed, levels-of-log}
 use Rattle.join_plan.specs.LogPlan.{log-plan, log-bound}
 use Rattle.join_plan.specs.LogFolded.{folded-crossing}
+use Rattle.join_plan.specs.LogEnds.{log-none, log-last}
 
 -- the plan of a cut log is one list
 pub plan-unique : {R : Type 0} (cs : List (List (Record R))) (ls ms : List Line) → IsPlan cs ls → IsPlan cs ms → ls ≡ ms
@@ -36,3 +37,11 @@ module _ {R : Type 0} (𝒜 : Algebra R) (ℒ : Laws 𝒜) (cs : List (List (Rec
   -- the levels folded: as many as there are records that are closed in another chunk than the one that opened them
   pub plan-folds : Tally (Crossing cs) (length (joined cs)) (folded (planOf (map levelsOfSummary (map (summaryOf 𝒜) cs))))
   plan-folds = rw (levels-of-log 𝒜 ℒ cs v) (folded-crossing cs (log-well-formed (joined cs) v))
+
+  -- where the first record and the last, at place n, stand in chunks f and j: if these are one, there is no line; else the last line is theirs, from depth 0 on
+  module _ (n f j : ℕ) (e : length (joined cs) ≡ suc n) (x : InChunk cs f 0) (y : InChunk cs j n) where
+    pub plan-none : f ≡ j → planOf (map levelsOfSummary (map (summaryOf 𝒜) cs)) ≡ []
+    plan-none h = rw (levels-of-log 𝒜 ℒ cs v) (log-none cs (log-well-formed (joined cs) v) n f j e x y h)
+
+    pub plan-last : f ≢ j → (init : List Line) × (l : Line) × (planOf (map levelsOfSummary (map (summaryOf 𝒜) cs)) ≡ init ++ (l ∷ [])) × (l .i ≡ f) × (l .j ≡ j) × (l .lowest ≡ 0)
+    plan-last h = rw (levels-of-log 𝒜 ℒ cs v) (log-last cs (log-well-formed (joined cs) v) n f j e x y h)
