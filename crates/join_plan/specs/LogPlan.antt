@@ -63,16 +63,18 @@ module _ {R : Type 0} where
         there : IsLine (rowOfChunks cs) l → PlanLine cs l
         there h =
             let a = h .depths (l .lowest) .1 (omega (arith, h .some)) in
-            record { apart = a .0 .before; low = J (l .lowest) .0 a .1; high = J (l .highest) .0 (h .depths (l .highest) .1 (omega (arith, h .some))) .1; within = λ d x. h .depths d .0 (J d .1 (a .0 .before, x)) }
+            record { apart = omega (arith, a .0 .before); low = J (l .lowest) .0 a .1; high = J (l .highest) .0 (h .depths (l .highest) .1 (omega (arith, h .some))) .1; within = λ d x. h .depths d .0 (J d .1 (a .0 .before, x)) }
 
         back : PlanLine cs l → IsLine (rowOfChunks cs) l
-        back h = record {
-          some = omega (arith, h .within (l .highest) (h .high));
-          depths = λ d. (
-            λ x. h .within d (J d .0 x .1),
-            λ x. joins-convex (rowOfChunks cs) (l .i) (l .j) (l .lowest) (l .highest) d (J (l .lowest) .1 (h .apart, h .low)) (J (l .highest) .1 (h .apart, h .high)) (x .0) (x .1),
-          );
-        }
+        back h =
+            let b : l .i < l .j = omega (arith, h .apart) in
+            record {
+              some = omega (arith, h .within (l .highest) (h .high));
+              depths = λ d. (
+                λ x. h .within d (J d .0 x .1),
+                λ x. joins-convex (rowOfChunks cs) (l .i) (l .j) (l .lowest) (l .highest) d (J (l .lowest) .1 (b, h .low)) (J (l .highest) .1 (b, h .high)) (x .0) (x .1),
+              );
+            }
 
     -- so the plan by the chunks' levels is the plan by the records
     pub log-plan : IsPlan cs (planOf (map levelsOf cs))
