@@ -5,7 +5,7 @@ use mathlib.Core.List.{List, [], _∷_, map, flatMap}
 use Rattle.hill.specs.Verdict.{between, count}
 use Rattle.hill.specs.Log.{Record, opening, closing}
 use Rattle.hill.specs.Summary.{summaryOf}
-use Rattle.hill.specs.Tree.{free}
+use Rattle.hill.specs.TreeLaws.{free}
 use Rattle.join_plan.specs.Plan.{Levels, blank, hill, levelsOfSummary, Line, upTo, downFrom, select, leftOpen, depthsJoined, lineFor, planOf, folded}
 
 abbrev line : (i j lowest highest : ℕ) → Line

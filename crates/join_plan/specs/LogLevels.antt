@@ -5,11 +5,15 @@ use mathlib.Core.List.{List, [], _∷_, map}
 use native.Mathlib.Omega.{arith}
 use lib.ListN.{length, getD}
 use Rattle.algebra.specs.Algebra.{Algebra, Laws}
-use Rattle.hill.specs.Verdict.{Verdict, pass, refuse-pass, low-fst, low-snd, between, between-pass, between-high, count, ends, ends-pass}
+use Rattle.hill.specs.Verdict.{Verdict, pass, between, count, ends}
+use Rattle.hill.specs.VerdictLaws.{refuse-pass, low-fst, low-snd, between-pass, between-high, ends-pass}
 use Rattle.hill.specs.Log.{Record, startLevel, endLevel, endOf, peakOf, openedOf, joints, faultOf, logFault}
 use Rattle.hill.specs.Closing.{at}
-use Rattle.hill.specs.Summary.{Part, part, spoilt, whole, verdict, start, end, peak, partOf, summaryOf, verdict-partOf, levels}
-use Rattle.hill.specs.Row.{joined, mergeAll, mergeAll-summaries}
+use Rattle.hill.specs.Summary.{Part, blank as blankSummary, part, spoilt, whole, verdict, start, end, partOf, summaryOf}
+use Rattle.hill.specs.Merge.{peak, mergeSummary}
+use Rattle.hill.specs.SummaryLaws.{verdict-partOf, levels}
+use Rattle.hill.specs.Row.{joined}
+use Rattle.hill.specs.RowLaws.{inOrder, mergeRow-inOrder, mergeRow-summaries}
 use Rattle.join_plan.specs.Plan.{Levels, blank, hill, levelsOfSummary}
 use Rattle.join_plan.specs.Gate.{summaryFault, fault-parts}
 
@@ -92,11 +96,13 @@ module _ {R : Type 0} where
           let p : peak 𝒜 (partOf 𝒜 x xs) ≡ peakOf x xs = rw v refl in
           part-levels (partOf 𝒜 x xs) (verdict-partOf 𝒜 x xs ∙ v) ∙ (λ k. hill (s k) (p k) (e k))
 
-      levels-of-quiet : (cs : List (List (Record R))) → summaryFault 𝒜 (mergeAll 𝒜 (map (summaryOf 𝒜) cs)) ≡ pass → map levelsOfSummary (map (summaryOf 𝒜) cs) ≡ map levelsOf cs
+      levels-of-quiet : (cs : List (List (Record R))) → summaryFault 𝒜 (inOrder (mergeSummary 𝒜) blankSummary (map (summaryOf 𝒜) cs)) ≡ pass → map levelsOfSummary (map (summaryOf 𝒜) cs) ≡ map levelsOf cs
       levels-of-quiet [] v = refl
       levels-of-quiet (c ∷ cs) v =
-          let (a, b) = fault-parts 𝒜 (summaryOf 𝒜 c) (mergeAll 𝒜 (map (summaryOf 𝒜) cs)) v in
+          let (a, b) = fault-parts 𝒜 (summaryOf 𝒜 c) (inOrder (mergeSummary 𝒜) blankSummary (map (summaryOf 𝒜) cs)) v in
           rw (levels-of-chunk c (sym (fault-summary c) ∙ a), levels-of-quiet cs b)
 
       pub levels-of-log : (cs : List (List (Record R))) → logFault (joined cs) ≡ pass → map levelsOfSummary (map (summaryOf 𝒜) cs) ≡ map levelsOf cs
-      levels-of-log cs v = levels-of-quiet cs (ap (summaryFault 𝒜) (mergeAll-summaries 𝒜 ℒ cs) ∙ fault-summary (joined cs) ∙ log-quiet (joined cs) v)
+      levels-of-log cs v =
+          levels-of-quiet cs
+          (ap (summaryFault 𝒜) (sym (mergeRow-inOrder 𝒜 ℒ (map (summaryOf 𝒜) cs)) ∙ mergeRow-summaries 𝒜 ℒ cs) ∙ fault-summary (joined cs) ∙ log-quiet (joined cs) v)
