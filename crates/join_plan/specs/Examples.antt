@@ -6,7 +6,7 @@ use Rattle.hill.specs.Verdict.{between, count}
 use Rattle.hill.specs.Log.{Record, opening, closing}
 use Rattle.hill.specs.Summary.{summaryOf}
 use Rattle.hill.specs.TreeLaws.{free}
-use Rattle.join_plan.specs.Plan.{Levels, blank, hill, levelsOfSummary, Line, upTo, downFrom, select, leftOpen, depthsJoined, lineFor, planOf, folded}
+use Rattle.join_plan.specs.Plan.{Levels, blank, hill, Line, upTo, downFrom, select, leftOpen, depthsJoined, lineFor, planOf, folded, planOfRow}
 
 abbrev line : (i j lowest highest : ℕ) → Line
 line i j lowest highest = record { i = i; j = j; lowest = lowest; highest = highest }
@@ -15,7 +15,7 @@ line i j lowest highest = record { i = i; j = j; lowest = lowest; highest = high
 abbrev D : List (List (Record ℕ))
 D = (opening 0 0 ∷ opening 1 1 ∷ []) ∷ (closing 1 ∷ opening 1 3 ∷ closing 1 ∷ closing 0 ∷ []) ∷ []
 
-pub D-plan : planOf (map levelsOfSummary (map (summaryOf (free ℕ)) D)) ≡ line 0 1 0 1 ∷ []
+pub D-plan : planOfRow (map (summaryOf (free ℕ)) D) ≡ line 0 1 0 1 ∷ []
 unfolding between count planOf flatMap upTo downFrom select leftOpen depthsJoined lineFor
 D-plan = refl
 

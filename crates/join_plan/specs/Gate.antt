@@ -14,7 +14,7 @@ use Rattle.hill.specs.SummaryLaws.{start-merge, end-merge}
 use Rattle.hill.specs.Finish.{outcome, finishOf}
 use Rattle.hill.specs.Row.{mergeRow}
 use Rattle.hill.specs.RowLaws.{inOrder, mergeRow-inOrder}
-use Rattle.join_plan.specs.Plan.{Levels, rowOf, planOf, joins, levelsOfSummary}
+use Rattle.join_plan.specs.Plan.{Levels, rowOf, joins, levelsOfSummary, planOfRow}
 use Rattle.join_plan.specs.Joins.{after, levelAt, Meets, WellFormed}
 use Rattle.join_plan.specs.PlanBound.{planOf-bound}
 
@@ -129,7 +129,7 @@ module _ {R : Type 0} (𝒜 : Algebra R) where
             rw (← length-map sums levelsOfSummary) (follow-row (map levelsOfSummary sums) f (g ∙ t))
 
     -- AT MOST 2 P - 3 LINES, for every row of P ≥ 2 summaries that the gate lets through, also of bytes that no chunk makes
-    pub gate-bound : (sums : List (Summary Fig R)) (w : Fig) → finishOf 𝒜 (mergeRow 𝒜 sums) ≡ result w → 2 ≤ length sums → joins (planOf (map levelsOfSummary sums)) + 3 ≤ 2 * length sums
+    pub gate-bound : (sums : List (Summary Fig R)) (w : Fig) → finishOf 𝒜 (mergeRow 𝒜 sums) ≡ result w → 2 ≤ length sums → joins (planOfRow sums) + 3 ≤ 2 * length sums
     gate-bound sums w e h =
         rw (length-map sums levelsOfSummary) at
         (planOf-bound (map levelsOfSummary sums) (rw (length-map sums levelsOfSummary) (gate-row sums w e)) (rw (length-map sums levelsOfSummary) h))

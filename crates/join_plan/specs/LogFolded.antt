@@ -21,14 +21,6 @@ use Rattle.join_plan.specs.LogPlan.{place-all, level-place, row-meets, r
 tally-cast : (P : ℕ → Type 0) (m n c d : ℕ) → m ≡ n → c ≡ d → Tally P m c → Tally P n d
 tally-cast P m n c d e f t = subst (λ v. Tally P v d) e (subst (λ v. Tally P m v) f t)
 
--- a tally is one number
-pub tally-unique : (P : ℕ → Type 0) (n c d : ℕ) → Tally P n c → Tally P n d → c ≡ d
-tally-unique P zero c d s t = omega arith
-tally-unique P (suc n) c d (inl s) (inl t) = omega (arith, s .1 .1, t .1 .1, tally-unique P n (s .1 .0) (t .1 .0) (s .1 .2) (t .1 .2))
-tally-unique P (suc n) c d (inl s) (inr t) = absurd (t .0 (s .0))
-tally-unique P (suc n) c d (inr s) (inl t) = absurd (s .0 (t .0))
-tally-unique P (suc n) c d (inr s) (inr t) = tally-unique P n c d (s .1) (t .1)
-
 module _ {R : Type 0} where
   -- the lowest level that the k records from a reach
   low : (ℕ → Record R) → (a k : ℕ) → ℕ

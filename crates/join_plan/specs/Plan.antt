@@ -3,7 +3,7 @@ use Prim.Native.Nat.{ℕ, zero, suc, _+_, _-_, _<_}
 use mathlib.Core.Path.{_≡_}
 use mathlib.Core.Logic.{_⊎_}
 use mathlib.Core.Bool.{Bool, true, false, _&&_, cond}
-use mathlib.Core.List.{List, [], _∷_, _++_, List·Memᴰ, flatMap}
+use mathlib.Core.List.{List, [], _∷_, _++_, map, List·Memᴰ, flatMap}
 use lib.ListN.{length, getD, take, drop}
 use lib.Dec.{leb, ltb}
 use Rattle.hill.specs.Summary.{Summary, blank as blankSummary, part, spoilt, whole, rise, fall}
@@ -79,6 +79,10 @@ lineFor i j (d ∷ ds) = record { i = i; j = j; lowest = d; highest = lastOf d d
 -- THE PLAN: "lines go by rising j, then falling i"
 unfoldable pub planOf : List Levels → List Line
 planOf row = flatMap (λ j. flatMap (λ i. lineFor i j (depthsJoined row i j)) (downFrom j)) (upTo (length row))
+
+-- the plan of a row of summaries
+abbrev pub planOfRow : {Fig R : Type 0} → List (Summary Fig R) → List Line
+planOfRow row = planOf (map levelsOfSummary row)
 
 -- "the joins used (its lines)", and "the number of levels folded, the sum of highest - lowest + 1 over the plan"
 abbrev pub joins : List Line → ℕ

@@ -12,7 +12,7 @@ use borrow.Author.Tests.{leb-true, le-leb, ltb-true, lt-ltb}
 use Rattle.join_plan.specs.Plan.{Levels, blank, hill, Line, leftOpen, closesEarlier, belowPeaks, rowOf, chunksBetween, upTo, downFrom, select, depthsJoined, lastOf, lineFor, planOf, Sorted}
 use Rattle.join_plan.specs.Scan.{lineIf, lineOf, passed, walk, linesTo, plan, scanOf}
 use Rattle.join_plan.specs.Joins.{Opens, Closes, Above, Joins, IsLine, levelAt, Meets}
-use Rattle.join_plan.specs.ScanExact.{Within, passed-iff, scanOf-exact, scanOf-some, scanOf-sorted, scanOf-only}
+use Rattle.join_plan.specs.ScanExact.{Within, passed-iff, closes-inside, scanOf-exact, scanOf-some, scanOf-sorted, scanOf-only}
 use Rattle.join_plan.specs.PlanFacts.{walk-stop}
 use Rattle.join_plan.specs.RowLevels.{closes-not-above, joins-of-low}
 
@@ -195,6 +195,13 @@ module _ (row : List Levels) where
   pub planOf-exact : (l : Line) → List·Memᴰ l (planOf row) ↔ IsLine (rowOf row) l
   planOf-exact l = rw planOf-scan (scanOf-exact row l)
 
+  -- the numbers of a line are in range: chunks of the row, and depths that chunk i leaves open
+  pub planOf-range : (l : Line) → List·Memᴰ l (planOf row) → (l .i < l .j) × (l .j < length row) × (l .lowest ≤ l .highest) × Opens (rowOf row (l .i)) (l .highest)
+  planOf-range l m =
+      let h = planOf-exact l .0 m in
+      let (o, c) = h .depths (l .highest) .1 (omega (arith, h .some)) in
+      (o .before, closes-inside row (l .j) (l .highest) c, h .some, o .opens)
+
   -- each join has a line
   pub planOf-some : (i j d : ℕ) → Joins (rowOf row) i j d → (l : Line) × List·Memᴰ l (planOf row) × (l .i ≡ i) × (l .j ≡ j)
   planOf-some i j d h = rw planOf-scan (scanOf-some row i j d h)
@@ -207,7 +214,8 @@ module _ (row : List Levels) where
   pub planOf-only : (ls : List Line) → Sorted ls → ((l : Line) → List·Memᴰ l ls ↔ IsLine (rowOf row) l) → ls ≡ planOf row
   planOf-only ls s h = scanOf-only row ls s h ∙ sym planOf-scan
 
--- On a row that meets, a depth left open by chunk i that no chunk between closes is closed in j exactly if it is not below j's peak: document 01's set.
+-- On a row that meets, a record left open by chunk i that no chunk between closes is closed in j exactly if its depth is not below j's peak: there the
+-- plan's test `d < start` says nothing more.
 pub start-implied : (row : List Levels) → ((k : ℕ) → k < length row → Meets (rowOf row k) (levelAt (rowOf row) k)) → (i j d : ℕ) → i < j → j < length row →
     Opens (rowOf row i) d → belowPeaks (chunksBetween row i j) d ≡ true → closesEarlier (rowOf row j) d ≡ not (belowPeaks (rowOf row j ∷ []) d)
 start-implied row meets i j d b c o e = go (closesEarlier (rowOf row j) d) refl (belowPeaks (rowOf row j ∷ []) d) refl

@@ -1,4 +1,4 @@
--- A loop may stop early. Assumes nothing.
+-- The scan for one chunk may stop where no depth is left, so a loop may. Assumes nothing.
 use Prim.Native.Nat.{ℕ, zero, suc, _≤_, _<_, min, max}
 use mathlib.Core.Path.{_≡_, refl}
 use mathlib.Core.List.{[], _++_}
@@ -8,7 +8,6 @@ use Rattle.join_plan.specs.Plan.{Levels, blank, hill}
 use Rattle.join_plan.specs.Scan.{lineIf, lineOf, passed, walk}
 
 module _ (row : ℕ → Levels) where
-  -- the walk may stop where no depth is left
   pub walk-stop : (j p m n : ℕ) → m ≤ p → walk row j p m n ≡ []
   unfolding walk lineOf lineIf passed
   walk-stop j p m zero h = refl

@@ -228,7 +228,7 @@ sorted-unique (x ∷ a) (y ∷ b) s t h = λ k. heads k ∷ sorted-unique a b (s
     tails z = (λ m. step x y a b heads (s .0) z m (h z .0 (List·Memᴰ·tail m)), λ m. step y x b a (sym heads) (t .0) z m (h z .1 (List·Memᴰ·tail m)))
 
 module _ (row : List Levels) where
-  closes-inside : (j d : ℕ) → Closes (rowOf row j) d → j < length row
+  pub closes-inside : (j d : ℕ) → Closes (rowOf row j) d → j < length row
   closes-inside j d c = dite (decLt j (length row)) (λ h. h) (λ h. absurd (subst (λ c. Closes c d) (List·getD-eq-default row blank (omega arith)) c))
 
   -- a line is in the plan exactly if its chunks are joined, in just its depths
