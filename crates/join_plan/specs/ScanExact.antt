@@ -1,5 +1,5 @@
 -- The plan holds the lines that it should, in order. Assumes nothing.
-use Prim.Native.Nat.{ℕ, zero, suc, _+_, _≤_, _<_, min, max}
+use Prim.Native.Nat.{ℕ, zero, suc, _≤_, _<_, min, max}
 use mathlib.Core.Path.{_≡_, refl, sym, _∙_, subst}
 use mathlib.Core.Logic.{inl, inr, ⊎-elim, _↔_, dite}
 use mathlib.Core.List.{List, [], _∷_, _++_, List·Memᴰ, List·Memᴰ·head, List·Memᴰ·tail, Memᴰ·cast, Memᴰ·append-left, Memᴰ·append-right}
@@ -7,13 +7,15 @@ use mathlib.Core.List.{List·Memᴰ·append-cases, List·Memᴰ·eq-of-singleton
 use native.Mathlib.Decide.{decLt}
 use native.Mathlib.Omega.{arith}
 use lib.ListN.{length, List·getD-eq-default}
-use Rattle.join_plan.specs.Row.{Levels, blank, hill, Opens, Closes, Above, LeftOpen, Joins, Line, lineIf, lineOf, passed, walk, linesTo, plan, rowOf, scanOf, For, IsLine, Before, Sorted}
+use Rattle.join_plan.specs.Plan.{Levels, blank, hill, Line, rowOf, Before, Sorted}
+use Rattle.join_plan.specs.Scan.{lineIf, lineOf, passed, walk, linesTo, plan, scanOf}
+use Rattle.join_plan.specs.Joins.{Opens, Closes, Above, LeftOpen, Joins, For, IsLine}
 
 for-iff : (D E : ℕ → Type 0) (l : Line) → ((d : ℕ) → D d ↔ E d) → For D l → For E l
 for-iff D E l e f = record { some = f .some; depths = λ d. (λ x. f .depths d .0 (e d .1 x), λ x. e d .0 (f .depths d .1 x)) }
 
 -- the depths from p to below m
-abbrev Within : (p m d : ℕ) → Type 0
+abbrev pub Within : (p m d : ℕ) → Type 0
 Within p m d = (p ≤ d) × (d < m)
 
 lineOf-sound : (c : Levels) (i j p m : ℕ) (l : Line) → List·Memᴰ l (lineOf c i j p m) → (l .i ≡ i) × (l .j ≡ j) × For (λ d. Opens c d × Within p m d) l
@@ -38,7 +40,7 @@ lineOf-complete (hill s q e) i j p m d o w = go (decLt (max q p) (min e m))
     go (yes y) = (_, List·Memᴰ·head refl)
 
 -- below the bound once c is passed: below the bound, and c closes no record so deep
-passed-iff : (c : Levels) (m d : ℕ) → (d < passed c m) ↔ ((d < m) × Above c d)
+pub passed-iff : (c : Levels) (m d : ℕ) → (d < passed c m) ↔ ((d < m) × Above c d)
 unfolding passed
 passed-iff blank m d = (λ h. (h, tt), λ h. h .0)
 passed-iff (hill s p e) m d = (λ h. omega arith, λ h. omega arith)
@@ -208,7 +210,7 @@ before-asym x y (inr a) (inl b) = omega arith
 before-asym x y (inr a) (inr b) = omega arith
 
 -- two sorted lists with the same members are one
-sorted-unique : (a b : List Line) → Sorted a → Sorted b → ((x : Line) → List·Memᴰ x a ↔ List·Memᴰ x b) → a ≡ b
+pub sorted-unique : (a b : List Line) → Sorted a → Sorted b → ((x : Line) → List·Memᴰ x a ↔ List·Memᴰ x b) → a ≡ b
 sorted-unique [] [] s t h = refl
 sorted-unique [] (y ∷ b) s t h = absurd (List·Memᴰ·not-nil (h y .1 (List·Memᴰ·head refl)))
 sorted-unique (x ∷ a) [] s t h = absurd (List·Memᴰ·not-nil (h x .0 (List·Memᴰ·head refl)))
@@ -226,7 +228,7 @@ sorted-unique (x ∷ a) (y ∷ b) s t h = λ k. heads k ∷ sorted-unique a b (s
     tails z = (λ m. step x y a b heads (s .0) z m (h z .0 (List·Memᴰ·tail m)), λ m. step y x b a (sym heads) (t .0) z m (h z .1 (List·Memᴰ·tail m)))
 
 module _ (row : List Levels) where
-  closes-inside : (j d : ℕ) → Closes (rowOf row j) d → j < length row
+  pub closes-inside : (j d : ℕ) → Closes (rowOf row j) d → j < length row
   closes-inside j d c = dite (decLt j (length row)) (λ h. h) (λ h. absurd (subst (λ c. Closes c d) (List·getD-eq-default row blank (omega arith)) c))
 
   -- a line is in the plan exactly if its chunks are joined, in just its depths
