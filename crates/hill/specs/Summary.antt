@@ -200,22 +200,22 @@ module _ {R : Type 0} (𝒜 : Algebra R) where
   merge-ends (whole p o g) (spoilt f s e n) v = cc
   merge-ends (whole p o g) (whole q n h) v = rw (fall-merge g h) (omega (arith, meet p q g h (count (o + n)) v))
 
-  start-merge : (a b : Part Fig R) → start (mergePart a b) ≡ start a
+  pub start-merge : (a b : Part Fig R) → start (mergePart a b) ≡ start a
   start-merge a b = start-build (mergeDraft a b) (merge-starts a b)
 
-  end-merge : (a b : Part Fig R) → end (mergePart a b) ≡ end b
+  pub end-merge : (a b : Part Fig R) → end (mergePart a b) ≡ end b
   end-merge a b = end-build (mergeDraft a b) (merge-ends a b)
 
-  verdict-merge : (a b : Part Fig R) → verdict (mergePart a b) ≡ mergeVerdict a b
+  pub verdict-merge : (a b : Part Fig R) → verdict (mergePart a b) ≡ mergeVerdict a b
   verdict-merge a b = verdict-build (mergeDraft a b)
 
-  opened-merge : (a b : Part Fig R) → opened (mergePart a b) ≡ cut (opened a + opened b)
+  pub opened-merge : (a b : Part Fig R) → opened (mergePart a b) ≡ cut (opened a + opened b)
   opened-merge a b = opened-build (mergeDraft a b)
 
   peak-merge : (a b : Part Fig R) → mergeVerdict a b ≡ pass → peak (mergePart a b) ≡ min (peak a) (peak b)
   peak-merge a b v = rw v
 
-  slopes-merge : (a b : Part Fig R) → mergeVerdict a b ≡ pass → slopes (mergePart a b) ≡ merge 𝒜 (slopes a) (slopes b)
+  pub slopes-merge : (a b : Part Fig R) → mergeVerdict a b ≡ pass → slopes (mergePart a b) ≡ merge 𝒜 (slopes a) (slopes b)
   slopes-merge a b v = rw v
 
   -- The faults of three parts, grouped either way: a count that is too high stays so.

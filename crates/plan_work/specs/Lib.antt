@@ -1,9 +1,9 @@
-pub mod Base
-pub mod Levels
 pub mod Work
-pub mod Clauses
-pub mod Proof
-pub mod Hill
-pub mod Bridge
-pub mod Figure
-pub mod Pieces
+pub mod Gate
+pub mod GateExact
+pub mod Fold
+pub mod Stack
+pub mod Merged
+pub mod RowLevels
+pub mod Invariant
+pub mod WorkExact
