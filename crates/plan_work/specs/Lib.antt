@@ -7,3 +7,5 @@ pub mod Merged
 pub mod RowLevels
 pub mod Invariant
 pub mod WorkExact
+pub mod LogWork
+pub mod Runs
