@@ -12,7 +12,7 @@ use Rattle.hill.specs.Verdict.{Verdict, pass, refuse, lower, low, ask, between,
 use Rattle.hill.specs.Summary.{Part, spoilt, whole, Summary, blank, part, rise, fall, middle, verdict, start, end, opened, mergePart, start-merge, end-merge, verdict-merge, opened-merge}
 use Rattle.hill.specs.Finish.{outcome, finishOf}
 use Rattle.hill.specs.Row.{mergeAll}
-use Rattle.plan_work.specs.Work.{slopesOf}
+use Rattle.plan_work.specs.Runs.{slopesOf}
 use Rattle.plan_work.specs.Gate.{partsOf, spoiltFault, joinFault, totalOpened, lastEnd, rowFault, FairPart, FairRow}
 
 -- A part's own count tells nothing new.

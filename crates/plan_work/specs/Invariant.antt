@@ -15,7 +15,8 @@ use Rattle.hill.specs.Summary.{Summary, middle}
 use Rattle.join_plan.specs.Plan.{Line}
 use Rattle.join_plan.specs.Scan.{walk, plan}
 use Rattle.join_plan.specs.PlanFacts.{walk-stop}
-use Rattle.plan_work.specs.Work.{Done, leftAt, openFrom, outcomesAt, runLevels, given, worked, lastOutcome}
+use Rattle.plan_work.specs.Runs.{leftAt, openFrom, runLevels}
+use Rattle.plan_work.specs.Work.{Done, outcomesAt, given, worked, lastOutcome}
 use Rattle.plan_work.specs.GateExact.{Begins}
 use Rattle.plan_work.specs.Fold.{down, down-none, down-step, down-split, down-cong}
 use Rattle.plan_work.specs.Stack.{shut, own}

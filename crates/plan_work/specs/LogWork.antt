@@ -7,7 +7,7 @@ use Rattle.hill.specs.Log.{Record, logFault}
 use Rattle.hill.specs.Summary.{Summary, spoilt, whole, blank, part, summaryOf}
 use Rattle.hill.specs.Finish.{outcome, finishOf}
 use Rattle.hill.specs.Figure.{figureOf, finish-log}
-use Rattle.hill.specs.Row.{joined, mergeAll, mergeAll-summaries}
+use Rattle.hill.specs.Row.{joined, mergeAll-summaries}
 use Rattle.hill.specs.Valid.{Sizes, ValidSummary, AllReadable, valid-summary}
 use Rattle.plan_work.specs.Work.{workOf}
 use Rattle.plan_work.specs.Gate.{rowFault, FairRow}

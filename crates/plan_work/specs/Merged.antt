@@ -8,7 +8,7 @@ use lib.Seq.{drop-append-le, drop-append-add, drop-drop}
 use Rattle.algebra.specs.Algebra.{Algebra, Laws}
 use Rattle.hill.specs.Hill.{Hill, hill, empty, merge}
 use Rattle.hill.specs.Summary.{rise, fall, middle}
-use Rattle.plan_work.specs.Work.{openFrom}
+use Rattle.plan_work.specs.Runs.{openFrom}
 use Rattle.plan_work.specs.Fold.{down}
 use Rattle.plan_work.specs.Stack.{shut, closing, lay, base, rights, length-lay, drop-lay, shut-append, shut-lay, merge-stack}
 

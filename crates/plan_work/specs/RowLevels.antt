@@ -20,7 +20,8 @@ use Rattle.join_plan.specs.Joins.{after, levelAt}
 use Rattle.join_plan.specs.Scan.{lineIf, lineOf, passed, walk, linesTo, plan, scanOf}
 use Rattle.join_plan.specs.PlanExact.{planOf-scan}
 use Rattle.join_plan.specs.PlanFacts.{walk-stop}
-use Rattle.plan_work.specs.Work.{levelsOf, planOfRow, peakOf, slopesOf, middlesAt, summaryAt, runLevels}
+use Rattle.plan_work.specs.Runs.{levelsOf, planOfRow, peakOf, slopesOf, summaryAt, runLevels}
+use Rattle.plan_work.specs.Work.{middlesAt}
 use Rattle.plan_work.specs.GateExact.{Chain, Begins}
 use Rattle.plan_work.specs.Fold.{down}
 use Rattle.plan_work.specs.Stack.{own, through-levels}

@@ -1,23 +1,67 @@
--- The runs of a plan's lines, one for each, in a mode's own numbers. Assumes nothing.
-use mathlib.Core.Path.{_≡_, refl, sym, ap, _∙_, subst}
-use mathlib.Core.List.{List, [], _∷_, _++_, map, List·Memᴰ, List·Memᴰ·head, List·Memᴰ·tail}
-use Prim.Native.Nat.{ℕ, zero, suc, _+_, _-_, _≤_, _<_}
-use native.Mathlib.Nat.{le-refl}
-use native.Mathlib.Omega.{arith}
-use lib.ListN.{length, getD, drop, length-append, length-drop, List·getD-map}
+-- The runs of a row of summaries, from its plan: definitions only. Assumes nothing.
+use mathlib.Core.List.{List, [], _∷_, _++_, map}
+use Prim.Native.Nat.{ℕ, zero, suc, _+_, _-_}
+use lib.ListN.{length, getD, drop}
 use Rattle.algebra.specs.Algebra.{Algebra}
-use Rattle.algebra.specs.Run.{Level, through, Context, AllSound, run, run-is, run-fine}
-use Rattle.hill.specs.Hill.{Hill, hill}
-use Rattle.hill.specs.Summary.{Summary, spoilt, whole, blank, part, fall}
-use Rattle.hill.specs.Valid.{Sizes, AllFine, FineHill, ValidSummary}
-use Rattle.join_plan.specs.Plan.{Levels, Line, rowOf}
-use Rattle.join_plan.specs.Joins.{Opens, IsLine}
-use Rattle.join_plan.specs.PlanExact.{planOf-exact}
-use Rattle.plan_work.specs.Work.{levelsOf, planOfRow, peakOf, slopesOf, leftAt, openFrom, levelOf, levelsDown, summaryAt, runLevels}
-use Rattle.plan_work.specs.LogWork.{ValidRow}
+use Rattle.algebra.specs.Run.{Level, Context, run}
+use Rattle.hill.specs.Hill.{Hill, hill, empty}
+use Rattle.hill.specs.Summary.{Summary, spoilt, whole, blank, part, rise, fall, peak, slopes}
+use Rattle.join_plan.specs.Plan.{Levels, blank as noLevels, hill as levels, Line, planOf}
+
+-- What the plan reads of a summary. (A spoilt one never gets through the gate.)
+abbrev pub levelsOf : {Fig R : Type 0} → Summary Fig R → Levels
+levelsOf blank = noLevels
+levelsOf (part (spoilt f s e o)) = noLevels
+levelsOf (part (whole p o h)) = levels (p + rise h) p (p + fall h)
+
+-- The plan of a row of summaries.
+abbrev pub planOfRow : {Fig R : Type 0} → List (Summary Fig R) → List Line
+planOfRow row = planOf (map levelsOf row)
+
+module _ {R : Type 0} (𝒜 : Algebra R) where
+  open Algebra 𝒜 using (Fig, ι)
+
+  -- The peak and the slopes of a summary; a blank has no slopes and holds nothing.
+  abbrev pub peakOf : Summary Fig R → ℕ
+  peakOf blank = 0
+  peakOf (part a) = peak 𝒜 a
+
+  abbrev pub slopesOf : Summary Fig R → Hill Fig R
+  slopesOf blank = empty 𝒜
+  slopesOf (part a) = slopes 𝒜 a
+
+  -- Of a hill over the peak p, the left value at level l: the first in the list stands at level p + 1.
+  abbrev pub leftAt : ℕ → Hill Fig R → ℕ → Fig
+  leftAt p (hill u m d) l = getD u (l - suc p) ι
+
+  -- And its unclosed records from level l down: the first in the list stands at the end level, p + length d.
+  abbrev pub openFrom : ℕ → Hill Fig R → ℕ → List (R × Fig)
+  openFrom p (hill u m d) l = drop (p + length d - l) d
+
+  -- One level of a run: the first of these unclosed records, with its held figures so far before x and the value v after it.
+  abbrev pub levelOf : List (R × Fig) → Fig → List (Level 𝒜)
+  levelOf [] v = []
+  levelOf (e ∷ d) v = record { carried = e .0; before = e .1; after = v } ∷ []
+
+  -- The n depths from `lowest` on, the highest first, where the hill g, over p, has unclosed records that the hill h, over q, closes. The record
+  -- of depth d stands at level d + 1.
+  unfoldable pub levelsDown : ℕ → Hill Fig R → ℕ → Hill Fig R → (lowest n : ℕ) → List (Level 𝒜)
+  levelsDown p g q h lowest zero = []
+  levelsDown p g q h lowest (suc n) = levelOf (openFrom p g (suc (lowest + n))) (leftAt q h (suc (lowest + n))) ++ levelsDown p g q h lowest n
+
+  module _ (row : List (Summary Fig R)) where
+    -- The summary k of a row (past its end: a blank).
+    abbrev pub summaryAt : ℕ → Summary Fig R
+    summaryAt k = getD row k blank
+
+    -- The levels that a line's run goes through, from its highest depth to its lowest.
+    unfoldable pub runLevels : Line → List (Level 𝒜)
+    runLevels e =
+        levelsDown (peakOf (summaryAt (e .i))) (slopesOf (summaryAt (e .i))) (peakOf (summaryAt (e .j))) (slopesOf (summaryAt (e .j)))
+        (e .lowest) (suc (e .highest) - e .lowest)
 
 module _ {R : Type 0} {𝒜 : Algebra R} {Sound : R → Type 0} (C : Context 𝒜 Sound) where
-  -- The run of a line, from the levels that it goes through: there is one wherever there is a level.
+  -- The run of nested levels as a mode's numbers: there is one wherever there is a level.
   abbrev pub runOf : List (Level 𝒜) → List (C .K)
   runOf [] = []
   runOf (l ∷ ls) = run C l ls ∷ []
@@ -29,99 +73,3 @@ module _ {R : Type 0} {𝒜 : Algebra R} {Sound : R → Type 0} (C : Context �
 
   abbrev pub runsOf : List (Summary (𝒜 .Fig) R) → List (C .K)
   runsOf row = runsAlong row (planOfRow row)
-
-module _ {R : Type 0} (𝒜 : Algebra R) where
-  open Algebra 𝒜 using (Fig)
-
-  level-length : (d : List (R × Fig)) (v : Fig) → 0 < length d → length (levelOf 𝒜 d v) ≡ 1
-  level-length [] v h = absurd (omega arith)
-  level-length (e ∷ d) v h = refl
-
-  -- As many levels as depths.
-  levels-length : (p : ℕ) (g : Hill Fig R) (q : ℕ) (h : Hill Fig R) (lo n : ℕ) → p ≤ lo → lo + n ≤ p + fall g → length (levelsDown 𝒜 p g q h lo n) ≡ n
-  unfolding levelsDown
-  levels-length p g q h lo zero a b = refl
-  levels-length p (hill u m d) q h lo (suc n) a b =
-      let i : ℕ = p + length d - suc (lo + n) in
-      length-append (levelOf 𝒜 (drop i d) (leftAt 𝒜 q h (suc (lo + n)))) (levelsDown 𝒜 p (hill u m d) q h lo n)
-      ∙ rw (level-length (drop i d) (leftAt 𝒜 q h (suc (lo + n))) (rw (length-drop i d) (omega arith)), levels-length p (hill u m d) q h lo n a (omega arith)) (omega arith)
-
-  -- A line's depths are those of unclosed records of its first chunk.
-  depths-open : (s : Summary Fig R) (a b : ℕ) → Opens (levelsOf s) a → Opens (levelsOf s) b → (peakOf 𝒜 s ≤ a) × (b < peakOf 𝒜 s + fall (slopesOf 𝒜 s))
-  depths-open blank a b x y = absurd x
-  depths-open (part (spoilt f s e o)) a b x y = absurd x
-  depths-open (part (whole p o h)) a b x y = (x .0, y .1)
-
-  -- So its run goes through as many levels as it has depths, and at least through one.
-  pub run-length : (row : List (Summary Fig R)) (e : Line) → List·Memᴰ e (planOfRow row) → (e .lowest ≤ e .highest) × (length (runLevels 𝒜 row e) ≡ suc (e .highest) - e .lowest)
-  unfolding runLevels
-  run-length row e m =
-      let f : IsLine (rowOf (map levelsOf row)) e = planOf-exact (map levelsOf row) e .0 m in
-      let opens : (d : ℕ) → e .lowest ≤ d → d ≤ e .highest → Opens (levelsOf (summaryAt 𝒜 row (e .i))) d
-      = λ d a b. subst (λ (c : Levels). Opens c d) (List·getD-map levelsOf row (e .i) blank) (f .depths d .1 (a, b) .0 .opens) in
-      let r : (peakOf 𝒜 (summaryAt 𝒜 row (e .i)) ≤ e .lowest) × (e .highest < peakOf 𝒜 (summaryAt 𝒜 row (e .i)) + fall (slopesOf 𝒜 (summaryAt 𝒜 row (e .i))))
-      = depths-open (summaryAt 𝒜 row (e .i)) (e .lowest) (e .highest) (opens (e .lowest) (le-refl (e .lowest)) (f .some)) (opens (e .highest) (f .some) (le-refl (e .highest))) in
-      (
-        f .some,
-        levels-length (peakOf 𝒜 (summaryAt 𝒜 row (e .i))) (slopesOf 𝒜 (summaryAt 𝒜 row (e .i))) (peakOf 𝒜 (summaryAt 𝒜 row (e .j))) (slopesOf 𝒜 (summaryAt 𝒜 row (e .j)))
-        (e .lowest) (suc (e .highest) - e .lowest) (r .0) (omega (arith, r .1, f .some)),
-      )
-
-  -- The records of an accepted row are sound.
-  module _ (𝒮 : Sizes 𝒜) (Sound : R → Type 0) (sound : (r : R) → 𝒮 .Fine r → Sound r) where
-    drop-fine : (n : ℕ) (d : List (R × Fig)) → AllFine 𝒜 𝒮 d → AllFine 𝒜 𝒮 (drop n d)
-    drop-fine zero d f = f
-    drop-fine (suc n) [] f = f
-    drop-fine (suc n) (e ∷ d) f = drop-fine n d (f .1)
-
-    level-sound : (d : List (R × Fig)) (v : Fig) (ls : List (Level 𝒜)) → AllFine 𝒜 𝒮 d → AllSound Sound ls → AllSound Sound (levelOf 𝒜 d v ++ ls)
-    level-sound [] v ls f s = s
-    level-sound (e ∷ d) v ls f s = (sound (e .0) (f .0), s)
-
-    levels-sound : (p : ℕ) (g : Hill Fig R) (q : ℕ) (h : Hill Fig R) (lo n : ℕ) → FineHill 𝒜 𝒮 g → AllSound Sound (levelsDown 𝒜 p g q h lo n)
-    unfolding levelsDown
-    levels-sound p g q h lo zero f = tt
-    levels-sound p (hill u m d) q h lo (suc n) f =
-        level-sound (drop (p + length d - suc (lo + n)) d) (leftAt 𝒜 q h (suc (lo + n))) (levelsDown 𝒜 p (hill u m d) q h lo n) (drop-fine (p + length d - suc (lo + n)) d f)
-        (levels-sound p (hill u m d) q h lo n f)
-
-    slopes-fine : (row : List (Summary Fig R)) (k : ℕ) → ValidRow 𝒜 𝒮 row → FineHill 𝒜 𝒮 (slopesOf 𝒜 (summaryAt 𝒜 row k))
-    slopes-fine [] k v = tt
-    slopes-fine (blank ∷ row) zero v = tt
-    slopes-fine (part (spoilt f s e o) ∷ row) zero v = tt
-    slopes-fine (part (whole p o h) ∷ row) zero v = v .0 .fine
-    slopes-fine (s ∷ row) (suc k) v = slopes-fine row k (v .1)
-
-    pub run-sound : (row : List (Summary Fig R)) (e : Line) → ValidRow 𝒜 𝒮 row → AllSound Sound (runLevels 𝒜 row e)
-    unfolding runLevels
-    run-sound row e v =
-        levels-sound (peakOf 𝒜 (summaryAt 𝒜 row (e .i))) (slopesOf 𝒜 (summaryAt 𝒜 row (e .i))) (peakOf 𝒜 (summaryAt 𝒜 row (e .j))) (slopesOf 𝒜 (summaryAt 𝒜 row (e .j)))
-        (e .lowest) (suc (e .highest) - e .lowest) (slopes-fine row (e .i) v)
-
-module _ {R : Type 0} {𝒜 : Algebra R} {Sound : R → Type 0} (C : Context 𝒜 Sound) where
-  open Algebra 𝒜 using (Fig)
-
-  -- What the run of a line is: the mode's numbers k, that do to x what the levels do one after another.
-  pub record RunOf (ls : List (Level 𝒜)) (k : C .K) : Type 0 where
-    pub is : runOf C ls ≡ k ∷ []
-    pub fine : C .Fine k
-    pub does : (x : Fig) → C .apply k x ≡ through 𝒜 ls x
-
-  run-levels : (ls : List (Level 𝒜)) → 0 < length ls → AllSound Sound ls → (k : C .K) × RunOf ls k
-  run-levels [] h s = absurd (omega arith)
-  run-levels (l ∷ ls) h s = (run C l ls, record { is = refl; fine = run-fine C (C .level l) ls (C .level-fine l (s .0)) (s .1); does = run-is C l ls s })
-
-  module _ (𝒮 : Sizes 𝒜) (sound : (r : R) → 𝒮 .Fine r → Sound r) (row : List (Summary Fig R)) (v : ValidRow 𝒜 𝒮 row) where
-    -- Each line of the plan of an accepted row has its run, ..
-    pub run-of-line : (e : Line) → List·Memᴰ e (planOfRow row) → (k : C .K) × RunOf (runLevels 𝒜 row e) k
-    run-of-line e m = let n : (e .lowest ≤ e .highest) × (length (runLevels 𝒜 row e) ≡ suc (e .highest) - e .lowest) = run-length 𝒜 row e m in run-levels (runLevels 𝒜 row e) (omega arith) (run-sound 𝒜 𝒮 Sound sound row e v)
-
-    -- .. one for each, in order.
-    runs-each : (es : List Line) → ((e : Line) → List·Memᴰ e es → List·Memᴰ e (planOfRow row)) → length (runsAlong C row es) ≡ length es
-    unfolding runsAlong
-    runs-each [] f = refl
-    runs-each (e ∷ es) f =
-        rw (run-of-line e (f e (List·Memᴰ·head refl)) .1 .is) (ap suc (runs-each es (λ d m. f d (List·Memᴰ·tail m))))
-
-    pub runs-count : length (runsOf C row) ≡ length (planOfRow row)
-    runs-count = runs-each (planOfRow row) (λ e m. m)

@@ -9,7 +9,7 @@ use Rattle.algebra.specs.Algebra.{Algebra, Laws}
 use Rattle.algebra.specs.Run.{Level, through, step}
 use Rattle.hill.specs.Hill.{Hill, hill, push, join, close, closes, merge, join-unit, join-join}
 use Rattle.hill.specs.Summary.{rise, fall, middle}
-use Rattle.plan_work.specs.Work.{leftAt, openFrom, levelOf, levelsDown}
+use Rattle.plan_work.specs.Runs.{leftAt, openFrom, levelOf, levelsDown}
 use Rattle.plan_work.specs.Fold.{fold, fold-zero, fold-suc, fold-low, fold-cong}
 
 -- a list with more than n members, from the n-th on

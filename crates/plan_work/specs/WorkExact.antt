@@ -13,7 +13,8 @@ use Rattle.hill.specs.Summary.{Part, Summary, spoilt, whole, blank, part, rise,
 use Rattle.hill.specs.Finish.{outcome, outcome-same, finishOf}
 use Rattle.hill.specs.Row.{mergeAll}
 use Rattle.join_plan.specs.Joins.{after, levelAt}
-use Rattle.plan_work.specs.Work.{Done, levelsOf, slopesOf, summaryAt, oneMiddle, lastOutcome, workOf}
+use Rattle.plan_work.specs.Runs.{levelsOf, slopesOf, summaryAt}
+use Rattle.plan_work.specs.Work.{Done, oneMiddle, lastOutcome, workOf}
 use Rattle.plan_work.specs.Gate.{rowFault, FairHill, FairPart, FairRow}
 use Rattle.plan_work.specs.GateExact.{finish-row, Unspoilt, row-unspoilt, Chain, Begins, row-begins}
 use Rattle.plan_work.specs.Fold.{down-none}
