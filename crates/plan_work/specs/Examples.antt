@@ -3,13 +3,13 @@ use mathlib.Core.Path.{_≡_, refl}
 use mathlib.Core.List.{List, [], _∷_, flatMap}
 use Prim.Native.Nat.{ℕ, _+_, _*_}
 use Rattle.algebra.specs.Algebra.{Algebra}
-use Rattle.algebra.specs.Run.{Level, step, through}
-use Rattle.hill.specs.Hill.{hill}
+use Rattle.algebra.specs.Run.{step, through}
 use Rattle.hill.specs.Verdict.{pass, between, count, cut, ends}
-use Rattle.hill.specs.Summary.{Summary, whole, blank, part}
-use Rattle.hill.specs.Finish.{finishOf, figure}
-use Rattle.hill.specs.Row.{mergeAll}
-use Rattle.join_plan.specs.Plan.{Line, joinedAt, upTo, downFrom, select, depthsJoined, lineFor, planOf, folded}
+use Rattle.hill.specs.Summary.{hill, Summary, whole, blank, part}
+use Rattle.gate.specs.Outcome.{result}
+use Rattle.hill.specs.Finish.{finishOf}
+use Rattle.hill.specs.Row.{mergeRow}
+use Rattle.join_plan.specs.Plan.{joinedAt, upTo, downFrom, select, depthsJoined, lineFor, planOf, folded}
 use Rattle.plan_work.specs.Runs.{planOfRow, levelsDown, runLevels}
 use Rattle.plan_work.specs.Work.{middlesAt, outcomesAt, given, worked, workOf}
 use Rattle.plan_work.specs.Gate.{rowFault}
@@ -35,7 +35,7 @@ two-work : workOf stamp two ≡ record { figure = 258; joins = 1; levels = 2 }
 unfolding two planOf flatMap joinedAt upTo downFrom select depthsJoined lineFor folded runLevels levelsDown worked given middlesAt outcomesAt through step
 two-work = refl
 
-two-finish : finishOf stamp (mergeAll stamp two) ≡ figure 258
+two-finish : finishOf stamp (mergeRow stamp two) ≡ result 258
 unfolding two between count cut ends
 two-finish = refl
 
@@ -59,6 +59,6 @@ five-work : workOf stamp five ≡ record { figure = 274825; joins = 5; levels = 
 unfolding five planOf flatMap joinedAt upTo downFrom select depthsJoined lineFor folded runLevels levelsDown worked given middlesAt outcomesAt through step
 five-work = refl
 
-five-finish : finishOf stamp (mergeAll stamp five) ≡ figure 274825
+five-finish : finishOf stamp (mergeRow stamp five) ≡ result 274825
 unfolding five between count cut ends
 five-finish = refl

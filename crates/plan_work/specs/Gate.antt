@@ -3,9 +3,8 @@ use mathlib.Core.List.{List, [], _∷_}
 use mathlib.Core.Path.{_≡_}
 use Prim.Native.Nat.{ℕ, _+_, _≤_, _<_, min}
 use Rattle.algebra.specs.Algebra.{Algebra}
-use Rattle.hill.specs.Hill.{Hill}
 use Rattle.hill.specs.Verdict.{Verdict, pass, refuse, low, between, count, ends}
-use Rattle.hill.specs.Summary.{Part, spoilt, whole, Summary, blank, part, rise, fall, middle, verdict, start, end, opened}
+use Rattle.hill.specs.Summary.{Hill, Part, spoilt, whole, Summary, blank, part, rise, fall, middle, verdict, start, end, opened}
 
 module _ {Fig R : Type 0} where
   -- The row without its blanks.

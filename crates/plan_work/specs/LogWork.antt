@@ -4,10 +4,12 @@ use mathlib.Core.List.{List, [], _∷_, map}
 use Rattle.algebra.specs.Algebra.{Algebra, Laws, Commutative}
 use Rattle.hill.specs.Verdict.{Verdict, pass, refuse}
 use Rattle.hill.specs.Log.{Record, logFault}
+use Rattle.hill.specs.Figure.{figureOf}
 use Rattle.hill.specs.Summary.{Summary, spoilt, whole, blank, part, summaryOf}
 use Rattle.hill.specs.Finish.{outcome, finishOf}
-use Rattle.hill.specs.Figure.{figureOf, finish-log}
-use Rattle.hill.specs.Row.{joined, mergeAll-summaries}
+use Rattle.hill.specs.Row.{joined}
+use Rattle.hill.specs.FinishLaws.{finish-log}
+use Rattle.hill.specs.RowLaws.{mergeRow-summaries}
 use Rattle.hill.specs.Valid.{Sizes, ValidSummary, AllReadable, valid-summary}
 use Rattle.plan_work.specs.Work.{workOf}
 use Rattle.plan_work.specs.Gate.{rowFault, FairRow}
@@ -48,7 +50,7 @@ module _ {R : Type 0} (𝒜 : Algebra R) (𝒮 : Sizes 𝒜) where
       pub log-work : outcome (rowFault (map (summaryOf 𝒜) cs)) (workOf 𝒜 (map (summaryOf 𝒜) cs) .figure) ≡ outcome (logFault (joined cs)) (figureOf 𝒜 (joined cs))
       log-work =
           sym (work-finish 𝒜 ℒ comm (map (summaryOf 𝒜) cs) (fair-row (map (summaryOf 𝒜) cs) (valid-row cs r)))
-          ∙ ap (finishOf 𝒜) (mergeAll-summaries 𝒜 ℒ cs) ∙ finish-log 𝒜 ℒ (joined cs)
+          ∙ ap (finishOf 𝒜) (mergeRow-summaries 𝒜 ℒ cs) ∙ finish-log 𝒜 ℒ (joined cs)
 
       -- The gate finds the log's lowest-numbered fault, ..
       pub log-gate : rowFault (map (summaryOf 𝒜) cs) ≡ logFault (joined cs)

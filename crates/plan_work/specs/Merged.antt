@@ -6,11 +6,11 @@ use native.Mathlib.Omega.{arith}
 use lib.ListN.{length, drop, length-drop, length-append, drop-of-length-le}
 use lib.Seq.{drop-append-le, drop-append-add, drop-drop}
 use Rattle.algebra.specs.Algebra.{Algebra, Laws}
-use Rattle.hill.specs.Hill.{Hill, hill, empty, merge}
-use Rattle.hill.specs.Summary.{rise, fall, middle}
+use Rattle.hill.specs.Summary.{Hill, hill, rights, rise, fall, middle}
+use Rattle.hill.specs.Building.{empty, merge}
 use Rattle.plan_work.specs.Runs.{openFrom}
 use Rattle.plan_work.specs.Fold.{down}
-use Rattle.plan_work.specs.Stack.{shut, closing, lay, base, rights, length-lay, drop-lay, shut-append, shut-lay, merge-stack}
+use Rattle.plan_work.specs.Stack.{shut, closing, lay, base, length-lay, drop-lay, shut-append, shut-lay, merge-stack}
 
 -- The hills of a row, one after another: `p n` is the peak of the hill n, and `lv n` the level before it.
 module _ {R : Type 0} (𝒜 : Algebra R) (h : ℕ → Hill (𝒜 .Fig) R) where
@@ -30,7 +30,7 @@ module _ {R : Type 0} (𝒜 : Algebra R) (h : ℕ → Hill (𝒜 .Fig) R) where
     -- The records open before the hill n, the deepest first, and the middle value below them.
     unfoldable pub stack : ℕ → List (R × Fig)
     stack zero = []
-    stack (suc n) = rights 𝒜 (h n) ++ lay 𝒜 (closed (stack n) n (p n) ⊗ middle (h n)) (drop (lv n - p n) (stack n))
+    stack (suc n) = rights (h n) ++ lay 𝒜 (closed (stack n) n (p n) ⊗ middle (h n)) (drop (lv n - p n) (stack n))
 
     unfoldable pub centre : ℕ → Fig
     centre zero = ι
@@ -50,7 +50,7 @@ module _ {R : Type 0} (𝒜 : Algebra R) (h : ℕ → Hill (𝒜 .Fig) R) where
       pub falls : (n : ℕ) → p n + fall (h n) ≡ lv (suc n)
 
     module _ (ℒ : Laws 𝒜) (w : Meeting) where
-      fall-rights : (g : Hill Fig R) → length (rights 𝒜 g) ≡ fall g
+      fall-rights : (g : Hill Fig R) → length (rights g) ≡ fall g
       fall-rights (hill u m d) = refl
 
       pub size : (n : ℕ) → length (stack n) ≡ lv n
@@ -67,7 +67,7 @@ module _ {R : Type 0} (𝒜 : Algebra R) (h : ℕ → Hill (𝒜 .Fig) R) where
           let e : rise (h n) ≡ lv n - p n = omega (arith, w .rises n) in
           rw (merged-stack n, merge-stack 𝒜 ℒ (centre n) (stack n) (p n) (h n) (w .rises n ∙ sym (size n)), size n, e)
 
-      open-rights : (q : ℕ) (g : Hill Fig R) (l : ℕ) → openFrom 𝒜 q g l ≡ drop (q + fall g - l) (rights 𝒜 g)
+      open-rights : (q : ℕ) (g : Hill Fig R) (l : ℕ) → openFrom 𝒜 q g l ≡ drop (q + fall g - l) (rights g)
       open-rights q (hill u m d) l = refl
 
       -- Above the peak of the hill n stand its own records, ..
@@ -77,16 +77,16 @@ module _ {R : Type 0} (𝒜 : Algebra R) (h : ℕ → Hill (𝒜 .Fig) R) where
           rw (
             open-rights (p n) (h n) l,
             w .falls n,
-            drop-append-le (lv (suc n) - l) (rights 𝒜 (h n)) (lay 𝒜 (pit n (p n) ⊗ middle (h n)) (drop (lv n - p n) (stack n))) (omega (arith, fall-rights (h n), w .falls n)),
+            drop-append-le (lv (suc n) - l) (rights (h n)) (lay 𝒜 (pit n (p n) ⊗ middle (h n)) (drop (lv n - p n) (stack n))) (omega (arith, fall-rights (h n), w .falls n)),
           )
-          (shut-append 𝒜 (drop (lv (suc n) - l) (rights 𝒜 (h n))) (lay 𝒜 (pit n (p n) ⊗ middle (h n)) (drop (lv n - p n) (stack n))) y
+          (shut-append 𝒜 (drop (lv (suc n) - l) (rights (h n))) (lay 𝒜 (pit n (p n) ⊗ middle (h n)) (drop (lv n - p n) (stack n))) y
           (rw length-drop (omega (arith, fall-rights (h n), w .falls n))))
 
       under-rights : (n l : ℕ) → l ≤ p n → drop (lv (suc n) - l) (stack (suc n)) ≡ drop (p n - l) (lay 𝒜 (pit n (p n) ⊗ middle (h n)) (drop (lv n - p n) (stack n)))
       unfolding stack
       under-rights n l a =
-          let e : lv (suc n) - l ≡ length (rights 𝒜 (h n)) + (p n - l) = omega (arith, fall-rights (h n), w .falls n) in
-          rw e (drop-append-add (rights 𝒜 (h n)) (lay 𝒜 (pit n (p n) ⊗ middle (h n)) (drop (lv n - p n) (stack n))) (p n - l))
+          let e : lv (suc n) - l ≡ length (rights (h n)) + (p n - l) = omega (arith, fall-rights (h n), w .falls n) in
+          rw e (drop-append-add (rights (h n)) (lay 𝒜 (pit n (p n) ⊗ middle (h n)) (drop (lv n - p n) (stack n))) (p n - l))
 
       -- .. at its peak one that now holds its valley and its middle value too, ..
       pub state-peak : (n l : ℕ) (y : Fig) → l ≡ p n → 0 < l → state (suc n) l y ≡ state n l (pit n (p n) ⊗ middle (h n) ⊗ y)

@@ -13,8 +13,7 @@ use lib.ListN.{length, getD, take, drop, length-take, List·getD-map, length-map
 use lib.Seq.{take-suc, take-all, drop-append-le, length-take-le}
 use Rattle.algebra.specs.Algebra.{Algebra, Laws}
 use Rattle.algebra.specs.Run.{through}
-use Rattle.hill.specs.Hill.{Hill}
-use Rattle.hill.specs.Summary.{Summary, spoilt, whole, blank, part, rise, fall, middle}
+use Rattle.hill.specs.Summary.{Hill, Summary, spoilt, whole, blank, part, rise, fall, middle}
 use Rattle.join_plan.specs.Plan.{Levels, blank as noLevels, hill as levels, Line}
 use Rattle.join_plan.specs.Joins.{after, levelAt}
 use Rattle.join_plan.specs.Scan.{lineIf, lineOf, passed, walk, linesTo, plan, scanOf}

@@ -4,8 +4,8 @@ use Prim.Native.Nat.{ℕ, zero, suc, _+_, _-_}
 use lib.ListN.{length, getD, drop}
 use Rattle.algebra.specs.Algebra.{Algebra}
 use Rattle.algebra.specs.Run.{Level, Context, run}
-use Rattle.hill.specs.Hill.{Hill, hill, empty}
-use Rattle.hill.specs.Summary.{Summary, spoilt, whole, blank, part, rise, fall, peak, slopes}
+use Rattle.hill.specs.Summary.{Hill, hill, Summary, spoilt, whole, blank, part, rise, fall}
+use Rattle.hill.specs.Merge.{peak, slopes}
 use Rattle.join_plan.specs.Plan.{Levels, blank as noLevels, hill as levels, Line, planOf}
 
 -- What the plan reads of a summary. (A spoilt one never gets through the gate.)
@@ -27,7 +27,7 @@ module _ {R : Type 0} (𝒜 : Algebra R) where
   peakOf (part a) = peak 𝒜 a
 
   abbrev pub slopesOf : Summary Fig R → Hill Fig R
-  slopesOf blank = empty 𝒜
+  slopesOf blank = hill [] ι []
   slopesOf (part a) = slopes 𝒜 a
 
   -- Of a hill over the peak p, the left value at level l: the first in the list stands at level p + 1.

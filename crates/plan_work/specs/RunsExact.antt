@@ -7,8 +7,7 @@ use native.Mathlib.Omega.{arith}
 use lib.ListN.{length, drop, length-append, length-drop, List·getD-map}
 use Rattle.algebra.specs.Algebra.{Algebra}
 use Rattle.algebra.specs.Run.{Level, through, Context, AllSound, run, run-is, run-fine}
-use Rattle.hill.specs.Hill.{Hill, hill}
-use Rattle.hill.specs.Summary.{Summary, spoilt, whole, blank, part, fall}
+use Rattle.hill.specs.Summary.{Hill, hill, Summary, spoilt, whole, blank, part, fall}
 use Rattle.hill.specs.Valid.{Sizes, AllFine, FineHill}
 use Rattle.join_plan.specs.Plan.{Levels, Line, rowOf}
 use Rattle.join_plan.specs.Joins.{Opens, IsLine}

@@ -7,8 +7,8 @@ use native.Mathlib.Omega.{arith}
 use lib.ListN.{length, drop, length-drop}
 use Rattle.algebra.specs.Algebra.{Algebra, Laws}
 use Rattle.algebra.specs.Run.{Level, through, step}
-use Rattle.hill.specs.Hill.{Hill, hill, push, join, close, closes, merge, join-unit, join-join}
-use Rattle.hill.specs.Summary.{rise, fall, middle}
+use Rattle.hill.specs.Summary.{Hill, hill, rights, rise, fall, middle}
+use Rattle.hill.specs.Building.{push, join, close, closes, merge, join-unit, join-join}
 use Rattle.plan_work.specs.Runs.{leftAt, openFrom, levelOf, levelsDown}
 use Rattle.plan_work.specs.Fold.{fold, fold-zero, fold-suc, fold-low, fold-cong}
 
@@ -45,10 +45,6 @@ module _ {R : Type 0} (𝒜 : Algebra R) where
   abbrev pub base : Fig → Fig → List (R × Fig) → Fig
   base w m [] = m ⊗ w
   base w m (e ∷ d) = m
-
-  -- The unclosed records of a hill.
-  abbrev pub rights : Hill Fig R → List (R × Fig)
-  rights (hill u m d) = d
 
   pub length-lay : (w : Fig) (d : List (R × Fig)) → length (lay w d) ≡ length d
   length-lay w [] = refl

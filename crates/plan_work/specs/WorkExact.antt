@@ -7,16 +7,21 @@ use native.Mathlib.Decide.{decLt}
 use native.Mathlib.Omega.{arith}
 use lib.ListN.{length, drop, drop-of-length-le}
 use Rattle.algebra.specs.Algebra.{Algebra, Laws, Commutative}
-use Rattle.hill.specs.Hill.{Hill, empty, merge, merge-empty, empty-merge, merge-assoc}
-use Rattle.hill.specs.Verdict.{pass, low, between, count, low-fst, low-snd}
-use Rattle.hill.specs.Summary.{Part, Summary, spoilt, whole, blank, part, rise, fall, middle, verdict, start, end, opened, slopes, mergeSummary, verdict-merge, slopes-merge}
-use Rattle.hill.specs.Finish.{outcome, outcome-same, finishOf}
-use Rattle.hill.specs.Row.{mergeAll}
+use Rattle.hill.specs.Verdict.{pass, low, between, count}
+use Rattle.hill.specs.VerdictLaws.{low-fst, low-snd}
+use Rattle.hill.specs.Summary.{Hill, Part, Summary, spoilt, whole, blank, part, rise, fall, middle, verdict, start, end, opened}
+use Rattle.hill.specs.Merge.{slopes, mergeSummary}
+use Rattle.hill.specs.Finish.{outcome, finishOf}
+use Rattle.hill.specs.Building.{empty, merge, merge-empty, empty-merge, merge-assoc}
+use Rattle.hill.specs.SummaryLaws.{verdict-merge, slopes-merge}
+use Rattle.hill.specs.FinishLaws.{outcome-same}
+use Rattle.hill.specs.RowLaws.{mergeRow-inOrder}
+use Rattle.hill.specs.Row.{mergeRow}
 use Rattle.join_plan.specs.Joins.{after, levelAt}
 use Rattle.plan_work.specs.Runs.{levelsOf, slopesOf, summaryAt}
 use Rattle.plan_work.specs.Work.{Done, oneMiddle, lastOutcome, workOf}
 use Rattle.plan_work.specs.Gate.{rowFault, FairHill, FairPart, FairRow}
-use Rattle.plan_work.specs.GateExact.{finish-row, Unspoilt, row-unspoilt, Chain, Begins, row-begins}
+use Rattle.plan_work.specs.GateExact.{mergeAll, finish-row, Unspoilt, row-unspoilt, Chain, Begins, row-begins}
 use Rattle.plan_work.specs.Fold.{down-none}
 use Rattle.plan_work.specs.Merged.{merged, closed, centre, pit, merged-stack, centre-up, centre-down}
 use Rattle.plan_work.specs.RowLevels.{floorOf, unroll, level, floor, sides, meeting, level-suc, plan-row}
@@ -34,7 +39,7 @@ module _ {R : Type 0} (𝒜 : Algebra R) where
   module _ (ℒ : Laws 𝒜) where
     merge-whole : (a : Part Fig R) (t : Summary Fig R) → Unspoilt 𝒜 (mergeSummary 𝒜 (part a) t) → slopesOf 𝒜 (mergeSummary 𝒜 (part a) t) ≡ merge 𝒜 (slopes 𝒜 a) (slopesOf 𝒜 t)
     merge-whole a blank v = sym (merge-empty 𝒜 ℒ (slopes 𝒜 a))
-    merge-whole a (part b) v = slopes-merge 𝒜 a b (sym (verdict-merge 𝒜 a b) ∙ v)
+    merge-whole a (part b) v = slopes-merge 𝒜 ℒ a b (sym (verdict-merge 𝒜 a b) ∙ v)
 
     rest-unspoilt : (a : Part Fig R) (t : Summary Fig R) → Unspoilt 𝒜 (mergeSummary 𝒜 (part a) t) → Unspoilt 𝒜 t
     rest-unspoilt a blank v = tt
@@ -229,10 +234,14 @@ module _ {R : Type 0} (𝒜 : Algebra R) (ℒ : Laws 𝒜) (comm : Commutative �
 
 module _ {R : Type 0} (𝒜 : Algebra R) (ℒ : Laws 𝒜) (comm : Commutative 𝒜) (row : List (Summary (𝒜 .Fig) R)) (fair : FairRow 𝒜 row) where
   -- THE WORK ALONG THE PLAN of a row that the gate lets through gives the middle value of the merged row.
-  pub work-middle : rowFault row ≡ pass → workOf 𝒜 row .figure ≡ middle (slopesOf 𝒜 (mergeAll 𝒜 row))
+  pub work-middle : rowFault row ≡ pass → workOf 𝒜 row .figure ≡ middle (slopesOf 𝒜 (mergeRow 𝒜 row))
   work-middle v =
-      work-mid 𝒜 ℒ comm row (row-begins row v) fair ∙ ap middle (sym (merged-row 𝒜 ℒ row (row-unspoilt 𝒜 row fair v)))
+      work-mid 𝒜 ℒ comm row (row-begins row v) fair
+      ∙ ap middle (sym (ap (slopesOf 𝒜) (mergeRow-inOrder 𝒜 ℒ row) ∙ merged-row 𝒜 ℒ row (row-unspoilt 𝒜 ℒ row fair v)))
 
   -- So the row's fault, or else the figure of the work along its plan, is what finishing the merged row answers.
-  pub work-finish : finishOf 𝒜 (mergeAll 𝒜 row) ≡ outcome (rowFault row) (workOf 𝒜 row .figure)
-  work-finish = finish-row 𝒜 row fair ∙ outcome-same (rowFault row) (middle (slopesOf 𝒜 (mergeAll 𝒜 row))) (workOf 𝒜 row .figure) (λ v. sym (work-middle v))
+  pub work-finish : finishOf 𝒜 (mergeRow 𝒜 row) ≡ outcome (rowFault row) (workOf 𝒜 row .figure)
+  work-finish =
+      ap (finishOf 𝒜) (mergeRow-inOrder 𝒜 ℒ row) ∙ finish-row 𝒜 ℒ row fair
+      ∙ outcome-same (rowFault row) (middle (slopesOf 𝒜 (mergeAll 𝒜 row))) (workOf 𝒜 row .figure)
+      (λ v. ap (λ (s : Summary (𝒜 .Fig) R). middle (slopesOf 𝒜 s)) (sym (mergeRow-inOrder 𝒜 ℒ row)) ∙ sym (work-middle v))
