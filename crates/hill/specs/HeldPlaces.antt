@@ -19,7 +19,7 @@ use Rattle.hill.specs.Figure.{held, figureOf, figureAt, combined}
 use Rattle.hill.specs.Places.{places-same, places-iff, select, Selected, select-places, here-rest}
 
 module _ {R : Type 0} where
-  opening-closing : (x : Record R) (c d : ℕ) (r : R) → x ≡ opening c r → x ≡ closing d → ⊥
+  pub opening-closing : (x : Record R) (c d : ℕ) (r : R) → x ≡ opening c r → x ≡ closing d → ⊥
   opening-closing x c d r a b = let z : _≡_ {A = ℕ} 0 1 = cc in omega arith
 
   closing? : (x : Record R) (d : ℕ) → (x ≡ closing d) ⊎ (x ≢ closing d)
@@ -70,7 +70,7 @@ module _ {R : Type 0} where
   heldFrom d n xs = select (λ x _. opensAt d x) (endsAt d) n xs
 
   module _ (log : List (Record R)) (p d : ℕ) (o : OpensAt log p d) where
-    holds-selected : (q : ℕ) → Selected (λ x _. opensAt (suc d) x) (endsAt (suc d)) log (suc p) q → Holds log p q d
+    pub holds-selected : (q : ℕ) → Selected (λ x _. opensAt (suc d) x) (endsAt (suc d)) log (suc p) q → Holds log p q d
     holds-selected q s = record {
       holder = o;
       held = opensAt-true (suc d) (at log q) (s .kept);
@@ -80,7 +80,7 @@ module _ {R : Type 0} where
           absurd (let y : _≡_ {A = ℕ} 0 1 = cc in omega arith));
     }
 
-    selected-holds : (q : ℕ) → Holds log p q d → Selected (λ x _. opensAt (suc d) x) (endsAt (suc d)) log (suc p) q
+    pub selected-holds : (q : ℕ) → Holds log p q d → Selected (λ x _. opensAt (suc d) x) (endsAt (suc d)) log (suc p) q
     selected-holds q h = record {
       from = omega (arith, h .after);
       inside = opens-inside log q (suc d) (h .held);
