@@ -10,7 +10,8 @@ use Rattle.hill.specs.Finish.{outcome, finishOf}
 use Rattle.hill.specs.Row.{joined}
 use Rattle.hill.specs.FinishLaws.{finish-log}
 use Rattle.hill.specs.RowLaws.{mergeRow-summaries}
-use Rattle.hill.specs.Valid.{Sizes, ValidSummary, AllReadable, valid-summary}
+use Rattle.hill.specs.Valid.{Sizes, ValidSummary, AllReadable}
+use Rattle.hill.specs.ValidLaws.{valid-summary}
 use Rattle.plan_work.specs.Work.{workOf}
 use Rattle.plan_work.specs.Gate.{rowFault, FairRow}
 use Rattle.plan_work.specs.WorkExact.{work-finish}
