@@ -6,22 +6,19 @@ use mathlib.Core.Bool.{Bool, true, false, not, _&&_, cond, and-eq-true-iff, fals
 use mathlib.Core.List.{List, [], _∷_, _++_, append-assoc, append-nil, List·Memᴰ, flatMap}
 use native.Mathlib.Decide.{decLt}
 use native.Mathlib.Omega.{arith}
-use lib.ListN.{length, take, drop}
+use lib.ListN.{length, take}
 use lib.Dec.{leb, ltb}
 use borrow.Author.Tests.{leb-true, le-leb, ltb-true, lt-ltb}
-use Rattle.join_plan.specs.Plan.{Levels, blank, hill, Line, leavesOpen, closesEarlier, belowPeaks, rowOf, chunksBetween, joinedAt, upTo, downFrom, select, endLevel, depthsJoined, lastOf, lineFor, planOf, Sorted}
+use Rattle.join_plan.specs.Plan.{Levels, blank, hill, Line, leftOpen, closesEarlier, belowPeaks, rowOf, chunksBetween, upTo, downFrom, select, depthsJoined, lastOf, lineFor, planOf, Sorted}
 use Rattle.join_plan.specs.Scan.{lineIf, lineOf, passed, walk, linesTo, plan, scanOf}
-use Rattle.join_plan.specs.Joins.{Opens, Closes, Above, LeftOpen, Joins, IsLine}
-use Rattle.join_plan.specs.ScanExact.{Within, passed-iff, scanOf-exact, scanOf-some, scanOf-sorted, scanOf-only}
+use Rattle.join_plan.specs.Joins.{Opens, Closes, Above, Joins, IsLine, levelAt, Meets}
+use Rattle.join_plan.specs.ScanExact.{Within, passed-iff, closes-inside, scanOf-exact, scanOf-some, scanOf-sorted, scanOf-only}
 use Rattle.join_plan.specs.PlanFacts.{walk-stop}
+use Rattle.join_plan.specs.RowLevels.{closes-not-above, joins-of-low}
 
 -- what the tests say
 interval : (a d b : ℕ) → (leb a d && ltb d b ≡ true) ↔ ((a ≤ d) × (d < b))
 interval a d b = let i = and-eq-true-iff (leb a d) (ltb d b) in (λ h. (leb-true a d (i .0 h .0), ltb-true d b (i .0 h .1)), λ h. i .1 (le-leb a d (h .0), lt-ltb d b (h .1)))
-
-opens-iff : (c : Levels) (d : ℕ) → (leavesOpen c d ≡ true) ↔ Opens c d
-opens-iff blank d = (λ h. absurd (false≢true h), λ h. absurd h)
-opens-iff (hill s p e) d = interval p d e
 
 closes-iff : (c : Levels) (d : ℕ) → (closesEarlier c d ≡ true) ↔ Closes c d
 closes-iff blank d = (λ h. absurd (false≢true h), λ h. absurd h)
@@ -54,14 +51,15 @@ below-between (c ∷ row) (suc i) (suc j) d = (λ h. there (below-between row i 
     there f zero a b = absurd (omega arith)
     there f (suc k) a b = f k (omega arith) (omega arith)
 
--- the test of the plan is the join
-pub joined-iff : (row : List Levels) (i j d : ℕ) → i < j → (joinedAt row i j d ≡ true) ↔ Joins (rowOf row) i j d
-unfolding joinedAt
-joined-iff row i j d b =
-    let outer = and-eq-true-iff (leavesOpen (rowOf row i) d && closesEarlier (rowOf row j) d) (belowPeaks (chunksBetween row i j) d) in
-    let inner = and-eq-true-iff (leavesOpen (rowOf row i) d) (closesEarlier (rowOf row j) d) in (
-      λ h. let (x, z) = outer .0 h in let (x, y) = inner .0 x in (record { before = b; opens = opens-iff (rowOf row i) d .0 x; between = below-between row i j d .0 z }, closes-iff (rowOf row j) d .0 y),
-      λ h. outer .1 (inner .1 (opens-iff (rowOf row i) d .1 (h .0 .opens), closes-iff (rowOf row j) d .1 (h .1)), below-between row i j d .1 (h .0 .between)),
+-- what is asked of a depth that chunk i leaves open
+abbrev asked : List Levels → (i j d : ℕ) → Bool
+asked row i j d = closesEarlier (rowOf row j) d && belowPeaks (chunksBetween row i j) d
+
+asked-iff : (row : List Levels) (i j d : ℕ) → (asked row i j d ≡ true) ↔ (Closes (rowOf row j) d × ((k : ℕ) → i < k → k < j → Above (rowOf row k) d))
+asked-iff row i j d =
+    let x = and-eq-true-iff (closesEarlier (rowOf row j) d) (belowPeaks (chunksBetween row i j) d) in (
+      λ h. (closes-iff (rowOf row j) d .0 (x .0 h .0), below-between row i j d .0 (x .0 h .1)),
+      λ h. x .1 (closes-iff (rowOf row j) d .1 (h .0), below-between row i j d .1 (h .1)),
     )
 
 -- the list starts with a and ends with b - 1, or is empty where b is not above a
@@ -107,26 +105,46 @@ select-append test (d ∷ x) y = go (test d) (select-append test x y)
     go false ih = ih
 
 -- the depths that pass a test, where those are the depths from a to below b
-select-ends : (test : ℕ → Bool) (a b n : ℕ) → ((d : ℕ) → (test d ≡ true) ↔ Within a b d) → Ends (select test (upTo n)) a (min b n)
+select-ends : (test : ℕ → Bool) (a b n : ℕ) → ((d : ℕ) → d < n → (test d ≡ true) ↔ Within a b d) → Ends (select test (upTo n)) a (min b n)
 unfolding select upTo
 select-ends test a b zero h = omega arith
-select-ends test a b (suc n) h = rw (select-append test (upTo n) (n ∷ [])) (go (test n) refl (select-ends test a b n h))
+select-ends test a b (suc n) h = rw (select-append test (upTo n) (n ∷ [])) (go (test n) refl (select-ends test a b n (λ d k. h d (omega arith))))
   where
     go : (t : Bool) → test n ≡ t → Ends (select test (upTo n)) a (min b n) → Ends (select test (upTo n) ++ cond t (n ∷ []) []) a (min b (suc n))
     go true e ih =
-        let w = h n .0 e in
+        let w = h n (omega arith) .0 e in
         let x : min b n ≡ n = omega arith in
         let y : min b (suc n) ≡ suc n = omega arith in
         rw y (ends-grow (select test (upTo n)) a n (w .0) (rw x at ih))
-    go false e ih = rw (append-nil (select test (upTo n))) (ends-stay (select test (upTo n)) a b n (λ w. false≢true (sym e ∙ h n .1 w)) ih)
+    go false e ih = rw (append-nil (select test (upTo n))) (ends-stay (select test (upTo n)) a b n (λ w. false≢true (sym e ∙ h n (omega arith) .1 w)) ih)
+
+select-select : (t u : ℕ → Bool) (ds : List ℕ) → select t (select u ds) ≡ select (λ d. u d && t d) ds
+unfolding select
+select-select t u [] = refl
+select-select t u (d ∷ ds) = go (u d) (select-select t u ds)
+  where
+    go : (b : Bool) → select t (select u ds) ≡ select (λ d. u d && t d) ds →
+        select t (cond b (d ∷ select u ds) (select u ds)) ≡ cond (b && t d) (d ∷ select (λ d. u d && t d) ds) (select (λ d. u d && t d) ds)
+    go true ih = rw ih refl
+    go false ih = ih
 
 -- so the line of the depths joined is that of the scan
-depths-line : (test : ℕ → Bool) (c : Levels) (i j p m : ℕ) → ((d : ℕ) → (test d ≡ true) ↔ (Opens c d × Within p m d)) → lineFor i j (select test (upTo (endLevel c))) ≡ lineOf c i j p m
-unfolding lineOf lineFor select upTo
+depths-line : (test : ℕ → Bool) (c : Levels) (i j p m : ℕ) → ((d : ℕ) → Opens c d → (test d ≡ true) ↔ Within p m d) → lineFor i j (select test (leftOpen c)) ≡ lineOf c i j p m
+unfolding lineOf lineFor leftOpen select
 depths-line test blank i j p m h = refl
 depths-line test (hill s q e) i j p m h =
-    let x : min (min e m) e ≡ min e m = omega arith in
-    ends-line i j (select test (upTo e)) (max q p) (min e m) (rw x at (select-ends test (max q p) (min e m) e (λ d. (λ t. let w = h d .0 t in omega arith, λ w. h d .1 (omega arith)))))
+    rw (select-select test (λ d. leb q d) (upTo e))
+    (ends-line i j (select (λ d. leb q d && test d) (upTo e)) (max q p) (min e m) (rw x at (select-ends (λ d. leb q d && test d) (max q p) (min e m) e inside)))
+  where
+    x : min (min e m) e ≡ min e m
+    x = omega arith
+
+    inside : (d : ℕ) → d < e → (leb q d && test d ≡ true) ↔ Within (max q p) (min e m) d
+    inside d b =
+        let a = and-eq-true-iff (leb q d) (test d) in (
+          λ t. let y : q ≤ d = leb-true q d (a .0 t .0) in let w = h d (y, b) .0 (a .0 t .1) in omega arith,
+          λ w. let y : q ≤ d = omega arith in a .1 (le-leb q d y, h d (y, b) .1 (omega arith)),
+        )
 
 flatMap-last : (f : ℕ → List Line) (x : List ℕ) (n : ℕ) → flatMap f (x ++ (n ∷ [])) ≡ flatMap f x ++ f n
 unfolding flatMap
@@ -140,13 +158,13 @@ module _ (row : List Levels) where
   unfolding flatMap downFrom walk depthsJoined
   walk-lines j p s m zero b c f = refl
   walk-lines j p s m (suc n) b c f =
-      rw (depths-line (joinedAt row n j) (rowOf row n) n j p m here, walk-lines j p s (passed (rowOf row n) m) n (omega arith) c below)
+      rw (depths-line (λ d. asked row n j d) (rowOf row n) n j p m here, walk-lines j p s (passed (rowOf row n) m) n (omega arith) c below)
     where
-      here : (d : ℕ) → (joinedAt row n j d ≡ true) ↔ (Opens (rowOf row n) d × Within p m d)
-      here d =
-          let x = joined-iff row n j d b in (
-            λ t. let (o, e) = x .0 t in let w = c d .0 e in (o .opens, (w .0, f d .1 (w .1, o .between))),
-            λ t. let w = f d .0 (t .1 .1) in x .1 (record { before = b; opens = t .0; between = w .1 }, c d .1 (t .1 .0, w .0)),
+      here : (d : ℕ) → Opens (rowOf row n) d → (asked row n j d ≡ true) ↔ Within p m d
+      here d o =
+          let x = asked-iff row n j d in (
+            λ t. let (e, f′) = x .0 t in let w = c d .0 e in (w .0, f d .1 (w .1, f′)),
+            λ t. let w = f d .0 (t .1) in x .1 (c d .1 (t .0, w .0), w .1),
           )
 
       below : (d : ℕ) → (d < passed (rowOf row n) m) ↔ ((d < s) × ((k : ℕ) → n ≤ k → k < j → Above (rowOf row k) d))
@@ -177,6 +195,13 @@ module _ (row : List Levels) where
   pub planOf-exact : (l : Line) → List·Memᴰ l (planOf row) ↔ IsLine (rowOf row) l
   planOf-exact l = rw planOf-scan (scanOf-exact row l)
 
+  -- the numbers of a line are in range: chunks of the row, and depths that chunk i leaves open
+  pub planOf-range : (l : Line) → List·Memᴰ l (planOf row) → (l .i < l .j) × (l .j < length row) × (l .lowest ≤ l .highest) × Opens (rowOf row (l .i)) (l .highest)
+  planOf-range l m =
+      let h = planOf-exact l .0 m in
+      let (o, c) = h .depths (l .highest) .1 (omega (arith, h .some)) in
+      (o .before, closes-inside row (l .j) (l .highest) c, h .some, o .opens)
+
   -- each join has a line
   pub planOf-some : (i j d : ℕ) → Joins (rowOf row) i j d → (l : Line) × List·Memᴰ l (planOf row) × (l .i ≡ i) × (l .j ≡ j)
   planOf-some i j d h = rw planOf-scan (scanOf-some row i j d h)
@@ -188,3 +213,18 @@ module _ (row : List Levels) where
   -- and no other list has just those lines in that order
   pub planOf-only : (ls : List Line) → Sorted ls → ((l : Line) → List·Memᴰ l ls ↔ IsLine (rowOf row) l) → ls ≡ planOf row
   planOf-only ls s h = scanOf-only row ls s h ∙ sym planOf-scan
+
+-- On a row that meets, a record left open by chunk i that no chunk between closes is closed in j exactly if its depth is not below j's peak: there the
+-- plan's test `d < start` says nothing more.
+pub start-implied : (row : List Levels) → ((k : ℕ) → k < length row → Meets (rowOf row k) (levelAt (rowOf row) k)) → (i j d : ℕ) → i < j → j < length row →
+    Opens (rowOf row i) d → belowPeaks (chunksBetween row i j) d ≡ true → closesEarlier (rowOf row j) d ≡ not (belowPeaks (rowOf row j ∷ []) d)
+start-implied row meets i j d b c o e = go (closesEarlier (rowOf row j) d) refl (belowPeaks (rowOf row j ∷ []) d) refl
+  where
+    low : (Above (rowOf row j) d → ⊥) → Closes (rowOf row j) d
+    low f = joins-of-low (rowOf row) (length row) meets i j d c (record { before = b; opens = o; between = below-between row i j d .0 e }) f .1
+
+    go : (s : Bool) → closesEarlier (rowOf row j) d ≡ s → (t : Bool) → belowPeaks (rowOf row j ∷ []) d ≡ t → s ≡ not t
+    go true x true y = absurd (closes-not-above (rowOf row j) d (closes-iff (rowOf row j) d .0 x) (below-cons (rowOf row j) [] d .0 y .0))
+    go true x false y = refl
+    go false x true y = refl
+    go false x false y = absurd (false≢true (sym x ∙ closes-iff (rowOf row j) d .1 (low (λ a. false≢true (sym y ∙ below-cons (rowOf row j) [] d .1 (a, refl))))))

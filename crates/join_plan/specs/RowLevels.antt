@@ -21,6 +21,11 @@ above-less : (c : Levels) (b d : ℕ) → Above c b → d ≤ b → Above c d
 above-less blank b d x h = x
 above-less (hill s p e) b d x h = omega arith
 
+-- a chunk that closes a record of depth d is not above it
+pub closes-not-above : (c : Levels) (d : ℕ) → Closes c d → Above c d → ⊥
+closes-not-above blank d o a = o
+closes-not-above (hill s p e) d o a = omega arith
+
 module _ (row : ℕ → Levels) where
   -- so are the depths of a join
   pub joins-convex : (i j a b d : ℕ) → Joins row i j a → Joins row i j b → a ≤ d → d ≤ b → Joins row i j d

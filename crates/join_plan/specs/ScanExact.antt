@@ -1,5 +1,5 @@
 -- The plan holds the lines that it should, in order. Assumes nothing.
-use Prim.Native.Nat.{ℕ, zero, suc, _+_, _≤_, _<_, min, max}
+use Prim.Native.Nat.{ℕ, zero, suc, _≤_, _<_, min, max}
 use mathlib.Core.Path.{_≡_, refl, sym, _∙_, subst}
 use mathlib.Core.Logic.{inl, inr, ⊎-elim, _↔_, dite}
 use mathlib.Core.List.{List, [], _∷_, _++_, List·Memᴰ, List·Memᴰ·head, List·Memᴰ·tail, Memᴰ·cast, Memᴰ·append-left, Memᴰ·append-right}
@@ -210,7 +210,7 @@ before-asym x y (inr a) (inl b) = omega arith
 before-asym x y (inr a) (inr b) = omega arith
 
 -- two sorted lists with the same members are one
-sorted-unique : (a b : List Line) → Sorted a → Sorted b → ((x : Line) → List·Memᴰ x a ↔ List·Memᴰ x b) → a ≡ b
+pub sorted-unique : (a b : List Line) → Sorted a → Sorted b → ((x : Line) → List·Memᴰ x a ↔ List·Memᴰ x b) → a ≡ b
 sorted-unique [] [] s t h = refl
 sorted-unique [] (y ∷ b) s t h = absurd (List·Memᴰ·not-nil (h y .1 (List·Memᴰ·head refl)))
 sorted-unique (x ∷ a) [] s t h = absurd (List·Memᴰ·not-nil (h x .0 (List·Memᴰ·head refl)))
@@ -228,7 +228,7 @@ sorted-unique (x ∷ a) (y ∷ b) s t h = λ k. heads k ∷ sorted-unique a b (s
     tails z = (λ m. step x y a b heads (s .0) z m (h z .0 (List·Memᴰ·tail m)), λ m. step y x b a (sym heads) (t .0) z m (h z .1 (List·Memᴰ·tail m)))
 
 module _ (row : List Levels) where
-  closes-inside : (j d : ℕ) → Closes (rowOf row j) d → j < length row
+  pub closes-inside : (j d : ℕ) → Closes (rowOf row j) d → j < length row
   closes-inside j d c = dite (decLt j (length row)) (λ h. h) (λ h. absurd (subst (λ c. Closes c d) (List·getD-eq-default row blank (omega arith)) c))
 
   -- a line is in the plan exactly if its chunks are joined, in just its depths

@@ -9,8 +9,8 @@ use Rattle.hill.specs.Summary.{hill, Summary, whole, blank, part}
 use Rattle.gate.specs.Outcome.{result}
 use Rattle.hill.specs.Finish.{finishOf}
 use Rattle.hill.specs.Row.{mergeRow}
-use Rattle.join_plan.specs.Plan.{joinedAt, upTo, downFrom, select, depthsJoined, lineFor, planOf, folded}
-use Rattle.plan_work.specs.Runs.{planOfRow, levelsDown, runLevels}
+use Rattle.join_plan.specs.Plan.{leftOpen, upTo, downFrom, select, depthsJoined, lineFor, planOf, folded, planOfRow}
+use Rattle.plan_work.specs.Runs.{levelsDown, runLevels}
 use Rattle.plan_work.specs.Work.{middlesAt, outcomesAt, given, worked, workOf}
 use Rattle.plan_work.specs.Gate.{rowFault}
 
@@ -23,7 +23,7 @@ two : List (Summary ℕ ℕ)
 two = part (whole 0 2 (hill [] 0 ((5, 0) ∷ (10, 0) ∷ []))) ∷ part (whole 0 1 (hill (3 ∷ 0 ∷ []) 0 [])) ∷ []
 
 two-plan : planOfRow two ≡ record { i = 0; j = 1; lowest = 0; highest = 1 } ∷ []
-unfolding two planOf flatMap joinedAt upTo downFrom select depthsJoined lineFor
+unfolding two planOf flatMap leftOpen upTo downFrom select depthsJoined lineFor
 two-plan = refl
 
 two-levels : runLevels stamp two (record { i = 0; j = 1; lowest = 0; highest = 1 }) ≡
@@ -32,7 +32,7 @@ unfolding two runLevels levelsDown
 two-levels = refl
 
 two-work : workOf stamp two ≡ record { figure = 258; joins = 1; levels = 2 }
-unfolding two planOf flatMap joinedAt upTo downFrom select depthsJoined lineFor folded runLevels levelsDown worked given middlesAt outcomesAt through step
+unfolding two planOf flatMap leftOpen upTo downFrom select depthsJoined lineFor folded runLevels levelsDown worked given middlesAt outcomesAt through step
 two-work = refl
 
 two-finish : finishOf stamp (mergeRow stamp two) ≡ result 258
@@ -48,7 +48,7 @@ five =
 five-plan : planOfRow five ≡
     record { i = 0; j = 1; lowest = 2; highest = 2 } ∷ record { i = 1; j = 3; lowest = 2; highest = 2 } ∷ record { i = 0; j = 3; lowest = 1; highest = 1 }
     ∷ record { i = 3; j = 4; lowest = 1; highest = 1 } ∷ record { i = 0; j = 4; lowest = 0; highest = 0 } ∷ []
-unfolding five planOf flatMap joinedAt upTo downFrom select depthsJoined lineFor
+unfolding five planOf flatMap leftOpen upTo downFrom select depthsJoined lineFor
 five-plan = refl
 
 five-gate : rowFault five ≡ pass
@@ -56,7 +56,7 @@ unfolding five between count ends
 five-gate = refl
 
 five-work : workOf stamp five ≡ record { figure = 274825; joins = 5; levels = 5 }
-unfolding five planOf flatMap joinedAt upTo downFrom select depthsJoined lineFor folded runLevels levelsDown worked given middlesAt outcomesAt through step
+unfolding five planOf flatMap leftOpen upTo downFrom select depthsJoined lineFor folded runLevels levelsDown worked given middlesAt outcomesAt through step
 five-work = refl
 
 five-finish : finishOf stamp (mergeRow stamp five) ≡ result 274825

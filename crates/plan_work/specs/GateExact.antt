@@ -15,6 +15,7 @@ use Rattle.hill.specs.Merge.{mergePart, mergeSummary}
 use Rattle.hill.specs.Finish.{outcome, finishOf}
 use Rattle.hill.specs.SummaryLaws.{start-merge, end-merge, verdict-merge, opened-merge}
 use Rattle.hill.specs.RowLaws.{inOrder}
+use Rattle.join_plan.specs.Gate.{summaryFault}
 use Rattle.plan_work.specs.Runs.{slopesOf}
 use Rattle.plan_work.specs.Gate.{partsOf, spoiltFault, joinFault, totalOpened, lastEnd, rowFault, FairPart, FairRow}
 
@@ -47,10 +48,6 @@ module _ {R : Type 0} (𝒜 : Algebra R) where
   mergeAll-parts a [] = refl
   mergeAll-parts a (blank ∷ row) = mergeAll-parts a row
   mergeAll-parts a (part b ∷ row) = rw (mergeAll-parts b row)
-
-  abbrev pub Unspoilt : Summary Fig R → Type 0
-  Unspoilt blank = Unit {0}
-  Unspoilt (part a) = verdict a ≡ pass
 
   module _ (ℒ : Laws 𝒜) where
     start-parts : (a : Part Fig R) (bs : List (Part Fig R)) → start (mergeParts a bs) ≡ start a
@@ -90,7 +87,7 @@ module _ {R : Type 0} (𝒜 : Algebra R) where
         rw (mergeAll-parts a row, verdict-parts a row (f .0) (f .1), start-parts a (partsOf row), end-parts a (partsOf row))
 
     -- Where nothing is at fault, the merged row is not spoilt.
-    pub row-unspoilt : (row : List (Summary Fig R)) → FairRow 𝒜 row → rowFault row ≡ pass → Unspoilt (mergeAll row)
+    pub row-unspoilt : (row : List (Summary Fig R)) → FairRow 𝒜 row → rowFault row ≡ pass → summaryFault 𝒜 (mergeAll row) ≡ pass
     row-unspoilt [] f v = absurd (refuse-pass v)
     row-unspoilt (blank ∷ row) f v = row-unspoilt row f v
     row-unspoilt (part a ∷ row) f v =

@@ -14,12 +14,12 @@ use lib.Seq.{take-suc, take-all, drop-append-le, length-take-le}
 use Rattle.algebra.specs.Algebra.{Algebra, Laws}
 use Rattle.algebra.specs.Run.{through}
 use Rattle.hill.specs.Summary.{Hill, Summary, spoilt, whole, blank, part, rise, fall, middle}
-use Rattle.join_plan.specs.Plan.{Levels, blank as noLevels, hill as levels, Line}
+use Rattle.join_plan.specs.Plan.{Levels, blank as noLevels, hill as levels, Line, levelsOfSummary, planOfRow}
 use Rattle.join_plan.specs.Joins.{after, levelAt}
 use Rattle.join_plan.specs.Scan.{lineIf, lineOf, passed, walk, linesTo, plan, scanOf}
 use Rattle.join_plan.specs.PlanExact.{planOf-scan}
 use Rattle.join_plan.specs.PlanFacts.{walk-stop}
-use Rattle.plan_work.specs.Runs.{levelsOf, planOfRow, peakOf, slopesOf, summaryAt, runLevels}
+use Rattle.plan_work.specs.Runs.{peakOf, slopesOf, summaryAt, runLevels}
 use Rattle.plan_work.specs.Work.{middlesAt}
 use Rattle.plan_work.specs.GateExact.{Chain, Begins}
 use Rattle.plan_work.specs.Fold.{down}
@@ -68,7 +68,7 @@ module _ {R : Type 0} (𝒜 : Algebra R) (row : List (Summary (𝒜 .Fig) R)) wh
   infixl 70 _⊗_
   -- Of the summary k: its levels, the level before it, its peak, its slopes.
   abbrev pub chunk : ℕ → Levels
-  chunk k = levelsOf (summaryAt 𝒜 row k)
+  chunk k = levelsOfSummary (summaryAt 𝒜 row k)
 
   unfoldable pub level : ℕ → ℕ
   level k = levelAt chunk k
@@ -86,7 +86,7 @@ module _ {R : Type 0} (𝒜 : Algebra R) (row : List (Summary (𝒜 .Fig) R)) wh
   -- The plan of the row is the scan over these levels.
   pub plan-row : planOfRow row ≡ plan chunk (length row)
   unfolding scanOf
-  plan-row = planOf-scan (map levelsOf row) ∙ (λ i. plan (λ (k : ℕ). List·getD-map levelsOf row k blank i) (length-map row levelsOf i))
+  plan-row = planOf-scan (map levelsOfSummary row) ∙ (λ i. plan (λ (k : ℕ). List·getD-map levelsOfSummary row k blank i) (length-map row levelsOfSummary i))
 
   pub lines-nil : (j q t : ℕ) → walk chunk j q t 0 ≡ []
   unfolding walk
@@ -110,20 +110,20 @@ module _ {R : Type 0} (𝒜 : Algebra R) (row : List (Summary (𝒜 .Fig) R)) wh
   abbrev Goes : ℕ → List (Summary Fig R) → Type 0
   Goes l rest = ((l ≡ 0) × Begins rest) ⊎ Chain l rest
 
-  goes-next : (s : Summary Fig R) (rest : List (Summary Fig R)) (l : ℕ) → Goes l (s ∷ rest) → Goes (after (levelsOf s) l) rest
+  goes-next : (s : Summary Fig R) (rest : List (Summary Fig R)) (l : ℕ) → Goes l (s ∷ rest) → Goes (after (levelsOfSummary s) l) rest
   goes-next blank rest l g = g
   goes-next (part (spoilt f a e o)) rest l (inl g) = absurd (g .1)
   goes-next (part (spoilt f a e o)) rest l (inr g) = absurd g
   goes-next (part (whole p o h)) rest l (inl g) = inr (g .1 .1)
   goes-next (part (whole p o h)) rest l (inr g) = inr (g .2)
 
-  goes-rise : (s : Summary Fig R) (rest : List (Summary Fig R)) (l : ℕ) → Goes l (s ∷ rest) → floorOf (levelsOf s) l + rise (slopesOf 𝒜 s) ≡ l
+  goes-rise : (s : Summary Fig R) (rest : List (Summary Fig R)) (l : ℕ) → Goes l (s ∷ rest) → floorOf (levelsOfSummary s) l + rise (slopesOf 𝒜 s) ≡ l
   goes-rise blank rest l g = add-zero l
   goes-rise (part (spoilt f a e o)) rest l g = add-zero l
   goes-rise (part (whole p o h)) rest l (inl g) = g .1 .0 ∙ sym (g .0)
   goes-rise (part (whole p o h)) rest l (inr g) = g .1
 
-  floor-fall : (s : Summary Fig R) (l : ℕ) → floorOf (levelsOf s) l + fall (slopesOf 𝒜 s) ≡ after (levelsOf s) l
+  floor-fall : (s : Summary Fig R) (l : ℕ) → floorOf (levelsOfSummary s) l + fall (slopesOf 𝒜 s) ≡ after (levelsOfSummary s) l
   floor-fall blank l = add-zero l
   floor-fall (part (spoilt f a e o)) l = add-zero l
   floor-fall (part (whole p o h)) l = refl
@@ -142,7 +142,7 @@ module _ {R : Type 0} (𝒜 : Algebra R) (row : List (Summary (𝒜 .Fig) R)) wh
   }
 
   -- The lines to the chunk j.
-  lines-to : (s : Summary Fig R) (j l : ℕ) → floorOf (levelsOf s) l + rise (slopesOf 𝒜 s) ≡ l → linesTo chunk (levelsOf s) j ≡ walk chunk j (floorOf (levelsOf s) l) l j
+  lines-to : (s : Summary Fig R) (j l : ℕ) → floorOf (levelsOfSummary s) l + rise (slopesOf 𝒜 s) ≡ l → linesTo chunk (levelsOfSummary s) j ≡ walk chunk j (floorOf (levelsOfSummary s) l) l j
   unfolding linesTo
   lines-to blank j l e = sym (walk-stop chunk j l l j (omega arith))
   lines-to (part (spoilt f a c o)) j l e = sym (walk-stop chunk j l l j (omega arith))
@@ -157,7 +157,7 @@ module _ {R : Type 0} (𝒜 : Algebra R) (row : List (Summary (𝒜 .Fig) R)) wh
   plan-zero = refl
 
   -- A chunk that is not flat has a peak of its own.
-  floor-peak : (s : Summary Fig R) (l : ℕ) → (floorOf (levelsOf s) l < l) ⊎ (floorOf (levelsOf s) l < after (levelsOf s) l) → peakOf 𝒜 s ≡ floorOf (levelsOf s) l
+  floor-peak : (s : Summary Fig R) (l : ℕ) → (floorOf (levelsOfSummary s) l < l) ⊎ (floorOf (levelsOfSummary s) l < after (levelsOfSummary s) l) → peakOf 𝒜 s ≡ floorOf (levelsOfSummary s) l
   floor-peak blank l (inl a) = absurd (omega arith)
   floor-peak blank l (inr a) = absurd (omega arith)
   floor-peak (part (spoilt f b e o)) l (inl a) = absurd (omega arith)
@@ -174,7 +174,7 @@ module _ {R : Type 0} (𝒜 : Algebra R) (row : List (Summary (𝒜 .Fig) R)) wh
   cond-same false true x = refl
   cond-same false false x = refl
 
-  middle-floor : (s : Summary Fig R) (b l : ℕ) → cond (eqb (peakOf 𝒜 s) l) (middle (slopesOf 𝒜 s)) ι ≡ cond (eqb (floorOf (levelsOf s) b) l) (middle (slopesOf 𝒜 s)) ι
+  middle-floor : (s : Summary Fig R) (b l : ℕ) → cond (eqb (peakOf 𝒜 s) l) (middle (slopesOf 𝒜 s)) ι ≡ cond (eqb (floorOf (levelsOfSummary s) b) l) (middle (slopesOf 𝒜 s)) ι
   middle-floor blank b l = cond-same (eqb 0 l) (eqb b l) ι
   middle-floor (part (spoilt f a e o)) b l = cond-same (eqb 0 l) (eqb b l) ι
   middle-floor (part (whole p o h)) b l = refl

@@ -1,22 +1,12 @@
 -- The runs of a row of summaries, from its plan: definitions only. Assumes nothing.
-use mathlib.Core.List.{List, [], _∷_, _++_, map}
+use mathlib.Core.List.{List, [], _∷_, _++_}
 use Prim.Native.Nat.{ℕ, zero, suc, _+_, _-_}
 use lib.ListN.{length, getD, drop}
 use Rattle.algebra.specs.Algebra.{Algebra}
 use Rattle.algebra.specs.Run.{Level, Context, run}
-use Rattle.hill.specs.Summary.{Hill, hill, Summary, spoilt, whole, blank, part, rise, fall}
+use Rattle.hill.specs.Summary.{Hill, hill, Summary, blank, part}
 use Rattle.hill.specs.Merge.{peak, slopes}
-use Rattle.join_plan.specs.Plan.{Levels, blank as noLevels, hill as levels, Line, planOf}
-
--- What the plan reads of a summary. (A spoilt one never gets through the gate.)
-abbrev pub levelsOf : {Fig R : Type 0} → Summary Fig R → Levels
-levelsOf blank = noLevels
-levelsOf (part (spoilt f s e o)) = noLevels
-levelsOf (part (whole p o h)) = levels (p + rise h) p (p + fall h)
-
--- The plan of a row of summaries.
-abbrev pub planOfRow : {Fig R : Type 0} → List (Summary Fig R) → List Line
-planOfRow row = planOf (map levelsOf row)
+use Rattle.join_plan.specs.Plan.{Line, planOfRow}
 
 module _ {R : Type 0} (𝒜 : Algebra R) where
   open Algebra 𝒜 using (Fig, ι)

@@ -9,10 +9,10 @@ use Rattle.algebra.specs.Algebra.{Algebra}
 use Rattle.algebra.specs.Run.{Level, through, Context, AllSound, run, run-is, run-fine}
 use Rattle.hill.specs.Summary.{Hill, hill, Summary, spoilt, whole, blank, part, fall}
 use Rattle.hill.specs.Valid.{Sizes, AllFine, FineHill}
-use Rattle.join_plan.specs.Plan.{Levels, Line, rowOf}
+use Rattle.join_plan.specs.Plan.{Levels, Line, rowOf, levelsOfSummary, planOfRow}
 use Rattle.join_plan.specs.Joins.{Opens, IsLine}
 use Rattle.join_plan.specs.PlanExact.{planOf-exact}
-use Rattle.plan_work.specs.Runs.{levelsOf, planOfRow, peakOf, slopesOf, leftAt, levelOf, levelsDown, summaryAt, runLevels, runOf, runsAlong, runsOf}
+use Rattle.plan_work.specs.Runs.{peakOf, slopesOf, leftAt, levelOf, levelsDown, summaryAt, runLevels, runOf, runsAlong, runsOf}
 use Rattle.plan_work.specs.LogWork.{ValidRow}
 
 module _ {R : Type 0} (𝒜 : Algebra R) where
@@ -32,7 +32,7 @@ module _ {R : Type 0} (𝒜 : Algebra R) where
       ∙ rw (level-length (drop i d) (leftAt 𝒜 q h (suc (lo + n))) (rw (length-drop i d) (omega arith)), levels-length p (hill u m d) q h lo n a (omega arith)) (omega arith)
 
   -- A line's depths are those of unclosed records of its first chunk.
-  depths-open : (s : Summary Fig R) (a b : ℕ) → Opens (levelsOf s) a → Opens (levelsOf s) b → (peakOf 𝒜 s ≤ a) × (b < peakOf 𝒜 s + fall (slopesOf 𝒜 s))
+  depths-open : (s : Summary Fig R) (a b : ℕ) → Opens (levelsOfSummary s) a → Opens (levelsOfSummary s) b → (peakOf 𝒜 s ≤ a) × (b < peakOf 𝒜 s + fall (slopesOf 𝒜 s))
   depths-open blank a b x y = absurd x
   depths-open (part (spoilt f s e o)) a b x y = absurd x
   depths-open (part (whole p o h)) a b x y = (x .0, y .1)
@@ -41,9 +41,9 @@ module _ {R : Type 0} (𝒜 : Algebra R) where
   pub run-length : (row : List (Summary Fig R)) (e : Line) → List·Memᴰ e (planOfRow row) → (e .lowest ≤ e .highest) × (length (runLevels 𝒜 row e) ≡ suc (e .highest) - e .lowest)
   unfolding runLevels
   run-length row e m =
-      let f : IsLine (rowOf (map levelsOf row)) e = planOf-exact (map levelsOf row) e .0 m in
-      let opens : (d : ℕ) → e .lowest ≤ d → d ≤ e .highest → Opens (levelsOf (summaryAt 𝒜 row (e .i))) d
-      = λ d a b. subst (λ (c : Levels). Opens c d) (List·getD-map levelsOf row (e .i) blank) (f .depths d .1 (a, b) .0 .opens) in
+      let f : IsLine (rowOf (map levelsOfSummary row)) e = planOf-exact (map levelsOfSummary row) e .0 m in
+      let opens : (d : ℕ) → e .lowest ≤ d → d ≤ e .highest → Opens (levelsOfSummary (summaryAt 𝒜 row (e .i))) d
+      = λ d a b. subst (λ (c : Levels). Opens c d) (List·getD-map levelsOfSummary row (e .i) blank) (f .depths d .1 (a, b) .0 .opens) in
       let r : (peakOf 𝒜 (summaryAt 𝒜 row (e .i)) ≤ e .lowest) × (e .highest < peakOf 𝒜 (summaryAt 𝒜 row (e .i)) + fall (slopesOf 𝒜 (summaryAt 𝒜 row (e .i))))
       = depths-open (summaryAt 𝒜 row (e .i)) (e .lowest) (e .highest) (opens (e .lowest) (le-refl (e .lowest)) (f .some)) (opens (e .highest) (f .some) (le-refl (e .highest))) in (
         f .some,

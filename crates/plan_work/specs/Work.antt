@@ -8,8 +8,8 @@ use Rattle.algebra.specs.Algebra.{Algebra}
 use Rattle.algebra.specs.Run.{through}
 use Rattle.hill.specs.Summary.{Summary, blank, part, middle}
 use Rattle.hill.specs.Merge.{slopes}
-use Rattle.join_plan.specs.Plan.{Line, joins, folded}
-use Rattle.plan_work.specs.Runs.{planOfRow, peakOf, slopesOf, runLevels}
+use Rattle.join_plan.specs.Plan.{Line, joins, folded, planOfRow}
+use Rattle.plan_work.specs.Runs.{peakOf, slopesOf, runLevels}
 
 -- A line that has been worked, with its outcome.
 pub record Done (Fig : Type 0) : Type 0 where

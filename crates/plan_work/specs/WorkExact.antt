@@ -7,9 +7,8 @@ use native.Mathlib.Decide.{decLt}
 use native.Mathlib.Omega.{arith}
 use lib.ListN.{length, drop, drop-of-length-le}
 use Rattle.algebra.specs.Algebra.{Algebra, Laws, Commutative}
-use Rattle.hill.specs.Verdict.{pass, low, between, count}
-use Rattle.hill.specs.VerdictLaws.{low-fst, low-snd}
-use Rattle.hill.specs.Summary.{Hill, Part, Summary, spoilt, whole, blank, part, rise, fall, middle, verdict, start, end, opened}
+use Rattle.hill.specs.Verdict.{pass}
+use Rattle.hill.specs.Summary.{Hill, Part, Summary, spoilt, whole, blank, part, rise, fall, middle}
 use Rattle.hill.specs.Merge.{slopes, mergeSummary}
 use Rattle.hill.specs.Finish.{outcome, finishOf}
 use Rattle.hill.specs.Building.{empty, merge, merge-empty, empty-merge, merge-assoc}
@@ -18,10 +17,12 @@ use Rattle.hill.specs.FinishLaws.{outcome-same}
 use Rattle.hill.specs.RowLaws.{mergeRow-inOrder}
 use Rattle.hill.specs.Row.{mergeRow}
 use Rattle.join_plan.specs.Joins.{after, levelAt}
-use Rattle.plan_work.specs.Runs.{levelsOf, slopesOf, summaryAt}
+use Rattle.join_plan.specs.Plan.{levelsOfSummary}
+use Rattle.join_plan.specs.Gate.{summaryFault, fault-parts}
+use Rattle.plan_work.specs.Runs.{slopesOf, summaryAt}
 use Rattle.plan_work.specs.Work.{Done, oneMiddle, lastOutcome, workOf}
 use Rattle.plan_work.specs.Gate.{rowFault, FairHill, FairPart, FairRow}
-use Rattle.plan_work.specs.GateExact.{mergeAll, finish-row, Unspoilt, row-unspoilt, Chain, Begins, row-begins}
+use Rattle.plan_work.specs.GateExact.{mergeAll, finish-row, row-unspoilt, Chain, Begins, row-begins}
 use Rattle.plan_work.specs.Fold.{down-none}
 use Rattle.plan_work.specs.Merged.{merged, closed, centre, pit, merged-stack, centre-up, centre-down}
 use Rattle.plan_work.specs.RowLevels.{floorOf, unroll, level, floor, sides, meeting, level-suc, plan-row}
@@ -37,20 +38,16 @@ module _ {R : Type 0} (𝒜 : Algebra R) where
   allSlopes (s ∷ row) = merge 𝒜 (slopesOf 𝒜 s) (allSlopes row)
 
   module _ (ℒ : Laws 𝒜) where
-    merge-whole : (a : Part Fig R) (t : Summary Fig R) → Unspoilt 𝒜 (mergeSummary 𝒜 (part a) t) → slopesOf 𝒜 (mergeSummary 𝒜 (part a) t) ≡ merge 𝒜 (slopes 𝒜 a) (slopesOf 𝒜 t)
+    merge-whole : (a : Part Fig R) (t : Summary Fig R) → summaryFault 𝒜 (mergeSummary 𝒜 (part a) t) ≡ pass → slopesOf 𝒜 (mergeSummary 𝒜 (part a) t) ≡ merge 𝒜 (slopes 𝒜 a) (slopesOf 𝒜 t)
     merge-whole a blank v = sym (merge-empty 𝒜 ℒ (slopes 𝒜 a))
     merge-whole a (part b) v = slopes-merge 𝒜 ℒ a b (sym (verdict-merge 𝒜 a b) ∙ v)
 
-    rest-unspoilt : (a : Part Fig R) (t : Summary Fig R) → Unspoilt 𝒜 (mergeSummary 𝒜 (part a) t) → Unspoilt 𝒜 t
-    rest-unspoilt a blank v = tt
-    rest-unspoilt a (part b) v = low-fst (verdict b) _ (low-snd (verdict a) (low (verdict b) (low (between (end a) (start b)) (count (opened a + opened b)))) (sym (verdict-merge 𝒜 a b) ∙ v))
-
     -- The merged row has the merged slopes, ..
-    merged-slopes : (row : List (Summary Fig R)) → Unspoilt 𝒜 (mergeAll 𝒜 row) → slopesOf 𝒜 (mergeAll 𝒜 row) ≡ allSlopes row
+    merged-slopes : (row : List (Summary Fig R)) → summaryFault 𝒜 (mergeAll 𝒜 row) ≡ pass → slopesOf 𝒜 (mergeAll 𝒜 row) ≡ allSlopes row
     merged-slopes [] v = refl
     merged-slopes (blank ∷ row) v = merged-slopes row v ∙ sym (empty-merge 𝒜 ℒ (allSlopes row))
     merged-slopes (part a ∷ row) v =
-        merge-whole a (mergeAll 𝒜 row) v ∙ ap (merge 𝒜 (slopes 𝒜 a)) (merged-slopes row (rest-unspoilt a (mergeAll 𝒜 row) v))
+        merge-whole a (mergeAll 𝒜 row) v ∙ ap (merge 𝒜 (slopes 𝒜 a)) (merged-slopes row (fault-parts 𝒜 (part a) (mergeAll 𝒜 row) v .1))
 
     -- .. also hill after hill.
     merged-shift : (h : ℕ → Hill Fig R) (a : Hill Fig R) (n : ℕ) → merged 𝒜 h a (suc n) ≡ merged 𝒜 (λ k. h (suc k)) (merge 𝒜 a (h 0)) n
@@ -64,7 +61,7 @@ module _ {R : Type 0} (𝒜 : Algebra R) where
     merged-onto (s ∷ row) a =
         sym (merge-assoc 𝒜 ℒ a (slopesOf 𝒜 s) (allSlopes row)) ∙ merged-onto row (merge 𝒜 a (slopesOf 𝒜 s)) ∙ sym (merged-shift (sides 𝒜 (s ∷ row)) a (length row))
 
-    merged-row : (row : List (Summary Fig R)) → Unspoilt 𝒜 (mergeAll 𝒜 row) → slopesOf 𝒜 (mergeAll 𝒜 row) ≡ merged 𝒜 (sides 𝒜 row) (empty 𝒜) (length row)
+    merged-row : (row : List (Summary Fig R)) → summaryFault 𝒜 (mergeAll 𝒜 row) ≡ pass → slopesOf 𝒜 (mergeAll 𝒜 row) ≡ merged 𝒜 (sides 𝒜 row) (empty 𝒜) (length row)
     merged-row row v = merged-slopes row v ∙ sym (empty-merge 𝒜 ℒ (allSlopes row)) ∙ merged-onto row (empty 𝒜)
 
   -- Of the summary k of a row.
@@ -122,12 +119,12 @@ module _ {R : Type 0} (𝒜 : Algebra R) (ℒ : Laws 𝒜) (comm : Commutative �
 
   -- What the summary n is, where it is s.
   module _ (n : ℕ) (s : Summary Fig R) (e : summaryAt 𝒜 row n ≡ s) where
-    level-is : level 𝒜 row (suc n) ≡ after (levelsOf s) (level 𝒜 row n)
-    level-is = level-suc 𝒜 row n ∙ ap (λ (t : Summary Fig R). after (levelsOf t) (level 𝒜 row n)) e
+    level-is : level 𝒜 row (suc n) ≡ after (levelsOfSummary s) (level 𝒜 row n)
+    level-is = level-suc 𝒜 row n ∙ ap (λ (t : Summary Fig R). after (levelsOfSummary t) (level 𝒜 row n)) e
 
-    floor-is : floor 𝒜 row n ≡ floorOf (levelsOf s) (level 𝒜 row n)
+    floor-is : floor 𝒜 row n ≡ floorOf (levelsOfSummary s) (level 𝒜 row n)
     unfolding floor
-    floor-is = ap (λ (t : Summary Fig R). floorOf (levelsOf t) (level 𝒜 row n)) e
+    floor-is = ap (λ (t : Summary Fig R). floorOf (levelsOfSummary t) (level 𝒜 row n)) e
 
     middle-is : middle (sides 𝒜 row n) ≡ middle (slopesOf 𝒜 s)
     middle-is = ap (λ (t : Summary Fig R). middle (slopesOf 𝒜 t)) e
