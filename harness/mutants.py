@@ -185,7 +185,7 @@ ACCEPTING = [
     ("layout.rs", "(7..=9).contains(&fault)", "(7..=11).contains(&fault)", "fault 7, 8 or 9"),
     ("layout.rs", "field16(bytes, 0) != bytes.len() as u64", "field16(bytes, 0) > bytes.len() as u64",
      "exactly one summary"),
-    ("layout.rs", "grams_in_range(value, floor, ceiling)\n", "grams_in_range(value, floor, GRAMS)\n",
+    ("layout.rs", "record.floor, record.ceiling)\n", "record.floor, GRAMS)\n",
      "records meet the ranges"),
 ]
 
