@@ -127,12 +127,16 @@ fn hill_values_fit(mode: Mode, hill: &Hill) -> bool {
         && !(flat && hill.opened == 0)
         // "At peak 0 the middle holds nothing unless start = end = 0."
         && (hill.peak != 0 || whole || hill.middle == nothing(mode))
-        // "records meet the ranges above"
-        && hill.right.iter().all(|unclosed| {
-            let Grams { value, floor, ceiling } = unclosed.record;
-            grams_in_range(value, floor, ceiling)
-        })
+        && records_fit(hill)
         && range_fits(mode, hill)
+}
+
+/// "records meet the ranges above"
+fn records_fit(hill: &Hill) -> bool {
+    hill.right.iter().all(|unclosed| {
+        let record = &unclosed.record;
+        grams_in_range(record.value, record.floor, record.ceiling)
+    })
 }
 
 /// "In modes 1 to 3, 10^9 × unclosed records + the absolute 64-bit values (-2^63 in

@@ -30,19 +30,29 @@ fn around(depth: usize, value: i64, floor: i64, ceiling: i64, held: &[Vec<u8>]) 
     .concat()
 }
 
-/// A drop of pellets: a short record that holds nothing.
-fn pellets(depth: usize, grams: i64) -> Vec<u8> {
+/// A short record that holds nothing.
+fn leaf(depth: usize, grams: i64) -> Vec<u8> {
     [encode_short(depth, grams), encode_close(depth)].concat()
+}
+
+fn sample(name: &'static str, what: &'static str, bytes: Vec<u8>) -> Sample {
+    Sample { name, what, bytes }
 }
 
 /// All samples, in the order of the page.
 pub fn all() -> Vec<Sample> {
-    let sample = |name, what, bytes| Sample { name, what, bytes };
+    let mut samples = well_formed();
+    samples.extend(refused());
+    samples
+}
+
+fn well_formed() -> Vec<Sample> {
     vec![
         sample("d.log", "log D of document 01", log_d()),
         sample(
             "weekday.log",
-            "a site of four raceways with three tanks each, three meals, full and short records",
+            "a site of four raceways with three tanks each, three meals of three drops, \
+             some with returns; full and short records",
             weekday(),
         ),
         sample(
@@ -60,6 +70,11 @@ pub fn all() -> Vec<Sample> {
             "64 records of one gram, each holding the next: depth 0 to 63",
             deep(),
         ),
+    ]
+}
+
+fn refused() -> Vec<Sample> {
+    vec![
         sample(
             "level-gap.log",
             "log D without its first close: neighbours do not meet",
@@ -96,52 +111,45 @@ fn log_d() -> Vec<u8> {
     )
 }
 
-/// Site, raceways, tanks, meals, drops. A tank eats 9,000 grams a day at most, a meal
-/// is nothing at least; some drops come back in part.
+/// Depth 0 the site, 1 raceways, 2 tanks, 3 meals, 4 drops. A tank eats 9,000 grams
+/// at most.
 fn weekday() -> Vec<u8> {
     let mut rng = Rng::new(2006);
-    let mut raceways = Vec::new();
+    let mut depth_1 = Vec::new();
     for _ in 0..4 {
-        let mut tanks = Vec::new();
+        let mut depth_2 = Vec::new();
         for _ in 0..3 {
-            let meals: Vec<Vec<u8>> = (0..3).map(|_| meal(&mut rng)).collect();
-            tanks.push(around(2, 0, 0, 9_000, &meals));
+            let depth_3: Vec<Vec<u8>> = (0..3).map(|_| few_leaves(&mut rng)).collect();
+            depth_2.push(around(2, 0, 0, 9_000, &depth_3));
         }
-        raceways.push(around(1, 0, 0, 40_000, &tanks));
+        depth_1.push(around(1, 0, 0, 40_000, &depth_2));
     }
-    around(0, 0, 0, 1_000_000_000, &raceways)
+    around(0, 0, 0, 1_000_000_000, &depth_1)
 }
 
-/// Three drops of 600 to 1,400 grams; after one meal in three some of it is returned.
-fn meal(rng: &mut Rng) -> Vec<u8> {
-    let mut drops: Vec<Vec<u8>> = (0..3)
-        .map(|_| pellets(4, 10 * rng.between(60, 140)))
-        .collect();
+/// A record of depth 3 with three drops of 600 to 1,400 grams; once in three times
+/// some of it comes back.
+fn few_leaves(rng: &mut Rng) -> Vec<u8> {
+    let mut leaves: Vec<Vec<u8>> = (0..3).map(|_| leaf(4, 10 * rng.between(60, 140))).collect();
     if rng.one_in(3) {
-        drops.push(pellets(4, -rng.between(20, 400)));
+        leaves.push(leaf(4, -rng.between(20, 400)));
     }
-    around(3, 0, 0, 4_000, &drops)
+    around(3, 0, 0, 4_000, &leaves)
 }
 
-/// Tank 1: 300 + 250 - 120 = 430, above its ceiling of 400. Tank 2: 80 - 200 = -120,
-/// below its floor of 0.
+/// First 300 + 250 - 120 = 430, above the ceiling of 400; then 80 - 200 = -120, below
+/// the floor of 0.
 fn returns() -> Vec<u8> {
-    let tank_1 = [pellets(2, 300), pellets(2, 250), pellets(2, -120)];
-    let tank_2 = [pellets(2, 80), pellets(2, -200)];
-    let tanks = [around(1, 0, 0, 400, &tank_1), around(1, 0, 0, 400, &tank_2)];
-    around(0, 0, 0, 100_000, &tanks)
+    let above = [leaf(2, 300), leaf(2, 250), leaf(2, -120)];
+    let below = [leaf(2, 80), leaf(2, -200)];
+    let both = [around(1, 0, 0, 400, &above), around(1, 0, 0, 400, &below)];
+    around(0, 0, 0, 100_000, &both)
 }
 
 fn quiet() -> Vec<u8> {
-    let tank = around(2, 0, 0, 9_000, &[]);
-    let raceway = around(1, 0, 0, 40_000, &[tank.clone(), tank]);
-    around(
-        0,
-        0,
-        0,
-        1_000_000_000,
-        &[raceway.clone(), raceway.clone(), raceway],
-    )
+    let depth_2 = around(2, 0, 0, 9_000, &[]).repeat(2);
+    let depth_1 = around(1, 0, 0, 40_000, &[depth_2]).repeat(3);
+    around(0, 0, 0, 1_000_000_000, &[depth_1])
 }
 
 fn deep() -> Vec<u8> {
@@ -176,8 +184,8 @@ pub fn page(samples: &[Sample]) -> String {
         "# Sample logs\n\n\
          Each file is one log, as the day program reads it from standard input. The line \
          is what the program prints for it: net, heaviest, eaten and stamp, or a refusal. \
-         The line of `d.log` stands in document 01, the others come from the reference \
-         tally.\n\n\
+         The line of `d.log` stands in document 01, the others are the reference \
+         tally's.\n\n\
          | File | Bytes | What it is | Line |\n\
          |---|---|---|---|\n",
     );

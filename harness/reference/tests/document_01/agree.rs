@@ -1,8 +1,9 @@
 //! The parts of the reference agree with each other, on random logs and cuts.
 
+use crate::raw::spoilt;
 use reference::calls;
 use reference::gen::logs::{all_shapes, any_log, cut, encode_mixed, of_shape, open, with_fault};
-use reference::gen::logs::{Values, VALUES};
+use reference::gen::logs::{flat, Values, VALUES};
 use reference::gen::Rng;
 use reference::layout::{decode, encode, is_summary};
 use reference::log::{closer, fault, held, opened, opens};
@@ -289,7 +290,12 @@ fn too_many_opened_in_one_stretch() {
     let log = with_fault(&mut rng, 9);
     assert_eq!(fault(&log), Some(9));
     assert_eq!(finish(&summary_of(Mode::Net, &log)), Err(9));
-    let log = reference::gen::logs::flat(100_000);
+    // 100,001 "means 'more'".
+    for count in [100_001, 100_002] {
+        let summary = summary_of(Mode::Net, &flat(count));
+        assert_eq!(encode(&summary), spoilt(1, 9, 0, 0, 100_001));
+    }
+    let log = flat(100_000);
     assert_eq!(fault(&log), None);
     assert_eq!(finish(&summary_of(Mode::Net, &log)), Ok(Some(100_000)));
 }

@@ -53,34 +53,40 @@ fn d_cut_after_record_2_in_mode_1() {
     assert_eq!(plan(&row, AMPLE), Ok(words(&[12, 19, 0, 1, 0, 1])));
 }
 
+/// The two hills of D cut after record 2, by hand.
+fn hills_of_d(mode: u16) -> [Hill; 2] {
+    // The figure of "open 1 value -3 floor 0 ceiling 100; close 1": -3, in mode 3
+    // raised to 0, in mode 4 -3 modulo 2^32 = 4,294,967,296 - 3.
+    let of_last = [-3, -3, 0, 4_294_967_293][usize::from(mode) - 1];
+    let none = nothing(mode);
+    let left = Hill {
+        mode,
+        start: 0,
+        peak: 0,
+        end: 2,
+        opened: 2,
+        left: vec![],
+        middle: none,
+        right: vec![(10, 0, 100, none), (5, 0, 4, none)],
+    };
+    let right = Hill {
+        mode,
+        start: 2,
+        peak: 0,
+        end: 0,
+        opened: 1,
+        left: vec![none, of_last],
+        middle: none,
+        right: vec![],
+    };
+    [left, right]
+}
+
 #[test]
 fn d_cut_after_record_2_byte_for_byte() {
     for mode in MODES {
-        // The figure of "open 1 value -3 floor 0 ceiling 100; close 1": -3, in mode 3
-        // raised to 0, in mode 4 -3 modulo 2^32 = 4,294,967,296 - 3.
-        let of_returns = [-3, -3, 0, 4_294_967_293][usize::from(mode) - 1];
-        let none = nothing(mode);
-        let left = Hill {
-            mode,
-            start: 0,
-            peak: 0,
-            end: 2,
-            opened: 2,
-            left: vec![],
-            middle: none,
-            right: vec![(10, 0, 100, none), (5, 0, 4, none)],
-        };
-        let right = Hill {
-            mode,
-            start: 2,
-            peak: 0,
-            end: 0,
-            opened: 1,
-            left: vec![none, of_returns],
-            middle: none,
-            right: vec![],
-        };
-        assert_eq!(cut_d(mode), [left.bytes(), right.bytes()]);
+        let [left, right] = hills_of_d(mode).map(|hill| hill.bytes());
+        assert_eq!(cut_d(mode), [left.clone(), right.clone()]);
         // Joined: one closed record at level 0, with D's figure.
         let whole = Hill {
             mode,
@@ -92,11 +98,7 @@ fn d_cut_after_record_2_byte_for_byte() {
             middle: [12, 15, 14, 72][usize::from(mode) - 1],
             right: vec![],
         };
-        assert_eq!(
-            merge(&left.bytes(), &right.bytes(), 24),
-            Ok(whole.bytes()),
-            "mode {mode}"
-        );
+        assert_eq!(merge(&left, &right, 24), Ok(whole.bytes()), "mode {mode}");
         assert_eq!(summary(&log_d(), mode), whole.bytes(), "mode {mode}");
     }
 }
