@@ -1,5 +1,6 @@
 pub mod Verdict
 pub mod Log
+pub mod Closing
 pub mod Hill
 pub mod Map
 pub mod Summary
