@@ -4,4 +4,8 @@ pub mod ModeLaws
 pub mod Run
 pub mod Runs
 pub mod RunUnique
+pub mod Bound
+pub mod StoreLaws
 pub mod Mode
+pub mod Stored
+pub mod Examples

@@ -2,14 +2,12 @@
 use mathlib.Core.Path.{_≡_, refl, sym, ap, ap₂, _∙_, subst}
 use mathlib.Core.List.{List, [], _∷_}
 use Prim.Native.Nat.{ℕ, _+_, _*_, _%_, _^_, _<_}
-use native.Mathlib.Nat.{mod-eq-of-lt}
 use native.Mathlib.Omega.{arith}
-use lib.Dec.{lit<}
-use lib.IntN.{ℤ, pos, negsuc, _+ℤ_, _-ℤ_, negℤ, natAbs, -ℤ-+ℤ-cancel, +ℤ-assoc, +ℤ-idl, +ℤ-idr}
+use lib.IntN.{ℤ, pos, _+ℤ_, _-ℤ_, negℤ, natAbs, -ℤ-+ℤ-cancel, +ℤ-assoc, +ℤ-idl, +ℤ-idr}
 use lib.Signed.{_≤ℤ_, _<ℤ_}
 use Rattle.algebra.specs.Algebra.{Algebra}
 use Rattle.algebra.specs.Run.{Level, through, Context, AllSound, run, runOn, run-is, run-fine}
-use Rattle.number.specs.Integer.{maxZ, minZ, clamp}
+use Rattle.number.specs.Integer.{maxZ, clamp}
 use Rattle.number.specs.IntegerLaws.{zed, add-law, neg-law, abs-law, max-law, min-law, ≤-antisym, clamp-in}
 use Rattle.figure.specs.FourModes.{Amounts, InRange, net, heaviest, eaten, stamp, lift, Stamp, stampOf}
 use Rattle.figure.specs.ModeLaws.{stamp-≡}

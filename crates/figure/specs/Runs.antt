@@ -2,10 +2,10 @@
 use mathlib.Core.Path.{_≡_, refl, sym, ap, _∙_}
 use Prim.Native.Nat.{ℕ, _+_, _*_, _%_, _^_}
 use native.Mathlib.Omega.{arith}
-use lib.IntN.{ℤ, pos, _+ℤ_, _-ℤ_, -ℤ-+ℤ-cancel, +ℤ-assoc, +ℤ-comm}
+use lib.IntN.{ℤ, _+ℤ_, _-ℤ_, -ℤ-+ℤ-cancel, +ℤ-assoc, +ℤ-comm}
 use lib.Signed.{_≤ℤ_, ≤ℤ-refl}
 use Rattle.algebra.specs.Run.{Level, step, Context}
-use Rattle.number.specs.Integer.{wrap, maxZ, clamp}
+use Rattle.number.specs.Integer.{maxZ, clamp}
 use Rattle.number.specs.IntegerLaws.{zed, add-law, view, diffs, diff-≡, +-mono, max-comm, max-assoc, max-+, clamp-+, clamp-clamp, clamp-mono, clamp-low, clamp-high, clamp-in}
 use Rattle.number.specs.Modulo.{mods}
 use Rattle.figure.specs.FourModes.{Amounts, InRange, net, heaviest, eaten, stamp, lift, lineOf, Stamp, stampOf}
