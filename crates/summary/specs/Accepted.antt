@@ -11,7 +11,8 @@ use Rattle.figure.specs.FourModes.{Amounts}
 use Rattle.figure.specs.Mode.{modeOf, modeInUse}
 use Rattle.hill.specs.Log.{Record}
 use Rattle.hill.specs.Summary.{blank, part, spoilt, whole, summaryOf}
-use Rattle.hill.specs.Valid.{ValidSummary, AllReadable, hill-length, valid-summary}
+use Rattle.hill.specs.Valid.{ValidSummary, AllReadable}
+use Rattle.hill.specs.ValidLaws.{hill-length, valid-summary}
 use Rattle.summary.specs.Layout.{SummaryIn, encode, lengthOf}
 use Rattle.summary.specs.Judge.{modeAt, IsSummary, isBlank, isSpoilt, isHill}
 use Rattle.summary.specs.Decode.{decode}

@@ -6,8 +6,7 @@ use lib.Dec.{eqb}
 use lib.IntN.{ℤ}
 use Rattle.figure.specs.FourModes.{Amounts}
 use Rattle.figure.specs.Mode.{modeOf}
-use Rattle.hill.specs.Hill.{Hill, hill}
-use Rattle.hill.specs.Summary.{Summary, blank, part, spoilt, whole}
+use Rattle.hill.specs.Summary.{Hill, hill, Summary, blank, part, spoilt, whole}
 use Rattle.summary.specs.Judge.{kindAt, faultAt, spoiltStartAt, peakAt, endAt, openedAt, riseAt, fallAt, leftAt, middleAt, valueAt, floorAt, ceilingAt, heldAt}
 use Rattle.summary.specs.Layout.{SummaryIn}
 

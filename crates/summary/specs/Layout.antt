@@ -8,8 +8,7 @@ use mir.Val.{ofZ}
 use Rattle.number.specs.Bytes.{bytesOf}
 use Rattle.figure.specs.FourModes.{Amounts}
 use Rattle.figure.specs.Mode.{modeOf}
-use Rattle.hill.specs.Hill.{Hill, hill}
-use Rattle.hill.specs.Summary.{Summary, blank, part, spoilt, whole, rise, fall}
+use Rattle.hill.specs.Summary.{Hill, hill, Summary, blank, part, spoilt, whole, rise, fall}
 
 -- "Numbers are little-endian; signed ones are two's complement."
 abbrev pub i32Bytes : ℤ → List ℕ

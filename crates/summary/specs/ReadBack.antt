@@ -17,9 +17,9 @@ use Rattle.figure.specs.FourModes.{Amounts, InRange, limit}
 use Rattle.figure.specs.Bound.{bound-fits}
 use Rattle.figure.specs.Mode.{Mode}
 use Rattle.figure.specs.Stored.{IsStored}
-use Rattle.hill.specs.Hill.{Hill, hill}
-use Rattle.hill.specs.Summary.{Summary, blank, part, spoilt, whole, rise, fall}
-use Rattle.hill.specs.Valid.{weight, weightUp, weightDown, AllFine, ValidHill, ValidSpoilt, ValidSummary, hill-length}
+use Rattle.hill.specs.Summary.{Hill, hill, Summary, blank, part, spoilt, whole, rise, fall}
+use Rattle.hill.specs.Valid.{weight, weightUp, weightDown, AllFine, ValidHill, ValidSpoilt, ValidSummary}
+use Rattle.hill.specs.ValidLaws.{hill-length}
 use Rattle.summary.specs.Layout.{i32Bytes, i64Bytes, leftBytes, recordBytes, rightBytes, hillBytes, lengthOf, kindOf, body, layout}
 use Rattle.summary.specs.Judge.{lengthAt, kindAt, modeAt, faultAt, spoiltStartAt, startAt, peakAt, endAt, openedAt, riseAt, fallAt, leftAt, middleAt, recordAt, valueAt, floorAt, ceilingAt, heldAt}
 use Rattle.summary.specs.Decode.{amountsAt, leftsIn, rightsIn, hillIn, reading}

@@ -15,9 +15,9 @@ use Rattle.figure.specs.FourModes.{Amounts}
 use Rattle.figure.specs.Bound.{bound-fits}
 use Rattle.figure.specs.Mode.{Mode, modeInUse}
 use Rattle.figure.specs.Stored.{IsStored}
-use Rattle.hill.specs.Hill.{Hill, hill}
-use Rattle.hill.specs.Summary.{Summary, blank, part, spoilt, whole, rise, fall}
-use Rattle.hill.specs.Valid.{weight, ValidHill, ValidSpoilt, ValidSummary, hill-length}
+use Rattle.hill.specs.Summary.{Hill, hill, Summary, blank, part, spoilt, whole, rise, fall}
+use Rattle.hill.specs.Valid.{weight, ValidHill, ValidSpoilt, ValidSummary}
+use Rattle.hill.specs.ValidLaws.{hill-length}
 use Rattle.summary.specs.Layout.{i64Bytes, leftBytes, rightBytes, hillBytes, lengthOf, layout}
 use Rattle.summary.specs.Judge.{lengthAt, kindAt, modeAt, faultAt, spoiltStartAt, startAt, peakAt, endAt, openedAt, riseAt, fallAt, middleAt, HasLayout, IsSpoilt, IsHill, IsSummary, isBlank, isSpoilt, isHill}
 use Rattle.summary.specs.Decode.{hillIn, reading, leftsIn, rightsIn}
