@@ -65,7 +65,7 @@ and-right : (a b : Bool) → a && b ≡ true → b ≡ true
 and-right true b e = e
 and-right false b e = absurd (subst T (sym e) tt)
 
-within-size : (z : ℤ) → within z ≡ true → natAbs z ≤ 1_000_000_000
+pub within-size : (z : ℤ) → within z ≡ true → natAbs z ≤ 1_000_000_000
 unfolding within
 within-size (pos n) e = leb-true n 1_000_000_000 e
 within-size (negsuc n) e = omega (arith, leb-true n 999_999_999 (and-left (leb n 999_999_999) true e))
