@@ -1,23 +1,23 @@
 -- The values of a chunk by places: a left or middle value combines exactly the records at its level that are opened and closed in the chunk and held by
 -- none that it opens; an unclosed record's figures so far are those of the records that it holds and the chunk closes. Assumes nothing.
-use mathlib.Core.Path.{_≡_, refl, ap, sym, subst, _∙_}
+use mathlib.Core.Path.{_≡_, refl, ap, sym, _∙_}
 use mathlib.Core.Logic.{_⊎_, inl, inr, ⊎-elim, _≢_, dite}
 use mathlib.Core.Bool.{Bool, true, false, cond, _&&_, _||_, not}
-use mathlib.Core.List.{List, [], _∷_, map, List·Memᴰ}
-use Prim.Native.Nat.{ℕ, zero, suc, _+_, _-_, _≤_, _<_, min}
+use mathlib.Core.List.{List, [], _∷_, map}
+use Prim.Native.Nat.{ℕ, zero, suc, _+_, _-_, _≤_, _<_}
 use native.Mathlib.Nat.{eq-or-lt-of-le}
 use native.Mathlib.Decide.{decLt, decLe}
 use native.Mathlib.Omega.{arith}
 use lib.Dec.{eqb}
-use lib.ListN.{length, drop, getD, length-drop}
+use lib.ListN.{length, drop, length-drop}
 use lib.Seq.{getD-drop}
 use borrow.Author.Tests.{eqb-true, eq-eqb, ne-eqb}
 use Rattle.algebra.specs.Algebra.{Algebra}
-use Rattle.hill.specs.Verdict.{pass, low, between}
+use Rattle.hill.specs.Verdict.{pass, between}
 use Rattle.hill.specs.VerdictLaws.{low-fst, low-snd, between-pass}
 use Rattle.hill.specs.Log.{Record, opening, closing, depth, startLevel, endLevel, endOf, peakOf, joints}
-use Rattle.hill.specs.Closing.{at, OpensAt, ClosedBy, Closed, Holds, Places}
-use Rattle.hill.specs.Figure.{held, figureOf, figureAt, combined}
+use Rattle.hill.specs.Closing.{at, OpensAt, Closed, Holds, Places}
+use Rattle.hill.specs.Figure.{held, figureAt, combined}
 use Rattle.hill.specs.Summary.{closedIn, done, pending}
 use Rattle.hill.specs.Growth.{end-at}
 use Rattle.hill.specs.Places.{places-same, places-iff, select, Selected, select-places, here-at, here-rest}

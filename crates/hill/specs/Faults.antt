@@ -1,14 +1,14 @@
 -- The fault of a chunk is the lowest of questions 7 to 9 that gets a "no", and that of a log the lowest of 7 to 11. Assumes nothing.
-use mathlib.Core.Path.{_≡_, refl, ap, sym, subst, _∙_}
+use mathlib.Core.Path.{_≡_, refl, sym, subst, _∙_}
 use mathlib.Core.Logic.{_≢_, _⊎_, inl, inr, ⊎-elim, dite}
 use mathlib.Core.Bool.{Bool, true, false}
 use mathlib.Core.List.{List, [], _∷_}
-use Prim.Native.Nat.{ℕ, zero, suc, _+_, _-_, _≤_, _<_, min}
+use Prim.Native.Nat.{ℕ, zero, suc, _≤_, _<_, min}
 use native.Mathlib.Decide.{decLe}
 use native.Mathlib.Omega.{arith}
 use lib.Dec.{leb, ltb, eqb}
 use lib.ListN.{length}
-use borrow.Author.Tests.{eqb-true, eqb-false, leb-true, leb-false, ltb-true, ltb-false, ne-eqb, lt-leb, le-ltb}
+use borrow.Author.Tests.{eqb-false, leb-false, ltb-false, ne-eqb, lt-leb, le-ltb}
 use Rattle.hill.specs.Verdict.{Verdict, pass, refuse, low, ask, between, count, ends}
 use Rattle.hill.specs.VerdictLaws.{refuse-pass}
 use Rattle.hill.specs.Log.{Record, startLevel, endLevel, endOf, openedOf, joints, faultOf, logFault}

@@ -1,5 +1,5 @@
 -- Merging accepted summaries gives an accepted one, and the summary of readable records is accepted. Assumes nothing.
-use mathlib.Core.Path.{_≡_, refl, ap, sym, subst, _∙_}
+use mathlib.Core.Path.{_≡_, refl, sym, subst, _∙_}
 use mathlib.Core.Bool.{Bool, true, false}
 use mathlib.Core.List.{List, [], _∷_, _++_}
 use Prim.Native.Nat.{ℕ, zero, suc, _+_, _-_, _*_, _≤_, _<_, min}
@@ -12,8 +12,8 @@ use Rattle.algebra.specs.Algebra.{Algebra, Laws}
 use Rattle.hill.specs.Verdict.{Verdict, pass, refuse, low, ask, between, count, cut}
 use Rattle.hill.specs.VerdictLaws.{low-fst, low-snd, between-pass, between-high, count-pass, refuse-pass}
 use Rattle.hill.specs.Log.{Record, opening, closing}
-use Rattle.hill.specs.Summary.{Hill, hill, Part, spoilt, whole, Summary, blank, part, rise, fall, middle, start, end, opened, verdict, judged, summaryOf}
-use Rattle.hill.specs.Merge.{mergeHills, peak, slopes, mergeVerdict, mergePart, mergeSummary}
+use Rattle.hill.specs.Summary.{Hill, hill, Part, spoilt, whole, Summary, blank, part, rise, fall, middle, start, end, opened, verdict, judged, summaryOf, peak, slopes}
+use Rattle.hill.specs.Merge.{mergeHills, mergeVerdict, mergePart, mergeSummary}
 use Rattle.hill.specs.Valid.{Sizes, ValidSpoilt, weightUp, weightDown, weight, AllFine, FineHill, ValidHill, ValidPart, ValidSummary, Readable, AllReadable}
 use Rattle.hill.specs.Building.{push, join, close, closes, merge}
 use Rattle.hill.specs.Slopes.{fall-join, fall-closes, fall-merge, rise-merge}
