@@ -106,7 +106,7 @@ module _ {R : Type 0} where
       let c : at log k ≡ closing d = sym (getD-drop (suc q) log (w .0) (closing 0)) ∙ w .2 in
       ⊎-elim (λ none. absurd (none k (omega arith) (omega arith) c)) (λ f. (f .0, f .2)) (first-close log q d o (suc k) i)
 
-  closedIn-closed : (log : List (Record R)) (q d : ℕ) → Closed log q d → closedIn d (drop (suc q) log) ≡ true
+  pub closedIn-closed : (log : List (Record R)) (q d : ℕ) → Closed log q d → closedIn d (drop (suc q) log) ≡ true
   closedIn-closed log q d c =
       let k : ℕ = c .0 - suc q in
       let e : suc q + k ≡ c .0 = omega (arith, c .1 .order) in
