@@ -28,6 +28,7 @@ pub mod FigureLaws
 -- Held, opened, subtrees and the values of "Summaries" by places.
 pub mod Places
 pub mod HeldPlaces
+pub mod Crossings
 pub mod ChunkPlaces
 pub mod Subtree
 -- Summaries: the words and the building form, the homomorphism, associativity.

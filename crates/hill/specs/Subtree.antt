@@ -21,7 +21,7 @@ use Rattle.hill.specs.Summary.{closedIn}
 use Rattle.hill.specs.Spell.{Meets, endFrom, peakFrom, treeOf, write-level, joints-meet}
 use Rattle.hill.specs.FigureLaws.{held-write}
 use Rattle.hill.specs.HeldPlaces.{opening-closing}
-use Rattle.hill.specs.ChunkPlaces.{closedIn-closed}
+use Rattle.hill.specs.Crossings.{closedIn-closed}
 
 module _ {R : Type 0} where
   -- What stands before the first close at depth d, and what after it.
