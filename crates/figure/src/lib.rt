@@ -7,8 +7,8 @@ ghost use Rattle.figure.specs.FourModes.{lift, lineOf, readHeld, storeHe
 ghost use Rattle.figure.specs.Run.{atLeast};
 ghost use Rattle.figure.specs.Runs.{moved};
 ghost use Rattle.figure.specs.Bound.{sizeHeld};
-ghost use Rattle.figure.specs.Mode.{modeOf};
-ghost use Rattle.figure.specs.Stored.{none, combined, passed, amounts, levelRun, runAfter, Combines, Passes, Levels, Composes};
+ghost use Rattle.figure.specs.Mode.{modeInUse, modeOf};
+ghost use Rattle.figure.specs.Stored.{sizeOf, none, combined, passed, amounts, levelRun, runAfter, Combines, Passes, Levels, Composes};
 
 // What a record holds, in a mode where "nothing held" is no number.
 pub enum Held {
@@ -84,6 +84,44 @@ fn moved_by(h: Held, v: i64) -> Held
     match h {
         Held::Nothing => Held::Nothing,
         Held::Figure(a) => Held::Figure(number::sum(a, v)),
+    }
+}
+
+// ---- questions about a mode and its numbers
+
+pub fn in_use(mode: u32) -> bool
+    ensures { λ r. ⌜ r ≡ modeInUse mode ⌝ }
+{
+    (1 <= mode) & (mode <= 4)
+}
+
+// Whether x stands for a figure.
+pub fn is_figure(mode: u16, x: i64) -> bool
+    ensures { λ r. ⌜ r ≡ modeOf mode .isFigure x ⌝ }
+{
+    match mode {
+        4 => (0 <= x) & (x < 4294967296),
+        _ => true,
+    }
+}
+
+fn size_held(h: Held) -> u64
+    ensures { λ r. ⌜ r ≡ sizeHeld h ⌝ }
+{
+    match h {
+        Held::Nothing => 0,
+        Held::Figure(x) => number::magnitude(x),
+    }
+}
+
+// What x counts in the bound on a summary's values.
+pub fn size(mode: u16, x: i64) -> u64
+    ensures { λ r. ⌜ r ≡ sizeOf (modeOf mode) x ⌝ }
+{
+    match mode {
+        2 => size_held(read_held(x)),
+        4 => 0,
+        _ => number::magnitude(x),
     }
 }
 
