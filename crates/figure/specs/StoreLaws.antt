@@ -4,8 +4,8 @@ use mathlib.Core.Bool.{Bool, true, false, _&&_}
 use Prim.Native.Nat.{ℕ, _^_, _≤_, _<_}
 use native.Mathlib.Nat.{mod-eq-of-lt}
 use native.Mathlib.Omega.{arith}
-use lib.Dec.{T, ltb, leb·zero, eqb, eqb→eq, lit<}
-use borrow.Author.Tests.{ltb-true, lt-ltb, ne-eqb}
+use lib.Dec.{T, leb, leb·zero, eqb, eqb→eq, lit<}
+use borrow.Author.Tests.{leb-true, le-leb, ne-eqb}
 use lib.IntN.{ℤ, pos, negsuc, natAbs}
 use mir.Syntax.{w64}
 use mir.Val.{SFits}
@@ -52,17 +52,17 @@ pub stamp-fits : (s : Stamp) → SFits w64 (storeStamp s)
 stamp-fits s = record { sfits = omega (arith, s .small) }
 
 -- a number that stands for a stamp, decided
-is-stamp-pos : (n : ℕ) → isStamp (pos n) ≡ ltb n 4294967296
+is-stamp-pos : (n : ℕ) → isStamp (pos n) ≡ leb n 4294967295
 unfolding isStamp
-is-stamp-pos n = ap (λ (b : Bool). b && ltb n 4294967296) (leb·zero n)
+is-stamp-pos n = ap (λ (b : Bool). b && leb n 4294967295) (leb·zero n)
 
 pub is-stamp : (z : ℤ) → isStamp z ≡ true → storeStamp (readStamp z) ≡ z
 unfolding isStamp
-is-stamp (pos n) e = ap pos (mod-eq-of-lt (ltb-true n 4294967296 (sym (is-stamp-pos n) ∙ e)))
+is-stamp (pos n) e = ap pos (mod-eq-of-lt (omega (arith, leb-true n 4294967295 (sym (is-stamp-pos n) ∙ e))))
 is-stamp (negsuc n) e = absurd (subst T (sym e) tt)
 
 pub stamp-is : (z : ℤ) → storeStamp (readStamp z) ≡ z → isStamp z ≡ true
-stamp-is (pos n) e = is-stamp-pos n ∙ lt-ltb n 4294967296 (omega (zed, e))
+stamp-is (pos n) e = is-stamp-pos n ∙ le-leb n 4294967295 (omega (zed, e))
 stamp-is (negsuc n) e = absurd (omega (zed, e))
 
 -- ---- runs

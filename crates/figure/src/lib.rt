@@ -100,7 +100,7 @@ pub fn is_figure(mode: u16, x: i64) -> bool
     ensures { λ r. ⌜ r ≡ modeOf mode .isFigure x ⌝ }
 {
     match mode {
-        4 => (0 <= x) & (x < 4294967296),
+        4 => (0 <= x) & (x <= 4294967295),
         _ => true,
     }
 }
@@ -224,11 +224,19 @@ pub fn through(mode: u16, value: i32, floor: i32, ceiling: i32, held: i64) -> i6
 
 // ---- runs: the run of one level, and one run around another
 
+// A record's value and all that it holds beside the inner part.
+fn level_sum(value: i32, before: i64, behind: i64) -> i64
+    requires { ⌜ natAbs value + (natAbs before + natAbs behind) < 2 ^ 63 ⌝ }
+    ensures { λ r. ⌜ r ≡ value +ℤ (before +ℤ behind) ⌝ }
+{
+    number::sum(number::widen(value), number::sum(before, behind))
+}
+
 fn level_net(value: i32, floor: i32, ceiling: i32, before: i64, behind: i64) -> Run
     requires { ⌜ Levels (modeOf 1) value before behind ⌝ }
     ensures { λ r. ⌜ r ≡ levelRun (modeOf 1) (amounts value floor ceiling) before behind ⌝ }
 {
-    let a = number::sum(number::widen(value), number::sum(before, behind));
+    let a = level_sum(value, before, behind);
     Run {
         first: a,
         second: 0,
@@ -255,7 +263,7 @@ fn level_eaten(value: i32, floor: i32, ceiling: i32, before: i64, behind: i64) -
     requires { ⌜ Levels (modeOf 3) value before behind ⌝ }
     ensures { λ r. ⌜ r ≡ levelRun (modeOf 3) (amounts value floor ceiling) before behind ⌝ }
 {
-    let a = number::sum(number::widen(value), number::sum(before, behind));
+    let a = level_sum(value, before, behind);
     let low = number::widen(floor);
     let high = number::widen(ceiling);
     Run {
