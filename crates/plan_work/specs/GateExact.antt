@@ -14,10 +14,11 @@ use Rattle.hill.specs.Summary.{Part, spoilt, whole, Summary, blank, part, rise,
 use Rattle.hill.specs.Merge.{mergePart, mergeSummary}
 use Rattle.hill.specs.Finish.{outcome, finishOf}
 use Rattle.hill.specs.SummaryLaws.{start-merge, end-merge, verdict-merge, opened-merge}
+use Rattle.hill.specs.Valid.{Sizes}
 use Rattle.hill.specs.RowLaws.{inOrder}
 use Rattle.join_plan.specs.Gate.{summaryFault}
 use Rattle.plan_work.specs.Runs.{slopesOf}
-use Rattle.plan_work.specs.Gate.{partsOf, spoiltFault, joinFault, totalOpened, lastEnd, rowFault, FairPart, FairRow}
+use Rattle.plan_work.specs.Gate.{ValidRow, partsOf, spoiltFault, joinFault, totalOpened, lastEnd, rowFault, FairPart, FairRow}
 
 -- A part's own count tells nothing new.
 counted : (v : Verdict) (n : ℕ) → n ≤ 100000 → low v (count n) ≡ v
@@ -92,6 +93,13 @@ module _ {R : Type 0} (𝒜 : Algebra R) where
     row-unspoilt (blank ∷ row) f v = row-unspoilt row f v
     row-unspoilt (part a ∷ row) f v =
         rw (mergeAll-parts a row) (verdict-parts a row (f .0) (f .1) ∙ low-fst (partsVerdict a (partsOf row)) (ends (start a) (lastEnd a (partsOf row))) v)
+
+-- Accepted summaries are all that is needed.
+pub fair-row : {R : Type 0} (𝒜 : Algebra R) (𝒮 : Sizes 𝒜) (row : List (Summary (𝒜 .Fig) R)) → ValidRow 𝒜 𝒮 row → FairRow 𝒜 row
+fair-row 𝒜 𝒮 [] v = tt
+fair-row 𝒜 𝒮 (blank ∷ row) v = fair-row 𝒜 𝒮 row (v .1)
+fair-row 𝒜 𝒮 (part (spoilt f s e o) ∷ row) v = (v .0 .high-fault, fair-row 𝒜 𝒮 row (v .1))
+fair-row 𝒜 𝒮 (part (whole p o h) ∷ row) v = (record { few = v .0 .few; ground = v .0 .ground; nothing = v .0 .nothing }, fair-row 𝒜 𝒮 row (v .1))
 
 module _ {Fig R : Type 0} where
   -- A row after a hill that ends at level l: its hills meet above level 0, and the last ends at level 0.

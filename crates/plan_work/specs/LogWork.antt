@@ -10,10 +10,11 @@ use Rattle.hill.specs.Finish.{outcome, finishOf}
 use Rattle.hill.specs.Row.{joined}
 use Rattle.hill.specs.FinishLaws.{finish-log}
 use Rattle.hill.specs.RowLaws.{mergeRow-summaries}
-use Rattle.hill.specs.Valid.{Sizes, ValidSummary, AllReadable}
+use Rattle.hill.specs.Valid.{Sizes, AllReadable}
 use Rattle.hill.specs.ValidLaws.{valid-summary}
 use Rattle.plan_work.specs.Work.{workOf}
-use Rattle.plan_work.specs.Gate.{rowFault, FairRow}
+use Rattle.plan_work.specs.Gate.{rowFault, ValidRow}
+use Rattle.plan_work.specs.GateExact.{fair-row}
 use Rattle.plan_work.specs.WorkExact.{work-finish}
 
 fault-same : {Fig : Type 0} (v w : Verdict) (a b : Fig) → outcome v a ≡ outcome w b → v ≡ w
@@ -25,24 +26,13 @@ fault-same (refuse m) (refuse n) a b e = cc
 module _ {R : Type 0} (𝒜 : Algebra R) (𝒮 : Sizes 𝒜) where
   open Algebra 𝒜 using (Fig)
 
-  -- A row of accepted summaries, ..
-  abbrev pub ValidRow : List (Summary Fig R) → Type 0
-  ValidRow [] = Unit {0}
-  ValidRow (s ∷ row) = ValidSummary 𝒜 𝒮 s × ValidRow row
-
-  pub fair-row : (row : List (Summary Fig R)) → ValidRow row → FairRow 𝒜 row
-  fair-row [] v = tt
-  fair-row (blank ∷ row) v = fair-row row (v .1)
-  fair-row (part (spoilt f s e o) ∷ row) v = (v .0 .high-fault, fair-row row (v .1))
-  fair-row (part (whole p o h) ∷ row) v = (record { few = v .0 .few; ground = v .0 .ground; nothing = v .0 .nothing }, fair-row row (v .1))
-
-  -- .. as the chunks of readable records have.
+  -- The chunks' records are readable.
   abbrev pub ReadableRow : List (List (Record R)) → Type 0
   ReadableRow [] = Unit {0}
   ReadableRow (c ∷ cs) = AllReadable 𝒜 𝒮 c × ReadableRow cs
 
   module _ (ℒ : Laws 𝒜) where
-    pub valid-row : (cs : List (List (Record R))) → ReadableRow cs → ValidRow (map (summaryOf 𝒜) cs)
+    pub valid-row : (cs : List (List (Record R))) → ReadableRow cs → ValidRow 𝒜 𝒮 (map (summaryOf 𝒜) cs)
     valid-row [] r = tt
     valid-row (c ∷ cs) r = (valid-summary 𝒜 𝒮 ℒ c (r .0), valid-row cs (r .1))
 
@@ -50,7 +40,7 @@ module _ {R : Type 0} (𝒜 : Algebra R) (𝒮 : Sizes 𝒜) where
       -- What the gate and the work along the plan answer for the chunks of a log is what the log says.
       pub log-work : outcome (rowFault (map (summaryOf 𝒜) cs)) (workOf 𝒜 (map (summaryOf 𝒜) cs) .figure) ≡ outcome (logFault (joined cs)) (figureOf 𝒜 (joined cs))
       log-work =
-          sym (work-finish 𝒜 ℒ comm (map (summaryOf 𝒜) cs) (fair-row (map (summaryOf 𝒜) cs) (valid-row cs r)))
+          sym (work-finish 𝒜 ℒ comm (map (summaryOf 𝒜) cs) (fair-row 𝒜 𝒮 (map (summaryOf 𝒜) cs) (valid-row cs r)))
           ∙ ap (finishOf 𝒜) (mergeRow-summaries 𝒜 ℒ cs) ∙ finish-log 𝒜 ℒ (joined cs)
 
       -- The gate finds the log's lowest-numbered fault, ..

@@ -13,7 +13,7 @@ use Rattle.join_plan.specs.Plan.{Levels, Line, rowOf, levelsOfSummary, planOfRo
 use Rattle.join_plan.specs.Joins.{Opens, IsLine}
 use Rattle.join_plan.specs.PlanExact.{planOf-exact}
 use Rattle.plan_work.specs.Runs.{peakOf, slopesOf, leftAt, levelOf, levelsDown, summaryAt, runLevels, runOf, runsAlong, runsOf}
-use Rattle.plan_work.specs.LogWork.{ValidRow}
+use Rattle.plan_work.specs.Gate.{ValidRow}
 
 module _ {R : Type 0} (𝒜 : Algebra R) where
   open Algebra 𝒜 using (Fig)

@@ -38,14 +38,14 @@ fn beside(mode: Mode, i: &Hill, j: &Hill, level: usize) -> Held {
 pub fn figure_of_join(row: &[Summary], line: &Line, x: Held) -> i64 {
     let mode = row[line.i].mode;
     let (i, j) = (hill_at(row, line.i), hill_at(row, line.j));
-    let figure_above = |depth: usize, held: Held| {
+    let figure_at = |depth: usize, held: Held| {
         let level = depth + 1;
         let all = combine(mode, &[held, beside(mode, i, j, level)]);
         through(mode, &i.unclosed_at(level).record, all)
     };
-    let mut figure = figure_above(line.highest, x);
+    let mut figure = figure_at(line.highest, x);
     for depth in (line.lowest..line.highest).rev() {
-        figure = figure_above(depth, Some(figure));
+        figure = figure_at(depth, Some(figure));
     }
     figure
 }

@@ -278,12 +278,11 @@ fn damaged_bytes_are_refused_or_read_exactly() {
 }
 
 #[test]
-fn noise_is_cut_and_answered() {
+fn noise_is_cut_without_loss_and_refused() {
     let mut rng = Rng::new(209);
     for _ in 0..5000 {
         let bytes = noise(&mut rng, 40);
         assert_eq!(pieces(&bytes).concat(), bytes);
         assert!(matches!(calls::work(&bytes), Err(4 | 5)));
-        assert!(matches!(calls::read(&bytes), Ok(_) | Err(3)));
     }
 }
