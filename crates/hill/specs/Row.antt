@@ -1,10 +1,10 @@
 -- A row of pieces: merged half with half, and a list of merges replayed on it. Definitions only.
 use mathlib.Core.Bool.{Bool, cond}
 use mathlib.Core.List.{List, [], _∷_, _++_}
-use mathlib.Core.Option.{Option, none, some}
 use Prim.Native.Nat.{ℕ, zero, suc, _+_, _/_}
 use lib.ListN.{length, take, drop}
 use Rattle.algebra.specs.Algebra.{Algebra}
+use Rattle.gate.specs.Outcome.{Outcome, refused, result}
 use Rattle.hill.specs.Summary.{Summary, blank}
 use Rattle.hill.specs.Merge.{mergeSummary}
 
@@ -32,25 +32,30 @@ pub record Call (B : Type 0) : Type 0 where
   pub many : ℕ
   pub lent : B
 
--- `f` is what a merge of neighbours with a buffer comes to: the new piece, or none where the buffer is too short for it.
-module _ {A B : Type 0} (f : List A → B → Option A) where
-  abbrev pub answer : Call B → List A → Option A
+-- `f` is what a merge of neighbours with a buffer comes to: the new piece, or a refusal.
+module _ {A B : Type 0} (f : List A → B → Outcome A) where
+  abbrev pub answer : Call B → List A → Outcome A
   answer c row = f (take (c .many) (drop (c .place) row)) (c .lent)
 
-  -- The new piece takes the place of the merged ones; "leaves the row as it was" where there is none.
-  abbrev pub put : Option A → Call B → List A → List A
-  put none c row = row
-  put (some a) c row = take (c .place) row ++ (a ∷ drop (c .many) (drop (c .place) row))
+  -- The new piece takes the place of the merged ones; a refusal "leaves the row as it was".
+  abbrev pub put : Outcome A → Call B → List A → List A
+  put (refused n) c row = row
+  put (result a) c row = take (c .place) row ++ (a ∷ drop (c .many) (drop (c .place) row))
 
   -- The row after the list of merges, and what each one came to.
   abbrev pub replay : List (Call B) → List A → List A
   replay [] row = row
   replay (c ∷ cs) row = replay cs (put (answer c row) c row)
 
-  abbrev pub answers : List (Call B) → List A → List (Option A)
+  abbrev pub answers : List (Call B) → List A → List (Outcome A)
   answers [] row = []
   answers (c ∷ cs) row = answer c row ∷ answers cs (put (answer c row) c row)
 
+  -- Each merge of the list is fit for the row as it then stands.
+  abbrev pub Proper : (Call B → List A → Type 0) → List (Call B) → List A → Type 0
+  Proper Fit [] row = Unit {0}
+  Proper Fit (c ∷ cs) row = Fit c row × Proper Fit cs (put (answer c row) c row)
+
 -- Neighbours made one by `merge`, where the outcome fits the buffer.
-abbrev pub fitting : {A B : Type 0} → (B → A → Bool) → (List A → A) → List A → B → Option A
-fitting fits merge row b = cond (fits b (merge row)) (some (merge row)) none
+abbrev pub fitting : {A B : Type 0} → (B → A → Bool) → (List A → A) → List A → B → Outcome A
+fitting fits merge row b = cond (fits b (merge row)) (result (merge row)) (refused 12)

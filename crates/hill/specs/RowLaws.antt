@@ -1,18 +1,18 @@
 -- Every way of cutting a log and of merging the pieces comes to the summary of the joined chunks. Assumes nothing.
-use mathlib.Core.Path.{_≡_, refl, sym, _∙_}
+use mathlib.Core.Path.{_≡_, refl, sym, subst, _∙_}
 use mathlib.Core.Bool.{Bool, true, false, cond}
 use mathlib.Core.List.{List, [], _∷_, _++_, map, map-append, append-assoc, append-nil}
-use mathlib.Core.Option.{Option, none, some, Option·map}
 use Prim.Native.Nat.{ℕ, zero, suc, _+_, _/_, _≤_}
 use native.Mathlib.Omega.{arith}
 use lib.ListN.{length, take, drop, length-take, length-drop, take-append-drop}
 use Rattle.algebra.specs.Algebra.{Algebra, Laws}
+use Rattle.gate.specs.Outcome.{Outcome, refused, result}
 use Rattle.hill.specs.Log.{Record, logFault}
 use Rattle.hill.specs.Figure.{figureOf}
 use Rattle.hill.specs.Summary.{Summary, blank, summaryOf}
 use Rattle.hill.specs.Merge.{mergeSummary}
 use Rattle.hill.specs.Finish.{outcome, finishOf}
-use Rattle.hill.specs.Row.{joined, halves, mergeRow, Call, answer, put, replay, answers, fitting}
+use Rattle.hill.specs.Row.{joined, halves, mergeRow, Call, answer, put, replay, answers, Proper, fitting}
 use Rattle.hill.specs.SummaryLaws.{mergeSummary-assoc, merge-blank, summaryOf-append}
 use Rattle.hill.specs.FinishLaws.{finish-log}
 
@@ -49,32 +49,43 @@ module _ {S A : Type 0} (φ : S → A) where
   map-drop (suc n) [] = refl
   map-drop (suc n) (x ∷ l) = map-drop n l
 
--- Each merge of the list is on neighbours that are `Fit` for it, in the row as it then stands.
-abbrev pub Proper : {S B : Type 0} (g : List S → B → Option S) (Fit : List S → Type 0) → List (Call B) → List S → Type 0
-Proper g Fit [] st = Unit {0}
-Proper g Fit (c ∷ cs) st = Fit (take (c .many) (drop (c .place) st)) × Proper g Fit cs (put g (answer g c st) c st)
+abbrev pub onResult : {S A : Type 0} → (S → A) → Outcome S → Outcome A
+onResult φ (refused n) = refused n
+onResult φ (result s) = result (φ s)
 
--- Two rows side by side, the second being φ of the first: where a merge on fit neighbours of the second comes to φ of what it comes to on the
--- first, the list of merges keeps the rows so, and gives the same answers.
-module _ {S A B : Type 0} (φ : S → A) (g : List S → B → Option S) (f : List A → B → Option A) (Fit : List S → Type 0)
-    (same : (l : List S) (b : B) → Fit l → f (map φ l) b ≡ Option·map φ (g l b)) where
-  answer-same : (c : Call B) (st : List S) → Fit (take (c .many) (drop (c .place) st)) → answer f c (map φ st) ≡ Option·map φ (answer g c st)
-  answer-same c st k = rw (← map-drop φ (c .place) st, ← map-take φ (c .many) (drop (c .place) st)) (same (take (c .many) (drop (c .place) st)) (c .lent) k)
+-- Two rows side by side, the second being φ of the first, of which I holds: where a merge on the second comes to φ of what it comes to on the first,
+-- the list of merges keeps the rows so, and gives the same answers.
+module _ {S A B : Type 0} (φ : S → A) (g : List S → B → Outcome S) (f : List A → B → Outcome A) (Fit : Call B → List A → Type 0) (I : List S → Type 0) where
+  pub record Keeps (c : Call B) (st : List S) : Type 0 where
+    pub same : f (map φ (take (c .many) (drop (c .place) st))) (c .lent) ≡ onResult φ (answer g c st)
+    pub kept : I (put g (answer g c st) c st)
 
-  put-same : (o : Option S) (c : Call B) (st : List S) → put f (Option·map φ o) c (map φ st) ≡ map φ (put g o c st)
-  put-same none c st = refl
-  put-same (some a) c st = simp (map-append, map-take, map-drop)
+  pub record SameRows (cs : List (Call B)) (st : List S) : Type 0 where
+    pub rows : replay f cs (map φ st) ≡ map φ (replay g cs st)
+    pub told : answers f cs (map φ st) ≡ map (onResult φ) (answers g cs st)
+    pub stays : I (replay g cs st)
 
-  pub replay-same : (cs : List (Call B)) (st : List S) → Proper g Fit cs st →
-      (replay f cs (map φ st) ≡ map φ (replay g cs st)) × (answers f cs (map φ st) ≡ map (Option·map φ) (answers g cs st))
-  replay-same [] st k = (refl, refl)
-  replay-same (c ∷ cs) st k =
-      rw (answer-same c st (k .0), put-same (answer g c st) c st)
-      (let ih = replay-same cs (put g (answer g c st) c st) (k .1) in (ih .0, rw (ih .1)))
+  put-same : (o : Outcome S) (c : Call B) (st : List S) → put f (onResult φ o) c (map φ st) ≡ map φ (put g o c st)
+  put-same (refused n) c st = refl
+  put-same (result a) c st = simp (map-append, map-take, map-drop)
+
+  module _ (keeps : (c : Call B) (st : List S) → I st → Fit c (map φ st) → Keeps c st) where
+    pub replay-same : (cs : List (Call B)) (st : List S) → I st → Proper f Fit cs (map φ st) → SameRows cs st
+    replay-same [] st i k = record { rows = refl; told = refl; stays = i }
+    replay-same (c ∷ cs) st i k =
+        let w = keeps c st i (k .0) in
+        let e : answer f c (map φ st) ≡ onResult φ (answer g c st) = rw (← map-drop φ (c .place) st, ← map-take φ (c .many) (drop (c .place) st)) (w .same) in
+        let p : put f (answer f c (map φ st)) c (map φ st) ≡ map φ (put g (answer g c st) c st) = rw e (put-same (answer g c st) c st) in
+        let ih = replay-same cs (put g (answer g c st) c st) (w .kept) (subst (Proper f Fit cs) p (k .1)) in
+        record {
+          rows = rw p (ih .rows);
+          told = rw (p, e, ih .told);
+          stays = ih .stays;
+        }
 
 -- Merging stretches leaves their joined records as they are.
 module _ {X B : Type 0} (fits : B → List X → Bool) where
-  joined-append : (x y : List (List X)) → joined (x ++ y) ≡ joined x ++ joined y
+  pub joined-append : (x y : List (List X)) → joined (x ++ y) ≡ joined x ++ joined y
   joined-append [] y = refl
   joined-append (a ∷ x) y = rw (joined-append x y, append-assoc a (joined x) (joined y))
 
@@ -84,7 +95,7 @@ module _ {X B : Type 0} (fits : B → List X → Bool) where
       row : List (List X)
       row = drop (c .place) st
 
-      go : (t : Bool) → joined (put (fitting fits joined) (cond t (some (joined (take (c .many) row))) none) c st) ≡ joined st
+      go : (t : Bool) → joined (put (fitting fits joined) (cond t (result (joined (take (c .many) row))) (refused 12)) c st) ≡ joined st
       go true =
           joined-append (take (c .place) st) (joined (take (c .many) row) ∷ drop (c .many) row) ∙
           rw (← joined-append (take (c .many) row) (drop (c .many) row), take-append-drop (c .many) row, ← joined-append (take (c .place) st) row, take-append-drop (c .place) st)
@@ -115,16 +126,16 @@ module _ {R : Type 0} (𝒜 : Algebra R) (ℒ : Laws 𝒜) where
 
   -- What a merge of summaries needs of its buffer it needs of the stretch.
   module _ {B : Type 0} (fits : B → Summary Fig R → Bool) where
-    abbrev pub mergeCall : List (Summary Fig R) → B → Option (Summary Fig R)
+    abbrev pub mergeCall : List (Summary Fig R) → B → Outcome (Summary Fig R)
     mergeCall = fitting fits (mergeRow 𝒜)
 
-    abbrev pub stretchCall : List (List (Record R)) → B → Option (List (Record R))
+    abbrev pub stretchCall : List (List (Record R)) → B → Outcome (List (Record R))
     stretchCall = fitting (λ b x. fits b (summaryOf 𝒜 x)) joined
 
-    call-same : (l : List (List (Record R))) (b : B) → mergeCall (map (summaryOf 𝒜) l) b ≡ Option·map (summaryOf 𝒜) (stretchCall l b)
+    call-same : (l : List (List (Record R))) (b : B) → mergeCall (map (summaryOf 𝒜) l) b ≡ onResult (summaryOf 𝒜) (stretchCall l b)
     call-same l b = rw (mergeRow-summaries l) (go (fits b (summaryOf 𝒜 (joined l))))
       where
-        go : (t : Bool) → cond t (some (summaryOf 𝒜 (joined l))) none ≡ Option·map (summaryOf 𝒜) (cond t (some (joined l)) none)
+        go : (t : Bool) → cond t (result (summaryOf 𝒜 (joined l))) (refused 12) ≡ onResult (summaryOf 𝒜) (cond t (result (joined l)) (refused 12))
         go true = refl
         go false = refl
 
@@ -132,7 +143,7 @@ module _ {R : Type 0} (𝒜 : Algebra R) (ℒ : Laws 𝒜) where
     -- the summary of its joined stretches where that fits, the stretches joined are the log, and a row of one is finished with what the log says.
     pub record RowClaim (cs : List (Call B)) (st : List (List (Record R))) : Type 0 where
       pub pieces : replay mergeCall cs (map (summaryOf 𝒜) st) ≡ map (summaryOf 𝒜) (replay stretchCall cs st)
-      pub answered : answers mergeCall cs (map (summaryOf 𝒜) st) ≡ map (Option·map (summaryOf 𝒜)) (answers stretchCall cs st)
+      pub answered : answers mergeCall cs (map (summaryOf 𝒜) st) ≡ map (onResult (summaryOf 𝒜)) (answers stretchCall cs st)
       pub kept : joined (replay stretchCall cs st) ≡ joined st
       pub finished : (s : Summary Fig R) → replay mergeCall cs (map (summaryOf 𝒜) st) ≡ s ∷ [] → finishOf 𝒜 s ≡ outcome (logFault (joined st)) (figureOf 𝒜 (joined st))
 
@@ -141,17 +152,19 @@ module _ {R : Type 0} (𝒜 : Algebra R) (ℒ : Laws 𝒜) where
     only (x ∷ []) s k = rw (append-nil x) (cc)
     only (x ∷ (y ∷ xs)) s k = cc
 
-    proper : (cs : List (Call B)) (st : List (List (Record R))) → Proper stretchCall (λ l. Unit {0}) cs st
-    proper [] st = tt
-    proper (c ∷ cs) st = (tt, proper cs (put stretchCall (answer stretchCall c st) c st))
+    -- Every list of merges will do.
+    proper : (cs : List (Call B)) (row : List (Summary Fig R)) → Proper mergeCall (λ c r. Unit {0}) cs row
+    proper [] row = tt
+    proper (c ∷ cs) row = (tt, proper cs (put mergeCall (answer mergeCall c row) c row))
 
     pub row-claim : (cs : List (Call B)) (st : List (List (Record R))) → RowClaim cs st
     row-claim cs st =
-        let t = replay-same (summaryOf 𝒜) stretchCall mergeCall (λ l. Unit {0}) (λ l b k. call-same l b) cs st (proper cs st) in
+        let t = replay-same (summaryOf 𝒜) stretchCall mergeCall (λ c r. Unit {0}) (λ r. Unit {0})
+            (λ c st i k. record { same = call-same (take (c .many) (drop (c .place) st)) (c .lent); kept = tt }) cs st tt (proper cs (map (summaryOf 𝒜) st)) in
         let j : joined (replay stretchCall cs st) ≡ joined st = replay-joined (λ b x. fits b (summaryOf 𝒜 x)) cs st in
         record {
-          pieces = t .0;
-          answered = t .1;
+          pieces = t .rows;
+          answered = t .told;
           kept = j;
-          finished = λ s k. rw (only (replay stretchCall cs st) s (sym (t .0) ∙ k), j) (finish-log 𝒜 ℒ (joined st));
+          finished = λ s k. rw (only (replay stretchCall cs st) s (sym (t .rows) ∙ k), j) (finish-log 𝒜 ℒ (joined st));
         }
