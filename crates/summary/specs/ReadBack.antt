@@ -9,7 +9,7 @@ use lib.IntN.{ℤ, natAbs}
 use mir.Syntax.{w32, w64}
 use mir.Val.{SFits, ofZ, toZ}
 use mir.Facts.{fits-ofZ, toZ-ofZ}
-use Rattle.number.specs.Bytes.{leAt, bytesOf}
+use Rattle.number.specs.Bytes.{leAt}
 use Rattle.number.specs.Laws.{field-here, field-past, length-bytesOf}
 use Rattle.number.specs.IntegerLaws.{sfits-abs}
 use Rattle.figure.specs.FourModes.{Amounts, InRange, limit}
@@ -17,7 +17,7 @@ use Rattle.figure.specs.Mode.{Mode}
 use Rattle.figure.specs.Stored.{IsStored}
 use Rattle.hill.specs.Summary.{Hill, hill, Summary, blank, part, spoilt, whole, rise, fall}
 use Rattle.hill.specs.Valid.{weightUp, weightDown, AllFine}
-use Rattle.summary.specs.Layout.{i32Bytes, i64Bytes, leftBytes, recordBytes, rightBytes, hillBytes, lengthOf, kindOf, body, layout}
+use Rattle.summary.specs.Layout.{i32Bytes, i64Bytes, leftBytes, recordBytes, rightBytes, hillBytes, lengthOf, body, layout}
 use Rattle.summary.specs.Judge.{riseAt, leftAt, recordAt, heldAt}
 use Rattle.summary.specs.Decode.{amountsAt, leftsIn, rightsIn}
 use Rattle.summary.specs.Tests.{one-more}
@@ -51,33 +51,22 @@ module _ {Fig : Type 0} (store : Fig → ℤ) where
 
   left-bytes : (u : List Fig) → AllBytes (leftBytes store u)
   left-bytes [] = bytes-nil
-  left-bytes (v ∷ u) = bytes-append (leftBytes store u) (bytesOf 8 (ofZ w64 (store v))) (left-bytes u) (bytes-bytesOf 8 _)
-
-  record-bytes : (e : Amounts × Fig) → AllBytes (recordBytes store e)
-  record-bytes e =
-      bytes-append (bytesOf 4 (ofZ w32 (e .0 .value))) _ (bytes-bytesOf 4 _) (bytes-append (bytesOf 4 (ofZ w32 (e .0 .floor))) _ (bytes-bytesOf 4 _)
-      (bytes-append (bytesOf 4 (ofZ w32 (e .0 .ceiling))) (bytesOf 8 (ofZ w64 (store (e .1)))) (bytes-bytesOf 4 _) (bytes-bytesOf 8 _)))
+  left-bytes (v ∷ u) = search (bytes-append, bytes-bytesOf, left-bytes u)
 
   right-bytes : (d : List (Amounts × Fig)) → AllBytes (rightBytes store d)
   right-bytes [] = bytes-nil
-  right-bytes (e ∷ d) = bytes-append (rightBytes store d) (recordBytes store e) (right-bytes d) (record-bytes e)
+  right-bytes (e ∷ d) = search (bytes-append, bytes-bytesOf, right-bytes d)
 
   hill-bytes : (h : Hill Fig Amounts) → AllBytes (hillBytes store h)
-  hill-bytes (hill u v d) =
-      bytes-append (leftBytes store u) (bytesOf 8 (ofZ w64 (store v)) ++ rightBytes store d) (left-bytes u) (bytes-append (bytesOf 8 (ofZ w64 (store v))) (rightBytes store d) (bytes-bytesOf 8 _) (right-bytes d))
+  hill-bytes (hill u v d) = search (bytes-append, bytes-bytesOf, left-bytes, right-bytes)
 
   body-bytes : (s : Summary Fig Amounts) → AllBytes (body store s)
   body-bytes blank = bytes-nil
-  body-bytes (part (spoilt f s e o)) =
-      bytes-append (bytesOf 2 f) _ (bytes-bytesOf 2 f) (bytes-append (bytesOf 2 s) _ (bytes-bytesOf 2 s) (bytes-append (bytesOf 2 e) (bytesOf 4 o) (bytes-bytesOf 2 e) (bytes-bytesOf 4 o)))
-  body-bytes (part (whole p o h)) =
-      bytes-append (bytesOf 2 (p + rise h)) _ (bytes-bytesOf 2 (p + rise h))
-      (bytes-append (bytesOf 2 p) _ (bytes-bytesOf 2 p)
-      (bytes-append (bytesOf 2 (p + fall h)) _ (bytes-bytesOf 2 (p + fall h)) (bytes-append (bytesOf 4 o) (hillBytes store h) (bytes-bytesOf 4 o) (hill-bytes h))))
+  body-bytes (part (spoilt f s e o)) = search (bytes-append, bytes-bytesOf)
+  body-bytes (part (whole p o h)) = search (bytes-append, bytes-bytesOf, hill-bytes)
 
   pub layout-bytes : (m : ℕ) (s : Summary Fig Amounts) → AllBytes (layout store m s)
-  layout-bytes m s =
-      bytes-append (bytesOf 2 (lengthOf s)) _ (bytes-bytesOf 2 (lengthOf s)) (bytes-append (bytesOf 2 (kindOf s)) _ (bytes-bytesOf 2 (kindOf s)) (bytes-append (bytesOf 2 m) (body store s) (bytes-bytesOf 2 m) (body-bytes s)))
+  layout-bytes m s = search (bytes-append, bytes-bytesOf, body-bytes)
 
 -- ---- one number
 
