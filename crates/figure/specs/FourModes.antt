@@ -1,10 +1,10 @@
 -- The four modes of document 01, "Four modes", and how their figures are stored in 64 bits.
-use mathlib.Core.Bool.{Bool, true, false}
+use mathlib.Core.Bool.{Bool, true, false, _&&_}
 use Prim.Native.Nat.{ℕ, _+_, _*_, _%_, _^_, _≤_, _<_}
 use native.Mathlib.Nat.{mod-lt}
 use lib.Dec.{eqb, lit<}
 use lib.IntN.{ℤ, pos, negsuc, _+ℤ_, natAbs}
-use lib.Signed.{_≤ℤ_}
+use lib.Signed.{leZ, _≤ℤ_}
 use Rattle.algebra.specs.Algebra.{Algebra}
 use Rattle.number.specs.Integer.{maxZ, clamp, wrap}
 use Rattle.number.specs.IntegerLaws.{up}
@@ -70,7 +70,7 @@ stamp =
       node = λ r h. record { num = wrap (r .value +ℤ pos (31 * h .num)); small = wrap-small (r .value +ℤ pos (31 * h .num)) };
     }
 
--- "In mode 2 it is no number, and is stored as -2^63." A figure is stored as it is; a stamp is 0 to 2^32 - 1.
+-- "In mode 2 it is no number, and is stored as -2^63." `negsuc n` is -1 - n. A figure is stored as it is.
 abbrev pub nothing : ℤ
 nothing = negsuc 9223372036854775807
 
@@ -91,3 +91,7 @@ storeStamp s = pos (s .num)
 
 abbrev pub readStamp : ℤ → Stamp
 readStamp z = stampOf (up z)
+
+-- "In mode 4, 64-bit values are 0 to 2^32 - 1."
+unfoldable pub isStamp : ℤ → Bool
+isStamp z = leZ (pos 0) z && leZ z (pos 4294967295)

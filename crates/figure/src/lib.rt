@@ -7,8 +7,8 @@ ghost use Rattle.figure.specs.FourModes.{lift, lineOf, readHeld, storeHe
 ghost use Rattle.figure.specs.Run.{atLeast};
 ghost use Rattle.figure.specs.Runs.{moved};
 ghost use Rattle.figure.specs.Bound.{sizeHeld};
-ghost use Rattle.figure.specs.Mode.{modeOf};
-ghost use Rattle.figure.specs.Stored.{none, combined, passed, amounts, levelRun, runAfter, Combines, Passes, Levels, Composes};
+ghost use Rattle.figure.specs.Mode.{modeInUse, modeOf};
+ghost use Rattle.figure.specs.Stored.{sizeOf, none, combined, passed, amounts, levelRun, runAfter, Combines, Passes, Levels, Composes};
 
 // What a record holds, in a mode where "nothing held" is no number.
 pub enum Held {
@@ -84,6 +84,44 @@ fn moved_by(h: Held, v: i64) -> Held
     match h {
         Held::Nothing => Held::Nothing,
         Held::Figure(a) => Held::Figure(number::sum(a, v)),
+    }
+}
+
+// ---- questions about a mode and its numbers
+
+pub fn in_use(mode: u32) -> bool
+    ensures { λ r. ⌜ r ≡ modeInUse mode ⌝ }
+{
+    (1 <= mode) & (mode <= 4)
+}
+
+// Whether x stands for a figure.
+pub fn is_figure(mode: u16, x: i64) -> bool
+    ensures { λ r. ⌜ r ≡ modeOf mode .isFigure x ⌝ }
+{
+    match mode {
+        4 => (0 <= x) & (x <= 4294967295),
+        _ => true,
+    }
+}
+
+fn size_held(h: Held) -> u64
+    ensures { λ r. ⌜ r ≡ sizeHeld h ⌝ }
+{
+    match h {
+        Held::Nothing => 0,
+        Held::Figure(x) => number::magnitude(x),
+    }
+}
+
+// What x counts in the bound on a summary's values.
+pub fn size(mode: u16, x: i64) -> u64
+    ensures { λ r. ⌜ r ≡ sizeOf (modeOf mode) x ⌝ }
+{
+    match mode {
+        2 => size_held(read_held(x)),
+        4 => 0,
+        _ => number::magnitude(x),
     }
 }
 
@@ -186,11 +224,19 @@ pub fn through(mode: u16, value: i32, floor: i32, ceiling: i32, held: i64) -> i6
 
 // ---- runs: the run of one level, and one run around another
 
+// A record's value and all that it holds beside the inner part.
+fn level_sum(value: i32, before: i64, behind: i64) -> i64
+    requires { ⌜ natAbs value + (natAbs before + natAbs behind) < 2 ^ 63 ⌝ }
+    ensures { λ r. ⌜ r ≡ value +ℤ (before +ℤ behind) ⌝ }
+{
+    number::sum(number::widen(value), number::sum(before, behind))
+}
+
 fn level_net(value: i32, floor: i32, ceiling: i32, before: i64, behind: i64) -> Run
     requires { ⌜ Levels (modeOf 1) value before behind ⌝ }
     ensures { λ r. ⌜ r ≡ levelRun (modeOf 1) (amounts value floor ceiling) before behind ⌝ }
 {
-    let a = number::sum(number::widen(value), number::sum(before, behind));
+    let a = level_sum(value, before, behind);
     Run {
         first: a,
         second: 0,
@@ -217,7 +263,7 @@ fn level_eaten(value: i32, floor: i32, ceiling: i32, before: i64, behind: i64) -
     requires { ⌜ Levels (modeOf 3) value before behind ⌝ }
     ensures { λ r. ⌜ r ≡ levelRun (modeOf 3) (amounts value floor ceiling) before behind ⌝ }
 {
-    let a = number::sum(number::widen(value), number::sum(before, behind));
+    let a = level_sum(value, before, behind);
     let low = number::widen(floor);
     let high = number::widen(ceiling);
     Run {

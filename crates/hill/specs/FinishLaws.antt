@@ -16,7 +16,7 @@ use Rattle.hill.specs.Spell.{treeOf}
 use Rattle.hill.specs.FigureLaws.{figure-tree}
 use Rattle.hill.specs.SummaryLaws.{partOf-built, verdict-partOf, levels}
 
-outcome-same : {A : Type 0} (v : Verdict) (a b : A) → (v ≡ pass → a ≡ b) → outcome v a ≡ outcome v b
+pub outcome-same : {A : Type 0} (v : Verdict) (a b : A) → (v ≡ pass → a ≡ b) → outcome v a ≡ outcome v b
 outcome-same pass a b k = rw (k refl)
 outcome-same (refuse n) a b k = refl
 

@@ -49,15 +49,15 @@ module _ {S A : Type 0} (φ : S → A) where
   map-drop (suc n) [] = refl
   map-drop (suc n) (x ∷ l) = map-drop n l
 
--- Two rows side by side, the second being φ of the first: where a merge on neighbours of the second comes to φ of what it comes to on the first
--- (asked of the neighbours that are `Fit` for a merge), the list of merges keeps the rows so, and gives the same answers.
+-- Each merge of the list is on neighbours that are `Fit` for it, in the row as it then stands.
+abbrev pub Proper : {S B : Type 0} (g : List S → B → Option S) (Fit : List S → Type 0) → List (Call B) → List S → Type 0
+Proper g Fit [] st = Unit {0}
+Proper g Fit (c ∷ cs) st = Fit (take (c .many) (drop (c .place) st)) × Proper g Fit cs (put g (answer g c st) c st)
+
+-- Two rows side by side, the second being φ of the first: where a merge on fit neighbours of the second comes to φ of what it comes to on the
+-- first, the list of merges keeps the rows so, and gives the same answers.
 module _ {S A B : Type 0} (φ : S → A) (g : List S → B → Option S) (f : List A → B → Option A) (Fit : List S → Type 0)
     (same : (l : List S) (b : B) → Fit l → f (map φ l) b ≡ Option·map φ (g l b)) where
-  -- Each merge of the list is on neighbours that are fit for it, in the row as it then stands.
-  abbrev pub Proper : List (Call B) → List S → Type 0
-  Proper [] st = Unit {0}
-  Proper (c ∷ cs) st = Fit (take (c .many) (drop (c .place) st)) × Proper cs (put g (answer g c st) c st)
-
   answer-same : (c : Call B) (st : List S) → Fit (take (c .many) (drop (c .place) st)) → answer f c (map φ st) ≡ Option·map φ (answer g c st)
   answer-same c st k = rw (← map-drop φ (c .place) st, ← map-take φ (c .many) (drop (c .place) st)) (same (take (c .many) (drop (c .place) st)) (c .lent) k)
 
@@ -65,7 +65,7 @@ module _ {S A B : Type 0} (φ : S → A) (g : List S → B → Option S) (f : Li
   put-same none c st = refl
   put-same (some a) c st = simp (map-append, map-take, map-drop)
 
-  pub replay-same : (cs : List (Call B)) (st : List S) → Proper cs st →
+  pub replay-same : (cs : List (Call B)) (st : List S) → Proper g Fit cs st →
       (replay f cs (map φ st) ≡ map φ (replay g cs st)) × (answers f cs (map φ st) ≡ map (Option·map φ) (answers g cs st))
   replay-same [] st k = (refl, refl)
   replay-same (c ∷ cs) st k =
@@ -141,7 +141,7 @@ module _ {R : Type 0} (𝒜 : Algebra R) (ℒ : Laws 𝒜) where
     only (x ∷ []) s k = rw (append-nil x) (cc)
     only (x ∷ (y ∷ xs)) s k = cc
 
-    proper : (cs : List (Call B)) (st : List (List (Record R))) → Proper (summaryOf 𝒜) stretchCall mergeCall (λ l. Unit {0}) (λ l b k. call-same l b) cs st
+    proper : (cs : List (Call B)) (st : List (List (Record R))) → Proper stretchCall (λ l. Unit {0}) cs st
     proper [] st = tt
     proper (c ∷ cs) st = (tt, proper cs (put stretchCall (answer stretchCall c st) c st))
 

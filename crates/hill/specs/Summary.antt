@@ -10,7 +10,7 @@ use Rattle.hill.specs.Log.{Record, opening, closing, startLevel, endOf, 
 use Rattle.hill.specs.Figure.{held}
 
 -- The left values, the head at level peak + 1, the last at the start level; the middle value; the unclosed records, the deepest first,
--- each with its combined held figures so far. The levels of a slope are the peak and the slope's length.
+-- each with its combined held figures so far. Start and end are the peak and a slope's length.
 pub data Hill (Fig R : Type 0) : Type 0 where
   hill : List Fig → Fig → List (R × Fig) → Hill Fig R
 

@@ -40,7 +40,7 @@ module _ {Fig R : Type 0} where
 module _ {R : Type 0} (𝒜 : Algebra R) where
   open Algebra 𝒜 using (Fig)
 
-  verdict-merge : (a b : Part Fig R) → verdict (mergePart 𝒜 a b) ≡ mergeVerdict 𝒜 a b
+  pub verdict-merge : (a b : Part Fig R) → verdict (mergePart 𝒜 a b) ≡ mergeVerdict 𝒜 a b
   verdict-merge a b = verdict-judged (mergeVerdict 𝒜 a b) (start a) (end b) (opened a + opened b) (min (peak 𝒜 a) (peak 𝒜 b)) (mergeHills 𝒜 (slopes 𝒜 a) (slopes 𝒜 b))
 
   -- What passes has parts that pass, and few opened records.
@@ -63,7 +63,7 @@ module _ {R : Type 0} (𝒜 : Algebra R) where
   meet : (a b : Part Fig R) → mergeVerdict 𝒜 a b ≡ pass → end a ≡ start b
   meet a b v = between-pass (end a) (start b) (low-fst (between (end a) (start b)) (count (opened a + opened b)) (pass-join a b v))
 
-  opened-merge : (a b : Part Fig R) → opened (mergePart 𝒜 a b) ≡ cut (opened a + opened b)
+  pub opened-merge : (a b : Part Fig R) → opened (mergePart 𝒜 a b) ≡ cut (opened a + opened b)
   opened-merge a b = opened-judged (mergeVerdict 𝒜 a b) (start a) (end b) (opened a + opened b) (min (peak 𝒜 a) (peak 𝒜 b)) (mergeHills 𝒜 (slopes 𝒜 a) (slopes 𝒜 b)) (few a b)
 
   peak-merge : (a b : Part Fig R) → mergeVerdict 𝒜 a b ≡ pass → peak 𝒜 (mergePart 𝒜 a b) ≡ min (peak 𝒜 a) (peak 𝒜 b)
@@ -122,7 +122,7 @@ module _ {R : Type 0} (𝒜 : Algebra R) where
   merge-blank (part a) = refl
 
   module _ (ℒ : Laws 𝒜) where
-    slopes-merge : (a b : Part Fig R) → mergeVerdict 𝒜 a b ≡ pass → slopes 𝒜 (mergePart 𝒜 a b) ≡ merge 𝒜 (slopes 𝒜 a) (slopes 𝒜 b)
+    pub slopes-merge : (a b : Part Fig R) → mergeVerdict 𝒜 a b ≡ pass → slopes 𝒜 (mergePart 𝒜 a b) ≡ merge 𝒜 (slopes 𝒜 a) (slopes 𝒜 b)
     slopes-merge a b v = rw v (mergeHills-merge 𝒜 ℒ (slopes 𝒜 a) (slopes 𝒜 b))
 
     -- Where nothing is at fault the merged hill goes from the left's start to the right's end.

@@ -4,12 +4,11 @@ use mathlib.Core.Path.{_≡_, refl, _∙_}
 use mathlib.Core.List.{List, [], _∷_, _++_}
 use native.Mathlib.Decide.{decLt}
 use native.Mathlib.Omega.{arith}
-use Rattle.join_plan.specs.Row.{Levels, blank, hill, Line, lineIf, lineOf, passed, walk, linesTo, plan, after, levelAt, Meets}
-
--- the number of levels folded along a plan
-unfoldable pub folded : List Line → ℕ
-folded [] = 0
-folded (l ∷ ls) = l .highest - l .lowest + 1 + folded ls
+use lib.ListN.{length}
+use Rattle.join_plan.specs.Plan.{Levels, blank, hill, Line, rowOf, planOf, folded}
+use Rattle.join_plan.specs.Scan.{lineIf, lineOf, passed, walk, linesTo, plan, scanOf}
+use Rattle.join_plan.specs.PlanExact.{planOf-scan}
+use Rattle.join_plan.specs.Joins.{after, levelAt, Meets}
 
 folded-append : (a b : List Line) → folded (a ++ b) ≡ folded a + folded b
 unfolding folded
@@ -51,8 +50,13 @@ module _ (row : ℕ → Levels) where
   linesTo-folded blank n h x = refl
   linesTo-folded (hill s p e) n h x = walk-folded n h n p s (omega arith)
 
-  pub plan-folded : (n : ℕ) → ((k : ℕ) → k < n → Meets (row k) (levelAt row k)) → folded (plan row n) ≡ fallsOf row n
+  plan-folded : (n : ℕ) → ((k : ℕ) → k < n → Meets (row k) (levelAt row k)) → folded (plan row n) ≡ fallsOf row n
   unfolding plan folded fallsOf
   plan-folded zero h = refl
   plan-folded (suc n) h =
       omega (arith, folded-append (plan row n) (linesTo row (row n) n), plan-folded n (λ k x. h k (omega arith)), linesTo-folded (row n) n (λ k x. h k (omega arith)) (h n (omega arith)))
+
+-- the levels folded along a plan: each chunk folds what it falls
+pub planOf-folded : (row : List Levels) → ((k : ℕ) → k < length row → Meets (rowOf row k) (levelAt (rowOf row) k)) → folded (planOf row) ≡ fallsOf (rowOf row) (length row)
+unfolding scanOf
+planOf-folded row h = rw (planOf-scan row) (plan-folded (rowOf row) (length row) h)

@@ -6,7 +6,10 @@ use mathlib.Core.List.{List}
 use native.Mathlib.Decide.{decLt, decLe}
 use native.Mathlib.Omega.{arith}
 use lib.ListN.{length, length-append}
-use Rattle.join_plan.specs.Row.{Levels, blank, hill, lineIf, lineOf, passed, walk, linesTo, plan, rowOf, scanOf, levelAt, after, WellFormed, Meets}
+use Rattle.join_plan.specs.Plan.{Levels, blank, hill, rowOf, planOf, joins}
+use Rattle.join_plan.specs.Scan.{lineIf, lineOf, passed, walk, linesTo, plan, scanOf}
+use Rattle.join_plan.specs.PlanExact.{planOf-scan}
+use Rattle.join_plan.specs.Joins.{levelAt, after, WellFormed, Meets}
 
 -- the number of lines of a chunk, 0 or 1, written so that `omega` reads it
 size : (c : Levels) (p m : ℕ) → ℕ
@@ -140,6 +143,6 @@ module _ (row : ℕ → Levels) where
           low = omega arith
 
 -- THE BOUND
-pub scanOf-bound : (row : List Levels) → WellFormed (rowOf row) (length row) → 2 ≤ length row → length (scanOf row) + 3 ≤ 2 * length row
+pub planOf-bound : (row : List Levels) → WellFormed (rowOf row) (length row) → 2 ≤ length row → joins (planOf row) + 3 ≤ 2 * length row
 unfolding scanOf total
-scanOf-bound row w h = bound (rowOf row) (length row) (w .meets) (w .ends) h
+planOf-bound row w h = rw (planOf-scan row) (bound (rowOf row) (length row) (w .meets) (w .ends) h)

@@ -4,8 +4,9 @@ use mathlib.Core.Path.{_≡_, refl}
 use mathlib.Core.Logic.{dite}
 use native.Mathlib.Decide.{decLe, le-ind}
 use native.Mathlib.Omega.{arith}
-use Rattle.join_plan.specs.PlanHolds.{open-here, open-earlier}
-use Rattle.join_plan.specs.Row.{Levels, blank, hill, Opens, Closes, Above, LeftOpen, Joins, after, levelAt, Meets}
+use Rattle.join_plan.specs.ScanExact.{open-here, open-earlier}
+use Rattle.join_plan.specs.Plan.{Levels, blank, hill}
+use Rattle.join_plan.specs.Joins.{Opens, Closes, Above, LeftOpen, Joins, after, levelAt, Meets}
 
 -- the depths that a chunk opens, closes or passes are an interval
 opens-convex : (c : Levels) (a b d : ℕ) → Opens c a → Opens c b → a ≤ d → d ≤ b → Opens c d
@@ -19,6 +20,11 @@ closes-convex (hill s p e) a b d x y h k = omega arith
 above-less : (c : Levels) (b d : ℕ) → Above c b → d ≤ b → Above c d
 above-less blank b d x h = x
 above-less (hill s p e) b d x h = omega arith
+
+-- a chunk that closes a record of depth d is not above it
+pub closes-not-above : (c : Levels) (d : ℕ) → Closes c d → Above c d → ⊥
+closes-not-above blank d o a = o
+closes-not-above (hill s p e) d o a = omega arith
 
 module _ (row : ℕ → Levels) where
   -- so are the depths of a join

@@ -1,9 +1,19 @@
-pub mod Base
-pub mod Levels
+-- Definitions: the runs, the work along the plan, and the gate of a row.
+pub mod Runs
 pub mod Work
-pub mod Clauses
-pub mod Proof
-pub mod Hill
-pub mod Bridge
-pub mod Figure
-pub mod Pieces
+pub mod Gate
+-- The gate finds the fault that finishing the merged row answers.
+pub mod GateExact
+-- The merge of a row, level by level, and the row and its plan so read.
+pub mod Fold
+pub mod Stack
+pub mod Merged
+pub mod RowLevels
+-- The work along the plan gives what finishing the merged row answers; for a cut log, the recursion's figure.
+pub mod Invariant
+pub mod WorkExact
+pub mod LogWork
+-- Each line has its run.
+pub mod RunsExact
+-- Rows computed.
+pub mod Examples

@@ -1,106 +1,68 @@
--- A row of hills, its join plan, the work along the plan, and the merge of the row, hill after hill. Hills are counted from 0, and a
--- slope is a function of the level. Assumes nothing.
-use mathlib.Core.List.{List, [], _∷_, _++_}
-use Prim.Native.Nat.{ℕ, zero, suc, pred, min, max}
-use Rattle.plan_work.specs.Base.{Monoid, if-le, if-lt, if-eq}
-use Rattle.plan_work.specs.Levels.{down}
-
--- What a row says of the hill k: its start and peak, the middle value, the left value at a level, and what its unclosed record at a
--- level makes of the figures that it comes to hold besides its held figures so far: node r (held ⊗ y).
-pub record Hills (A : Type 0) : Type 0 where
-  pub start : ℕ → ℕ
-  pub peak : ℕ → ℕ
-  pub mid : ℕ → A
-  pub left : ℕ → ℕ → A
-  pub close : ℕ → ℕ → A → A
-
--- A line of the plan: a join of the hills `from` and `to`, its lowest and its highest depth.
-pub record Line : Type 0 where
-  pub from : ℕ
-  pub to : ℕ
-  pub low : ℕ
-  pub high : ℕ
+-- The work along the join plan of a row of summaries: definitions only. Assumes nothing.
+use mathlib.Core.Bool.{_&&_, cond}
+use mathlib.Core.List.{List, [], _∷_}
+use Prim.Native.Nat.{ℕ, suc}
+use lib.Dec.{leb, eqb}
+use lib.ListN.{take, drop}
+use Rattle.algebra.specs.Algebra.{Algebra}
+use Rattle.algebra.specs.Run.{through}
+use Rattle.hill.specs.Summary.{Summary, blank, part, middle, slopes}
+use Rattle.join_plan.specs.Plan.{Line, joins, folded, planOfRow}
+use Rattle.plan_work.specs.Runs.{peakOf, slopesOf, runLevels}
 
 -- A line that has been worked, with its outcome.
-pub record Done (A : Type 0) : Type 0 where
+pub record Done (Fig : Type 0) : Type 0 where
   pub line : Line
-  pub out : A
+  pub out : Fig
 
--- the latest outcome; d where there is none
-unfoldable pub latest : {A : Type 0} → A → List (Done A) → A
-latest d [] = d
-latest d (e ∷ es) = e .out
+-- What working along a plan gives: the figure, the joins used, and the number of levels folded.
+pub record Work (Fig : Type 0) : Type 0 where
+  pub figure : Fig
+  pub joins : ℕ
+  pub levels : ℕ
 
-module _ {A : Type 0} (M : Monoid A) where
-  open Monoid M using (unit as ι, op as _⊗_)
+module _ {R : Type 0} (𝒜 : Algebra R) where
+  open Algebra 𝒜 using (Fig, ι, _⊗_)
 
   infixl 70 _⊗_
-  -- what a line gives to the x of a later line from i to j whose highest is t - 1: its outcome, where it lies between them and its
-  -- lowest is t
-  unfoldable pub part : ℕ → ℕ → ℕ → Done A → A
-  part i j t d = if-le i (d .line .from) (if-le (d .line .to) j (if-eq (d .line .low) t (d .out) ι) ι) ι
+  -- The middle values, combined, of those whose peak is l.
+  unfoldable pub middlesAt : ℕ → List (Summary Fig R) → Fig
+  middlesAt l [] = ι
+  middlesAt l (s ∷ row) = cond (eqb (peakOf 𝒜 s) l) (middle (slopesOf 𝒜 s)) ι ⊗ middlesAt l row
 
-  -- what the lines ds give, combined
-  unfoldable pub outs : ℕ → ℕ → ℕ → List (Done A) → A
-  outs i j t [] = ι
-  outs i j t (d ∷ ds) = part i j t d ⊗ outs i j t ds
+  -- The outcomes, combined, of the lines from i to j whose lowest is l: both ends lie within i to j, and either may be i or j.
+  unfoldable pub outcomesAt : (i j l : ℕ) → List (Done Fig) → Fig
+  outcomesAt i j l [] = ι
+  outcomesAt i j l (d ∷ ds) = cond (leb i (d .line .i) && leb (d .line .j) j && eqb (d .line .lowest) l) (d .out) ι ⊗ outcomesAt i j l ds
 
-module _ {A : Type 0} (H : Hills A) where
-  open Hills H using (start, peak, mid, left, close)
+  module _ (row : List (Summary Fig R)) where
+    -- The summaries strictly between i and j.
+    abbrev pub between : (i j : ℕ) → List (Summary Fig R)
+    between i j = drop (suc i) (take j row)
 
-  -- the joins of the hills i - 1, .., 0 with the hill j, where t is the lowest of j's start and the peaks from i to j - 1
-  unfoldable pub lines : ℕ → ℕ → ℕ → List Line
-  lines j zero t = []
-  lines j (suc i) t =
-      let rest = lines j i (min t (peak i)) in
-      let low = max (peak i) (peak j) in
-      if-lt low t (record { from = i; to = j; low = low; high = pred t } ∷ rest) rest
+    -- A line's x: "the middle values of the hills between i and j whose peak is highest + 1 with the outcomes of the earlier lines from i to j
+    -- whose lowest is highest + 1".
+    unfoldable pub given : Line → List (Done Fig) → Fig
+    given e earlier = middlesAt (suc (e .highest)) (between (e .i) (e .j)) ⊗ outcomesAt (e .i) (e .j) (suc (e .highest)) earlier
 
-  -- the plan of the first n hills: by rising `to`, then falling `from`
-  unfoldable pub plan : ℕ → List Line
-  plan zero = []
-  plan (suc j) = plan j ++ lines j j (start j)
+    -- The lines in order, each line's x put through its run; the latest stands first.
+    unfoldable pub worked : List Line → List (Done Fig) → List (Done Fig)
+    worked [] earlier = earlier
+    worked (e ∷ es) earlier = worked es (record { line = e; out = through 𝒜 (runLevels 𝒜 row e) (given e earlier) } ∷ earlier)
 
-  module _ (M : Monoid A) where
-    open Monoid M using (unit as ι, op as _⊗_)
+  -- The last outcome; with no line, the middle value of the one hill.
+  abbrev pub oneMiddle : List (Summary Fig R) → Fig
+  oneMiddle [] = ι
+  oneMiddle (blank ∷ row) = oneMiddle row
+  oneMiddle (part a ∷ row) = middle (slopes 𝒜 a)
 
-    infixl 70 _⊗_
-    -- the middle values, combined, of the hills between i and j whose peak is t
-    unfoldable pub mids : ℕ → ℕ → ℕ → A
-    mids i zero t = ι
-    mids i (suc k) t = mids i k t ⊗ if-lt i k (if-eq (peak k) t (mid k) ι) ι
+  abbrev pub lastOutcome : List (Done Fig) → Fig → Fig
+  lastOutcome [] y = y
+  lastOutcome (d ∷ ds) y = d .out
 
-    -- the run of a line: from its highest record to its lowest
-    unfoldable pub run : Line → A → A
-    run e = down (λ l x. close (e .from) l (x ⊗ left (e .to) l)) (e .low) (suc (e .high))
-
-    -- the x of a line, after the lines ds, the latest first
-    unfoldable pub given : Line → List (Done A) → A
-    given e ds = mids (e .from) (e .to) (suc (e .high)) ⊗ outs M (e .from) (e .to) (suc (e .high)) ds
-
-    -- the lines es, worked in order after the lines ds; the latest stands first
-    unfoldable pub work : List Line → List (Done A) → List (Done A)
-    work [] ds = ds
-    work (e ∷ es) ds = work es (record { line = e; out = run e (given e ds) } ∷ ds)
-
-    -- the figure of a row of n hills by its plan: the last outcome, or d where the plan has no line
-    unfoldable pub figure : ℕ → A → A
-    figure n d = latest d (work (plan n) [])
-
-    -- what closing the levels start j, .., lo + 1 of the joined hills before j by the hill j gives; the state g of those hills says
-    -- what closing their record at a level makes of a figure
-    unfoldable pub valley : (ℕ → A → A) → ℕ → ℕ → A
-    valley g j lo = down (λ l x. g l (x ⊗ left j l)) lo (start j) ι
-
-    -- the state of the first n hills, joined: the hill j closes all above its peak, its valley and its middle value join what the
-    -- record at its peak holds, and its own records stand above
-    unfoldable pub state : ℕ → ℕ → A → A
-    state zero l y = y
-    state (suc j) l y =
-        if-lt (peak j) l (close j l y)
-        (if-lt l (peak j) (state j l y) (state j l (valley (state j) j (peak j) ⊗ mid j ⊗ y)))
-
-    -- the middle value of the first n hills, joined
-    unfoldable pub middle : ℕ → A
-    middle zero = ι
-    middle (suc j) = if-lt 0 (peak j) (middle j) (middle j ⊗ valley (state j) j (peak j) ⊗ mid j)
+  abbrev pub workOf : List (Summary Fig R) → Work Fig
+  workOf row = record {
+    figure = lastOutcome (worked row (planOfRow row) []) (oneMiddle row);
+    joins = joins (planOfRow row);
+    levels = folded (planOfRow row);
+  }
