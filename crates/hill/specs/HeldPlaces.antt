@@ -49,6 +49,13 @@ module _ {R : Type 0} where
       (λ w. inr (w .0, omega (arith, w .1), w .2))
       (first-close log p d o n (omega arith))
 
+  -- At most one record closes the one at p.
+  pub closed-once : (log : List (Record R)) (p q k d : ℕ) → ClosedBy log p q d → ClosedBy log p k d → q ≡ k
+  closed-once log p q k d a b =
+      dite (decLt q k)
+      (λ l. absurd (b .first q (a .order) l (a .closed)))
+      (λ l. dite (decLt k q) (λ m. absurd (a .first k (b .order) m (b .closed))) (λ m. omega arith))
+
   -- An open at depth d; a close that ends what a record of depth d - 1 holds.
   abbrev pub opensAt : ℕ → Record R → Bool
   opensAt d (opening c r) = eqb c d
