@@ -59,3 +59,8 @@ module _ {A B : Type 0} (f : List A → B → Outcome A) where
 -- Neighbours made one by `merge`, where the outcome fits the buffer.
 abbrev pub fitting : {A B : Type 0} → (B → A → Bool) → (List A → A) → List A → B → Outcome A
 fitting fits merge row b = cond (fits b (merge row)) (result (merge row)) (refused 12)
+
+-- φ of what a merge comes to.
+abbrev pub onResult : {S A : Type 0} → (S → A) → Outcome S → Outcome A
+onResult φ (refused n) = refused n
+onResult φ (result s) = result (φ s)

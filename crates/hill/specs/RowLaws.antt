@@ -12,7 +12,7 @@ use Rattle.hill.specs.Figure.{figureOf}
 use Rattle.hill.specs.Summary.{Summary, blank, summaryOf}
 use Rattle.hill.specs.Merge.{mergeSummary}
 use Rattle.hill.specs.Finish.{outcome, finishOf}
-use Rattle.hill.specs.Row.{joined, halves, mergeRow, Call, answer, put, replay, answers, Proper, fitting}
+use Rattle.hill.specs.Row.{joined, halves, mergeRow, Call, answer, put, replay, answers, Proper, fitting, onResult}
 use Rattle.hill.specs.SummaryLaws.{mergeSummary-assoc, merge-blank, summaryOf-append}
 use Rattle.hill.specs.FinishLaws.{finish-log}
 
@@ -48,10 +48,6 @@ module _ {S A : Type 0} (φ : S → A) where
   map-drop zero l = refl
   map-drop (suc n) [] = refl
   map-drop (suc n) (x ∷ l) = map-drop n l
-
-abbrev pub onResult : {S A : Type 0} → (S → A) → Outcome S → Outcome A
-onResult φ (refused n) = refused n
-onResult φ (result s) = result (φ s)
 
 -- Two rows side by side, the second being φ of the first, of which I holds: where a merge on the second comes to φ of what it comes to on the first,
 -- the list of merges keeps the rows so, and gives the same answers.
@@ -160,7 +156,7 @@ module _ {R : Type 0} (𝒜 : Algebra R) (ℒ : Laws 𝒜) where
     pub row-claim : (cs : List (Call B)) (st : List (List (Record R))) → RowClaim cs st
     row-claim cs st =
         let t = replay-same (summaryOf 𝒜) stretchCall mergeCall (λ c r. Unit {0}) (λ r. Unit {0})
-            (λ c st i k. record { same = call-same (take (c .many) (drop (c .place) st)) (c .lent); kept = tt }) cs st tt (proper cs (map (summaryOf 𝒜) st)) in
+        (λ c st i k. record { same = call-same (take (c .many) (drop (c .place) st)) (c .lent); kept = tt }) cs st tt (proper cs (map (summaryOf 𝒜) st)) in
         let j : joined (replay stretchCall cs st) ≡ joined st = replay-joined (λ b x. fits b (summaryOf 𝒜 x)) cs st in
         record {
           pieces = t .rows;

@@ -1,43 +1,74 @@
--- Document 01's log D cut after record 2: plan, runs and work on bytes, each by computation. Assumes nothing.
+-- Edges of the calls on a row, each by computation. Assumes nothing.
 use mathlib.Core.Path.{_≡_, refl}
-use mathlib.Core.List.{List, [], _∷_, flatMap}
-use Prim.Native.Nat.{ℕ}
-use lib.ListN.{take, drop}
-use lib.IntN.{pos}
+use mathlib.Core.List.{List, [], _∷_, _++_, flatMap}
+use Prim.Native.Nat.{ℕ, zero, suc}
+use lib.IntN.{ℤ, pos}
 use Rattle.algebra.specs.Run.{step, through, runOn}
-use Rattle.gate.specs.Outcome.{Outcome, refused, result, onward}
+use Rattle.gate.specs.Outcome.{refused, result}
 use Rattle.number.specs.Bytes.{leAt, bytesOf}
-use Rattle.number.specs.Integer.{minZ, maxZ, clamp, wrap}
-use Rattle.row.specs.Row.{firstLength, piecesIn, rowPieces, endToEnd}
-use Rattle.record.specs.Record.{within, inRange, accepted, whole, byShape, readOf, recordsIn, recordsOf}
-use Rattle.record.specs.Examples.{logD}
-use Rattle.figure.specs.FourModes.{lift, lineOf, storeHeld, readHeld}
+use Rattle.number.specs.Integer.{maxZ}
+use Rattle.row.specs.Row.{firstLength, piecesIn, rowPieces}
+use Rattle.record.specs.Record.{within, inRange}
+use Rattle.figure.specs.FourModes.{Amounts, lift, lineOf, storeHeld, readHeld}
+use Rattle.figure.specs.declared.Held.the-variants.{Nothing}
 use Rattle.figure.specs.Run.{atLeast}
 use Rattle.figure.specs.Runs.{moved}
 use Rattle.figure.specs.Mode.{modeOf, modeInUse}
-use Rattle.hill.specs.Verdict.{between, count, cut, ends}
-use Rattle.summary.specs.Layout.{encode}
+use Rattle.hill.specs.Verdict.{between, count, ends}
+use Rattle.hill.specs.Summary.{Summary, hill, blank, part, spoilt, whole}
+use Rattle.summary.specs.Layout.{layout, encode}
 use Rattle.summary.specs.Judge.{sumTo, nothingIn, counted, isStamp}
 use Rattle.summary.specs.Decode.{decode}
 use Rattle.summary.specs.Decide.{allTo, layoutFits, spoiltFits, levelsFit, openedFits, middleFits, recordsFit, valuesFit, hillFits, isSummary}
-use Rattle.summary.specs.Outcomes.{summaryBytes, summariseOutcome}
 use Rattle.join_plan.specs.Plan.{leftOpen, upTo, downFrom, select, depthsJoined, lineFor, planOf, folded}
 use Rattle.plan_work.specs.Runs.{levelsDown, runLevels, runsAlong}
 use Rattle.plan_work.specs.Work.{middlesAt, outcomesAt, given, worked}
-use Rattle.outcome.specs.Outcomes.{twoTo64, askRow, askLog, mergedBytes, lineBytes, planBytes, runBytes, runsBytes, workAlong, mergeRowOutcome, planOutcome, runsOutcome, workOutcome}
+use Rattle.outcome.specs.Outcomes.{twoTo64, askRow, askLog, mergedBytes, planBytes, runBytes, runsBytes, workAlong, mergeRowOutcome, planOutcome, runsOutcome, workOutcome}
 
--- The row that summarise writes for D cut after record 2, lent end to end.
-abbrev rowOfD : ℕ → Outcome (List ℕ)
-rowOfD mode = onward (summariseOutcome (take 36 logD) mode 64) (λ a. onward (summariseOutcome (drop 36 logD) mode 40) (λ b. result (endToEnd (a ∷ b ∷ []))))
+-- n blanks of mode m, end to end
+blanks : ℕ → ℕ → List ℕ
+blanks m zero = []
+blanks m (suc n) = 6 ∷ 0 ∷ 16 ∷ 0 ∷ m ∷ 0 ∷ blanks m n
 
-rowD : ℕ → List ℕ
-rowD mode = bytesIn (rowOfD mode)
-  where
-    bytesIn : Outcome (List ℕ) → List ℕ
-    bytesIn (refused n) = []
-    bytesIn (result w) = w
+-- "One summary to the plan 4, two taken, 64 taken, 65 gives 4": blanks that are taken get 10. A stray byte is a piece.
+counted-pieces : (planOutcome (blanks 1 1) 0 ≡ refused 4)
+    × (planOutcome (blanks 1 2) 0 ≡ refused 10)
+    × (planOutcome (blanks 1 64) 0 ≡ refused 10)
+    × (planOutcome (blanks 1 65) 0 ≡ refused 4)
+    × (planOutcome (blanks 1 64 ++ (0 ∷ [])) 0 ≡ refused 4)
+    × (planOutcome [] 0 ≡ refused 4)
+unfolding blanks leAt bytesOf firstLength piecesIn rowPieces modeInUse modeOf decode layoutFits isSummary leftOpen upTo downFrom select depthsJoined lineFor planOf flatMap twoTo64 askRow askLog planBytes planOutcome
+counted-pieces = (refl, refl, refl, refl, refl, refl)
 
--- "plan 0,1,0,1"; a buffer that is one byte short
-plan-D : (planOutcome (rowD 1) 12 ≡ result (12 ∷ 0 ∷ 19 ∷ 0 ∷ 0 ∷ 0 ∷ 1 ∷ 0 ∷ 0 ∷ 0 ∷ 1 ∷ 0 ∷ [])) × (planOutcome (rowD 1) 11 ≡ refused 12)
-unfolding rowD leAt bytesOf firstLength piecesIn rowPieces within inRange accepted whole byShape readOf recordsIn recordsOf modeInUse modeOf between count cut ends encode decode sumTo nothingIn counted isStamp allTo layoutFits spoiltFits levelsFit openedFits middleFits recordsFit valuesFit hillFits isSummary summaryBytes summariseOutcome leftOpen upTo downFrom select depthsJoined lineFor planOf flatMap twoTo64 askRow askLog lineBytes planBytes planOutcome
-plan-D = (refl, refl)
+-- A stray byte is no summary: 5, also beside two modes; two modes: 6. Blanks merged are blank, and 12 comes last.
+merged-blanks : (mergeRowOutcome (blanks 1 1 ++ (0 ∷ [])) 6 ≡ refused 5)
+    × (mergeRowOutcome (blanks 1 1 ++ (blanks 2 1 ++ (0 ∷ []))) 6 ≡ refused 5)
+    × (mergeRowOutcome (blanks 1 1 ++ blanks 2 1) 0 ≡ refused 6)
+    × (mergeRowOutcome (blanks 2 3) 5 ≡ refused 12)
+    × (mergeRowOutcome (blanks 2 3) 6 ≡ result (blanks 2 1))
+unfolding blanks leAt bytesOf firstLength piecesIn rowPieces modeInUse modeOf encode decode layoutFits isSummary twoTo64 askRow mergedBytes mergeRowOutcome
+merged-blanks = (refl, refl, refl, refl, refl)
+
+ten : Amounts
+ten = record { value = pos 10; floor = pos 0; ceiling = pos 100 }
+
+-- The bytes of two summaries in mode m, end to end.
+two : {Fig : Type 0} → (Fig → ℤ) → (m : ℕ) → (a b : Summary Fig Amounts) → List ℕ
+two store m a b = layout store m a ++ layout store m b
+
+-- Level 0 up to 1 with a record open, and a piece that starts at level 2: 7, not 11, although the row ends at level 2.
+lowest-fault : (workOutcome (two (λ z. z) 1 (part (whole 0 1 (hill [] (pos 0) ((ten, pos 0) ∷ [])))) (part (whole 2 1 (hill [] (pos 3) [])))) ≡ refused 7)
+    × (workOutcome (two (λ z. z) 1 (part (whole 0 1 (hill [] (pos 0) ((ten, pos 0) ∷ [])))) blank) ≡ refused 11)
+    × (workOutcome (two (λ z. z) 1 (part (spoilt 8 0 0 2)) (part (spoilt 7 1 2 2))) ≡ refused 7)
+unfolding ten two leAt bytesOf firstLength piecesIn rowPieces within inRange modeInUse modeOf between count ends encode decode sumTo nothingIn counted isStamp allTo layoutFits spoiltFits levelsFit openedFits middleFits recordsFit valuesFit hillFits isSummary leftOpen upTo downFrom select depthsJoined lineFor planOf flatMap folded levelsDown runLevels middlesAt outcomesAt given worked step through twoTo64 askRow askLog workAlong workOutcome
+lowest-fault = (refl, refl, refl)
+
+-- "open 0 value 10", cut, "close 0": in mode 2 there is no other figure on the way, and nothing is stored as -2^63.
+opened-closed : List ℕ
+opened-closed = two storeHeld 2 (part (whole 0 1 (hill [] Nothing ((ten, Nothing) ∷ [])))) (part (whole 0 0 (hill (Nothing ∷ []) Nothing [])))
+
+nothing-in-run : (runsOutcome opened-closed 30 ≡ result (30 ∷ 0 ∷ 20 ∷ 0 ∷ 2 ∷ 0 ∷ 10 ∷ 0 ∷ 0 ∷ 0 ∷ 0 ∷ 0 ∷ 0 ∷ 0 ∷ 0 ∷ 0 ∷ 0 ∷ 0 ∷ 0 ∷ 0 ∷ 0 ∷ 128 ∷ 10 ∷ 0 ∷ 0 ∷ 0 ∷ 0 ∷ 0 ∷ 0 ∷ 0 ∷ []))
+    × (runsOutcome opened-closed 29 ≡ refused 12)
+    × (workOutcome opened-closed ≡ result (record { figure = pos 10; joins = 1; levels = 1 }))
+unfolding ten two opened-closed leAt bytesOf maxZ lift lineOf storeHeld readHeld atLeast moved runOn firstLength piecesIn rowPieces within inRange modeInUse modeOf between count ends encode decode sumTo nothingIn counted isStamp allTo layoutFits spoiltFits levelsFit openedFits middleFits recordsFit valuesFit hillFits isSummary leftOpen upTo downFrom select depthsJoined lineFor planOf flatMap folded levelsDown runLevels runsAlong middlesAt outcomesAt given worked step through twoTo64 askRow askLog runBytes runsBytes workAlong runsOutcome workOutcome
+nothing-in-run = (refl, refl, refl)
