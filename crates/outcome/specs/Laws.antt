@@ -8,6 +8,7 @@ use lib.ListN.{length, length-map}
 use borrow.Author.Tests.{le-leb, lt-leb, eq-eqb}
 use Rattle.gate.specs.Outcome.{Outcome, refused, result, onward, written}
 use Rattle.row.specs.Row.{rowPieces, endToEnd}
+use Rattle.plan_work.specs.Gate.{ValidRow}
 use Rattle.row.specs.Laws.{OwnLength, AllOwn, pieces-own}
 use Rattle.figure.specs.Mode.{modeOf, modeInUse}
 use Rattle.hill.specs.Row.{mergeRow}
@@ -15,7 +16,8 @@ use Rattle.summary.specs.Layout.{SummaryIn, encode}
 use Rattle.summary.specs.Judge.{IsSummary, isBlank, isSpoilt, isHill}
 use Rattle.summary.specs.Decode.{decode}
 use Rattle.summary.specs.DecideLaws.{decide-summary}
-use Rattle.summary.specs.Accepted.{Accepted, IsSummaryIn, encoded, decode-encode}
+use Rattle.summary.specs.Values.{sizesIn}
+use Rattle.summary.specs.Accepted.{IsSummaryIn, encoded, decode-encode}
 use Rattle.outcome.specs.Outcomes.{twoTo64, allSummaries, allOf, firstMode, Summaries, askRow, askLog, mergedBytes, planBytes, runsBytes, workAlong, mergeRowOutcome, planOutcome, runsOutcome, workOutcome}
 
 -- ---- one question after another
@@ -92,8 +94,7 @@ module _ (m : ℕ) where
   -- ---- the bytes of accepted summaries
 
   abbrev pub AllAccepted : List (SummaryIn m) → Type 0
-  AllAccepted [] = Unit {0}
-  AllAccepted (s ∷ ss) = Accepted m s × AllAccepted ss
+  AllAccepted ss = ValidRow (modeOf m .algebra) (sizesIn (modeOf m)) ss
 
   module _ (u : modeInUse m ≡ true) where
     pub encoded-all : (ss : List (SummaryIn m)) → AllAccepted ss → AllIn m (map (encode m) ss)

@@ -1,0 +1,75 @@
+-- DEMAND 3, one theorem about a log, its cut, the mode and the whole list of merges. Assumes nothing.
+use mathlib.Core.Path.{_≡_, sym, ap, _∙_}
+use mathlib.Core.Bool.{true}
+use mathlib.Core.List.{List, map}
+use Prim.Native.Nat.{ℕ, _≤_}
+use native.Mathlib.Omega.{arith}
+use lib.Dec.{leb}
+use lib.ListN.{length, length-map}
+use Rattle.figure.specs.Mode.{modeOf, modeInUse}
+use Rattle.hill.specs.Verdict.{pass}
+use Rattle.hill.specs.Log.{logFault}
+use Rattle.hill.specs.Row.{joined, Call, replay, answers, Proper, onResult}
+use Rattle.hill.specs.RowLaws.{SameRows, replay-joined}
+use Rattle.join_plan.specs.PlanOfLog.{plan-of-log, plan-only, plan-few}
+use Rattle.summary.specs.Outcomes.{finishOutcome}
+use Rattle.claim.specs.Claim.{recordsIn, stretchBytes, Chunk, chunks, firstRow, IsCut, Lent, bufferOf, Neighbours, byCalls, onStretches, Planned, Holds}
+use Rattle.claim.specs.Stretches.{AllRead, read-each, reads-joined, in-joined}
+use Rattle.claim.specs.Calls.{Stretched, list-same}
+use Rattle.claim.specs.LogRow.{finish-log, lines, work-log, figure-log, plan-log}
+use Rattle.claim.specs.FirstRow.{first-row, all-read, in-use, only-one, told-lengths, lengths}
+
+module _ (m : ℕ) (cut : List Chunk) (i : IsCut m cut) where
+  used : modeInUse m ≡ true
+  used = in-use m (i .mode-low) (i .mode-high)
+
+  reads : AllRead (chunks cut)
+  reads = all-read m cut (i .each)
+
+  count : length (chunks cut) ≡ length cut
+  count = length-map cut (λ c. c .bytes)
+
+  row-is : firstRow m cut ≡ map (stretchBytes m) (chunks cut)
+  row-is = first-row m used cut (i .each)
+
+  least-two : 2 ≤ length (chunks cut)
+  least-two = omega (arith, count, i .least)
+
+  most-64 : length (chunks cut) ≤ 64
+  most-64 = omega (arith, count, i .most)
+
+  planned : logFault (recordsIn (joined (chunks cut))) ≡ pass → Planned m cut
+  planned v =
+      let e : logFault (joined (map recordsIn (chunks cut))) ≡ pass = rw (in-joined (chunks cut) reads) at v in
+      record {
+        lines = lines m used (chunks cut) reads least-two most-64;
+        described = plan-of-log (modeOf m .algebra) (modeOf m .laws) (map recordsIn (chunks cut)) e;
+        only = plan-only (modeOf m .algebra) (modeOf m .laws) (map recordsIn (chunks cut)) e;
+        few =
+            let n : length (map recordsIn (chunks cut)) ≡ length (chunks cut) = length-map (chunks cut) recordsIn in
+            omega (arith, count, plan-few (modeOf m .algebra) (modeOf m .laws) (map recordsIn (chunks cut)) e (omega (arith, least-two)));
+        planned = λ cap. rw row-is (plan-log m used (chunks cut) reads least-two most-64 e cap);
+        worked = rw row-is (work-log m used (chunks cut) reads least-two most-64);
+      }
+
+  holds : (merges : List (Call Lent)) → Proper byCalls Neighbours merges (firstRow m cut) → Holds m cut merges
+  holds merges p =
+      let w : SameRows (stretchBytes m) (onStretches m) byCalls Neighbours Stretched merges (chunks cut) =
+      list-same m used merges (chunks cut) (record { reads = reads; few = most-64 }) (rw row-is at p) in
+      let j : joined (replay (onStretches m) merges (chunks cut)) ≡ joined (chunks cut) =
+      replay-joined (λ b s. leb (length (stretchBytes m s)) (length (bufferOf b))) merges (chunks cut) in
+      record {
+        uncut = reads-joined (chunks cut) reads;
+        readable = read-each (replay (onStretches m) merges (chunks cut)) (w .stays .reads);
+        stretches = j;
+        answered = rw row-is (told-lengths merges (map (stretchBytes m) (chunks cut)) ∙ ap (map (onResult length)) (w .told) ∙ lengths (stretchBytes m) (answers (onStretches m) merges (chunks cut)));
+        pieces = rw row-is (w .rows);
+        finished = λ q k.
+            ap finishOutcome (only-one (stretchBytes m) (replay (onStretches m) merges (chunks cut)) q (sym (w .rows) ∙ (rw row-is at k)) ∙ ap (stretchBytes m) j) ∙
+            finish-log m used (joined (chunks cut)) (reads-joined (chunks cut) reads);
+        worked = rw row-is (figure-log m used (chunks cut) reads least-two most-64);
+        planned = planned;
+      }
+
+pub demand3 : (mode : ℕ) (cut : List Chunk) (merges : List (Call Lent)) → IsCut mode cut → Proper byCalls Neighbours merges (firstRow mode cut) → Holds mode cut merges
+demand3 mode cut merges i p = holds mode cut i merges p

@@ -1,0 +1,93 @@
+-- The plan, the work along it and finish, on the bytes of a row of stretches, say what the joined log says. Assumes nothing.
+use mathlib.Core.Path.{_≡_, refl, sym, ap, _∙_}
+use mathlib.Core.Bool.{true}
+use mathlib.Core.List.{List, map}
+use Prim.Native.Nat.{ℕ, _≤_}
+use native.Mathlib.Omega.{arith}
+use lib.ListN.{length}
+use lib.IntN.{ℤ}
+use Rattle.gate.specs.Outcome.{Outcome, refused, result, onward, written}
+use Rattle.row.specs.Row.{endToEnd}
+use Rattle.record.specs.declared.Fields.{Fields}
+use Rattle.figure.specs.FourModes.{Amounts}
+use Rattle.figure.specs.Mode.{modeOf, modeInUse}
+use Rattle.hill.specs.Verdict.{Verdict, pass, refuse}
+use Rattle.hill.specs.Log.{Record, logFault}
+use Rattle.hill.specs.Figure.{figureOf}
+use Rattle.hill.specs.Finish.{outcome}
+use Rattle.hill.specs.Row.{joined, onResult}
+use Rattle.summary.specs.Values.{sizesIn}
+use Rattle.summary.specs.Outcomes.{chunkOf, finishOutcome, logOutcome}
+use Rattle.summary.specs.OutcomeLaws.{finish-chunk}
+use Rattle.join_plan.specs.Plan.{Line, joins, folded, planOfRow}
+use Rattle.plan_work.specs.Work.{Work}
+use Rattle.plan_work.specs.LogWork.{log-gate, log-figure}
+use Rattle.outcome.specs.Outcomes.{Summaries, askLog, linesBytes, planBytes, workAlong, planOutcome, workOutcome}
+use Rattle.outcome.specs.Laws.{plan-is, work-is}
+use Rattle.claim.specs.Claim.{recordsIn, stretchBytes, logSays}
+use Rattle.claim.specs.Stretches.{AllRead, Reads, found, reads-readable, reads-joined, in-joined}
+use Rattle.claim.specs.Calls.{summaries, row-encoded, readable-row, accepted-row, summaries-length}
+
+module _ (m : ℕ) where
+  -- What a readable log says.
+  pub says : (log : List ℕ) → Reads log → logSays m log ≡ logOutcome m (recordsIn log)
+  unfolding logSays
+  says log r = ap (λ (o : Outcome (List Fields)). onward o (λ fs. logOutcome m (chunkOf fs))) (r .1) ∙ ap (logOutcome m) (sym (found log (r .0) (r .1)))
+
+  module _ (u : modeInUse m ≡ true) where
+    pub finish-log : (log : List ℕ) → Reads log → finishOutcome (stretchBytes m log) ≡ logSays m log
+    unfolding stretchBytes
+    finish-log log r = finish-chunk m (recordsIn log) u (reads-readable m log r) ∙ sym (says log r)
+
+    module _ (st : List (List ℕ)) (a : AllRead st) (l : 2 ≤ length st) (h : length st ≤ 64) where
+      abbrev log : List (Record Amounts)
+      log = joined (map recordsIn st)
+
+      abbrev pub lines : List Line
+      lines = planOfRow (summaries m st)
+
+      abbrev these : Summaries
+      these = record { mode = m; row = summaries m st }
+
+      says-joined : logSays m (joined st) ≡ logOutcome m log
+      says-joined = says (joined st) (reads-joined st a) ∙ ap (logOutcome m) (in-joined st a)
+
+      -- The gate finds the log's lowest-numbered fault.
+      ask-log : askLog these ≡ outcome (logFault log) these
+      unfolding askLog
+      ask-log = ap (λ (v : Verdict). outcome v these) (log-gate (modeOf m .algebra) (sizesIn (modeOf m)) (modeOf m .laws) (modeOf m .commutative) (map recordsIn st) (readable-row m st a))
+
+      abbrev withPlan : ℤ → Work ℤ
+      withPlan f = record { figure = f; joins = joins lines; levels = folded lines }
+
+      worked : (v : Verdict) → logFault log ≡ v → onward (outcome v these) (λ t. result (workAlong t)) ≡ onResult withPlan (outcome v (modeOf m .store (figureOf (modeOf m .algebra) log)))
+      unfolding workAlong
+      worked pass e =
+          ap (λ (f : modeOf m .algebra .Fig). result (withPlan (modeOf m .store f)))
+          (log-figure (modeOf m .algebra) (sizesIn (modeOf m)) (modeOf m .laws) (modeOf m .commutative) (map recordsIn st) (readable-row m st a) e)
+      worked (refuse n) e = refl
+
+      pub work-log : workOutcome (endToEnd (map (stretchBytes m) st)) ≡ onResult withPlan (logSays m (joined st))
+      unfolding logOutcome
+      work-log =
+          let n : length (summaries m st) ≡ length st = summaries-length m st in
+          ap (λ (ps : List (List ℕ)). workOutcome (endToEnd ps)) (row-encoded m st) ∙
+          work-is m u (summaries m st) (accepted-row m st a) (omega arith) (omega arith) ∙
+          ap (λ (o : Outcome Summaries). onward o (λ t. result (workAlong t))) ask-log ∙
+          worked (logFault log) refl ∙
+          ap (onResult withPlan) (sym says-joined)
+
+      figure-only : (o : Outcome ℤ) → onResult (λ w. w .figure) (onResult withPlan o) ≡ o
+      figure-only (refused n) = refl
+      figure-only (result f) = refl
+
+      pub figure-log : onResult (λ w. w .figure) (workOutcome (endToEnd (map (stretchBytes m) st))) ≡ logSays m (joined st)
+      figure-log = ap (onResult (λ w. w .figure)) work-log ∙ figure-only (logSays m (joined st))
+
+      pub plan-log : logFault log ≡ pass → (cap : ℕ) → planOutcome (endToEnd (map (stretchBytes m) st)) cap ≡ written cap (linesBytes lines)
+      unfolding planBytes
+      plan-log e cap =
+          let n : length (summaries m st) ≡ length st = summaries-length m st in
+          ap (λ (ps : List (List ℕ)). planOutcome (endToEnd ps) cap) (row-encoded m st) ∙
+          plan-is m u (summaries m st) (accepted-row m st a) (omega arith) (omega arith) cap ∙
+          ap (λ (o : Outcome Summaries). onward o (λ t. written cap (planBytes t))) (ask-log ∙ ap (λ (v : Verdict). outcome v these) e)

@@ -1,0 +1,1 @@
+// Demand 3 and the table of proved cases: theorems about what the calls come to. It all stands in specs/.
