@@ -15,5 +15,10 @@ pub mod WorkExact
 pub mod LogWork
 -- Each line has its run.
 pub mod RunsExact
+-- The run of a line is the figure of its lowest-depth record as a function of x.
+pub mod RunsByRecords
+pub mod ChunkFigures
+pub mod PlaceLists
+pub mod CutFigure
 -- Rows computed.
 pub mod Examples
