@@ -1,8 +1,8 @@
 -- The figure of a record that is opened in one chunk and closed in another: its held figures so far, the records apart, and the left value. Assumes nothing.
 use mathlib.Core.Path.{_≡_, refl, ap, sym, subst, _∙_}
-use mathlib.Core.Logic.{_⊎_, inl, inr, ⊎-elim, _≢_, dite}
-use mathlib.Core.Bool.{Bool, true, false, _&&_, false≢true}
-use mathlib.Core.List.{List, [], _∷_, _++_, map, List·Memᴰ}
+use mathlib.Core.Logic.{⊎-elim, _≢_, dite}
+use mathlib.Core.Bool.{false, _&&_, false≢true}
+use mathlib.Core.List.{List, [], _∷_, map, List·Memᴰ}
 use Prim.Native.Nat.{ℕ, zero, suc, _+_, _-_, _≤_, _<_}
 use native.Mathlib.Nat.{eq-or-lt-of-le}
 use native.Mathlib.Decide.{decLt, decLe, ℕ-discrete}
@@ -18,10 +18,10 @@ use Rattle.hill.specs.Figure.{figureAt, combined}
 use Rattle.hill.specs.Summary.{closedIn, done, pending}
 use Rattle.hill.specs.Row.{joined}
 use Rattle.hill.specs.Spell.{Meets, joints-meet}
-use Rattle.hill.specs.Places.{places-same, places-iff, select, Selected, select-places}
+use Rattle.hill.specs.Places.{places-same, places-iff, Selected, select-places}
 use Rattle.hill.specs.HeldPlaces.{opening-closing, opens-inside, first-close, opensAt, endsAt, heldFrom, held-listed, held-figure}
 use Rattle.hill.specs.ChunkPlaces.{Loose, value-listed, value-places, unclosed-places, joints-meeting, Meeting}
-use Rattle.join_plan.specs.ByRecords.{place, InChunk}
+use Rattle.join_plan.specs.ByRecords.{place}
 use Rattle.join_plan.specs.LogLevels.{levelBefore, WellFormedLog}
 use Rattle.join_plan.specs.LogJoins.{place-suc, place-inside, place-le, place-at, closed-high}
 use Rattle.plan_work.specs.RunsByRecords.{Links, Wholly, Apart}
@@ -42,7 +42,7 @@ module _ {R : Type 0} where
       go (no n) = no (λ h. n (ap depth (h .1)))
 
   -- The close that closes a record is one.
-  closed-once : (log : List (Record R)) (p c e d : ℕ) → ClosedBy log p c d → ClosedBy log p e d → c ≡ e
+  pub closed-once : (log : List (Record R)) (p c e d : ℕ) → ClosedBy log p c d → ClosedBy log p e d → c ≡ e
   closed-once log p c e d a b =
       dite (decLt c e) (λ l. absurd (b .first c (a .order) l (a .closed)))
       (λ l. dite (decLt e c) (λ m. absurd (a .first e (b .order) m (b .closed))) (λ m. omega arith))
@@ -52,7 +52,7 @@ module _ {R : Type 0} where
     log = joined cs
 
     -- What a record holds is closed before it is.
-    held-closes : (p q c d : ℕ) → Holds log p q d → ClosedBy log p c d → (e : ℕ) × (e < c) × ClosedBy log q e (suc d)
+    pub held-closes : (p q c d : ℕ) → Holds log p q d → ClosedBy log p c d → (e : ℕ) × (e < c) × ClosedBy log q e (suc d)
     held-closes p q c d h b = ⊎-elim (λ none. absurd (omega (arith, ap startLevel (b .closed), w .meets c (b .inside), high none c (h .before c b) (omega arith)))) (λ f. f)
         (first-close log q (suc d) (h .held) c (omega (arith, b .inside)))
       where
@@ -121,7 +121,7 @@ module _ {R : Type 0} where
       size-j = place-suc cs j
 
       -- What it holds from chunk j on lies wholly in j.
-      held-late : (q : ℕ) → Holds log p q d → b ≤ q → Wholly cs j q (suc d)
+      pub held-late : (q : ℕ) → Holds log p q d → b ≤ q → Wholly cs j q (suc d)
       held-late q h l =
           let e : (e : ℕ) × (e < c) × ClosedBy log q e (suc d) = held-closes p q c d h closes in
           (e .0, (l, omega (arith, e .1, e .2 .order, link .2 .1)), (omega (arith, e .2 .order), omega (arith, e .1, link .2 .1)), e .2)
@@ -316,6 +316,10 @@ module _ {R : Type 0} (𝒜 : Algebra R) (ℒ : Laws 𝒜) (comm : Commutative �
         back : (q : ℕ) → Apart cs i j p d q → (Holds (joined cs) p q d × (Wholly cs i q (suc d) → ⊥)) × (q < place cs j)
         back q h = ((h .held, h .not-i), dite (decLt q (place cs j)) (λ l. l) (λ l. absurd (h .not-j (held-late cs w i j p d far link q (h .held) (omega arith)))))
 
+    pub apart-some : (qs : List ℕ) × Places (Apart cs i j p d) qs
+    apart-some = (those before-j (others in-i all), apart-listed)
+
+    -- So its figure is that of the record over its held figures so far, the records apart, and the left value.
     pub linked-figure : (qs : List ℕ) → Places (Apart cs i j p d) qs →
         (r : R) × (h : Fig) × (pending 𝒜 d (getD cs i []) ≡ (r, h) ∷ []) × (figureAt 𝒜 (joined cs) p ≡ node r (h ⊗ sum qs ⊗ done 𝒜 (suc d) (getD cs j [])))
     linked-figure qs l = (

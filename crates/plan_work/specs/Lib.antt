@@ -20,5 +20,6 @@ pub mod RunsByRecords
 pub mod ChunkFigures
 pub mod PlaceLists
 pub mod CutFigure
+pub mod RunOfLog
 -- Rows computed.
 pub mod Examples

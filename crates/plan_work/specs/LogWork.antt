@@ -5,7 +5,7 @@ use Rattle.algebra.specs.Algebra.{Algebra, Laws, Commutative}
 use Rattle.hill.specs.Verdict.{Verdict, pass, refuse}
 use Rattle.hill.specs.Log.{Record, logFault}
 use Rattle.hill.specs.Figure.{figureOf}
-use Rattle.hill.specs.Summary.{Summary, spoilt, whole, blank, part, summaryOf}
+use Rattle.hill.specs.Summary.{summaryOf}
 use Rattle.hill.specs.Finish.{outcome, finishOf}
 use Rattle.hill.specs.Row.{joined}
 use Rattle.hill.specs.FinishLaws.{finish-log}
