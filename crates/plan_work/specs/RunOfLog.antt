@@ -229,7 +229,7 @@ module _ {R : Type 0} (𝒜 : Algebra R) (ℒ : Laws 𝒜) (comm : Commutative �
       ∙ to-lowest (e .i) (e .j) far (e .lowest) (e .highest) q f lo n p (omega arith) (subst (λ (d : ℕ). Links cs (e .i) (e .j) p d) (sym b) hi))
 
   -- There are such records: one that links the chunks at each depth of the line, and the list of those that lie apart.
-  pub line-links : (e : Line) → List·Memᴰ e (planOfRow row) → (d : ℕ) → e .lowest ≤ d → d ≤ e .highest → (p : ℕ) × (Links cs (e .i) (e .j) p d × ((qs : List ℕ) × Places (Apart cs (e .i) (e .j) p d) qs))
+  pub line-links : (e : Line) → List·Memᴰ e (planOfRow row) → (d : ℕ) → e .lowest ≤ d → d ≤ e .highest → (p : ℕ) × Links cs (e .i) (e .j) p d × ((qs : List ℕ) × Places (Apart cs (e .i) (e .j) p d) qs)
   line-links e m d a b =
       let o : Joins (rowOfChunks cs) (e .i) (e .j) d = line-joins e m .1 d a b in
       let (p, c, x, y, z) = joins-exact cs well (e .i) (e .j) d .0 o .1 in
