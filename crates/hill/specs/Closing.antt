@@ -7,7 +7,7 @@ use lib.ListN.{length, getD}
 use Rattle.hill.specs.Log.{Record, opening, closing}
 
 module _ {R : Type 0} where
-  -- The record at place k of a log, counted from 0 (past the end: any).
+  -- The record at place k of a log, counted from 0. Past the end it is a close, so that an open stands inside the log.
   abbrev pub at : List (Record R) → ℕ → Record R
   at log k = getD log k (closing 0)
 
@@ -34,6 +34,12 @@ pub record Holds {R : Type 0} (log : List (Record R)) (p q d : ℕ) : Type 0 whe
 -- The record opened at p, of depth d, is closed in the log.
 abbrev pub Closed : {R : Type 0} → List (Record R) → (p d : ℕ) → Type 0
 Closed log p d = (q : ℕ) × ClosedBy log p q d
+
+-- "The records at its level that are both opened and closed in the chunk and held by none that the chunk opens": the one at q, of depth l.
+pub record Loose {R : Type 0} (chunk : List (Record R)) (l q : ℕ) : Type 0 where
+  pub opened : OpensAt chunk q l
+  pub closed : Closed chunk q l
+  pub free : (p d : ℕ) → Holds chunk p q d → ⊥
 
 -- Places in log order.
 abbrev pub Rising : List ℕ → Type 0

@@ -1,15 +1,15 @@
 -- The fault of a chunk is the lowest of questions 7 to 9 that gets a "no", and that of a log the lowest of 7 to 11. Assumes nothing.
-use mathlib.Core.Path.{_≡_, refl, ap, sym, subst, _∙_}
+use mathlib.Core.Path.{_≡_, refl, sym, subst, _∙_}
 use mathlib.Core.Logic.{_≢_, _⊎_, inl, inr, ⊎-elim, dite}
 use mathlib.Core.Bool.{Bool, true, false}
 use mathlib.Core.List.{List, [], _∷_}
-use Prim.Native.Nat.{ℕ, zero, suc, _+_, _-_, _≤_, _<_, min}
+use Prim.Native.Nat.{ℕ, zero, suc, _≤_, _<_}
 use native.Mathlib.Decide.{decLe}
 use native.Mathlib.Omega.{arith}
 use lib.Dec.{leb, ltb, eqb}
 use lib.ListN.{length}
-use borrow.Author.Tests.{eqb-true, eqb-false, leb-true, leb-false, ltb-true, ltb-false, ne-eqb, lt-leb, le-ltb}
-use Rattle.hill.specs.Verdict.{Verdict, pass, refuse, low, ask, between, count, ends}
+use borrow.Author.Tests.{eqb-false, leb-false, ltb-false, ne-eqb, lt-leb, le-ltb}
+use Rattle.hill.specs.Verdict.{Verdict, pass, refuse, lower, low, ask, between, count, ends}
 use Rattle.hill.specs.VerdictLaws.{refuse-pass}
 use Rattle.hill.specs.Log.{Record, startLevel, endLevel, endOf, openedOf, joints, faultOf, logFault}
 use Rattle.hill.specs.Closing.{at}
@@ -33,13 +33,13 @@ lowest-low {N} {M} (refuse i) (refuse j) a b = record {
   least = λ n e. (present n (refuse-same e), λ m h. bound n m (refuse-same e) h);
 }
   where
-    present : (n : ℕ) → min i j ≡ n → N n ⊎ M n
+    present : (n : ℕ) → lower i (refuse j) ≡ n → N n ⊎ M n
     present n e =
         dite (decLe i j)
         (λ l. let k : i ≡ n = omega arith in inl (subst N k (a .least i refl .0)))
         (λ l. let k : j ≡ n = omega arith in inr (subst M k (b .least j refl .0)))
 
-    bound : (n m : ℕ) → min i j ≡ n → N m ⊎ M m → n ≤ m
+    bound : (n m : ℕ) → lower i (refuse j) ≡ n → N m ⊎ M m → n ≤ m
     bound n m e h = ⊎-elim (λ x. omega (arith, a .least i refl .1 m x)) (λ y. omega (arith, b .least j refl .1 m y)) h
 
 lowest-iff : {N M : ℕ → Type 0} {v : Verdict} → ((n : ℕ) → N n → M n) → ((n : ℕ) → M n → N n) → Lowest N v → Lowest M v

@@ -6,10 +6,10 @@ use native.Mathlib.Omega.{arith}
 use borrow.Author.Tests.{eq-eqb, ne-eqb}
 use Rattle.algebra.specs.Algebra.{Algebra, Laws}
 use Rattle.hill.specs.Verdict.{pass}
-use Rattle.hill.specs.Log.{Record, opening, closing, logFault}
+use Rattle.hill.specs.Log.{Record, closing, logFault}
 use Rattle.hill.specs.Tree.{Forest, nil, tree, write, value}
 use Rattle.hill.specs.Figure.{held, figureOf}
-use Rattle.hill.specs.Spell.{treeOf}
+use Rattle.hill.specs.Spell.{treeOf, treeOf-write}
 use Rattle.hill.specs.WellFormed.{well-formed, one-tree}
 
 module _ {R : Type 0} (𝒜 : Algebra R) where
@@ -35,8 +35,28 @@ module _ {R : Type 0} (𝒜 : Algebra R) where
     figure-write : (r : R) (k : Forest R) → figureOf 𝒜 (write 0 (tree r k nil)) ≡ value 𝒜 (tree r k nil)
     figure-write r k = rw (held-write 1 k (closing 0 ∷ []), unit-r (value 𝒜 k)) (sym (unit-r (node r (value 𝒜 k))))
 
-    -- The recursion's figure on a well-formed log.
-    pub figure-tree : (log : List (Record R)) → logFault log ≡ pass → figureOf 𝒜 log ≡ value 𝒜 (treeOf log)
-    figure-tree log v =
-        let t = one-tree log v in
-        ap (figureOf 𝒜) (sym (well-formed log v)) ∙ rw (t .2) (figure-write (t .0) (t .1))
+-- The one tree of a log, and the log's figure.
+pub record TreeOfLog {R : Type 0} (𝒜 : Algebra R) (log : List (Record R)) : Type 0 where
+  pub root : R
+  pub below : Forest R
+  pub traversal : write 0 (tree root below nil) ≡ log
+  pub only : (f : Forest R) → write 0 f ≡ log → f ≡ tree root below nil
+  pub its-figure : figureOf 𝒜 log ≡ value 𝒜 (tree root below nil)
+
+module _ {R : Type 0} (𝒜 : Algebra R) (ℒ : Laws 𝒜) where
+  pub figure-tree : (log : List (Record R)) → logFault log ≡ pass → figureOf 𝒜 log ≡ value 𝒜 (treeOf log)
+  figure-tree log v =
+      let t = one-tree log v in
+      ap (figureOf 𝒜) (sym (well-formed log v)) ∙ rw (t .2) (figure-write 𝒜 ℒ (t .0) (t .1))
+
+  -- A LOG WITHOUT FAULT is the traversal of exactly one tree, and its figure is the tree's.
+  pub log-tree : (log : List (Record R)) → logFault log ≡ pass → TreeOfLog 𝒜 log
+  log-tree log v =
+      let t = one-tree log v in
+      record {
+        root = t .0;
+        below = t .1;
+        traversal = ap (write 0) (sym (t .2)) ∙ well-formed log v;
+        only = λ f e. sym (treeOf-write 0 f) ∙ ap treeOf e ∙ t .2;
+        its-figure = figure-tree log v ∙ ap (value 𝒜) (t .2);
+      }

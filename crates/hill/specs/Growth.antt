@@ -1,11 +1,11 @@
 -- A chunk with one record more at its end: what a pass over the records goes by. Assumes nothing.
 use mathlib.Core.Path.{_≡_, refl, ap, sym, _∙_}
 use mathlib.Core.List.{List, [], _∷_, _++_}
-use Prim.Native.Nat.{ℕ, suc, _+_, _-_, min}
+use Prim.Native.Nat.{suc, _+_, _-_, min}
 use native.Mathlib.Omega.{arith}
 use lib.ListN.{length}
 use Rattle.algebra.specs.Algebra.{Algebra}
-use Rattle.hill.specs.Verdict.{Verdict, pass, low, between}
+use Rattle.hill.specs.Verdict.{low, between}
 use Rattle.hill.specs.VerdictLaws.{low-pass, low-assoc}
 use Rattle.hill.specs.Log.{Record, depth, startLevel, endLevel, endOf, peakOf, opens, openedOf, joints}
 use Rattle.hill.specs.Closing.{at}

@@ -1,6 +1,6 @@
 -- A record's figure is what the paper says: its own record over the combined figures, in log order, of exactly those that it holds.
 -- And `openedOf` is the number of opens. Assumes nothing.
-use mathlib.Core.Path.{_≡_, refl, ap, sym, subst, _∙_}
+use mathlib.Core.Path.{_≡_, refl, ap, sym, _∙_}
 use mathlib.Core.Logic.{_⊎_, inl, inr, ⊎-elim, _≢_, dite}
 use mathlib.Core.Bool.{Bool, true, false, cond}
 use mathlib.Core.List.{List, [], _∷_, map, List·Memᴰ, List·Memᴰ·head, List·Memᴰ·tail}
@@ -9,12 +9,12 @@ use native.Mathlib.Nat.{eq-or-lt-of-le}
 use native.Mathlib.Decide.{decLt}
 use native.Mathlib.Omega.{arith}
 use lib.Dec.{eqb}
-use lib.ListN.{length, drop, getD, List·getD-eq-default}
+use lib.ListN.{length, drop, List·getD-eq-default}
 use lib.Seq.{drop-cons}
 use borrow.Author.Tests.{eqb-true, eqb-false, eq-eqb, ne-eqb}
 use Rattle.algebra.specs.Algebra.{Algebra}
-use Rattle.hill.specs.Log.{Record, opening, closing, opens, openedOf}
-use Rattle.hill.specs.Closing.{at, OpensAt, ClosedBy, Holds, Rising, Places}
+use Rattle.hill.specs.Log.{Record, opening, closing, openedOf}
+use Rattle.hill.specs.Closing.{at, OpensAt, ClosedBy, Holds, Places}
 use Rattle.hill.specs.Figure.{held, figureOf, figureAt, combined}
 use Rattle.hill.specs.Places.{places-same, places-iff, select, Selected, select-places, here-rest}
 
@@ -48,6 +48,13 @@ module _ {R : Type 0} where
       (λ a. inl (λ k b c. absurd (omega arith))))
       (λ w. inr (w .0, omega (arith, w .1), w .2))
       (first-close log p d o n (omega arith))
+
+  -- At most one record closes the one at p.
+  pub closed-once : (log : List (Record R)) (p q k d : ℕ) → ClosedBy log p q d → ClosedBy log p k d → q ≡ k
+  closed-once log p q k d a b =
+      dite (decLt q k)
+      (λ l. absurd (b .first q (a .order) l (a .closed)))
+      (λ l. dite (decLt k q) (λ m. absurd (a .first k (b .order) m (b .closed))) (λ m. omega arith))
 
   -- An open at depth d; a close that ends what a record of depth d - 1 holds.
   abbrev pub opensAt : ℕ → Record R → Bool

@@ -25,10 +25,12 @@ pub mod TreeLaws
 pub mod Spell
 pub mod WellFormed
 pub mod FigureLaws
--- The words of "Summaries" by places.
+-- Held, opened, subtrees and the values of "Summaries" by places.
 pub mod Places
 pub mod HeldPlaces
+pub mod Crossings
 pub mod ChunkPlaces
+pub mod Subtree
 -- Summaries: the words and the building form, the homomorphism, associativity.
 pub mod Values
 pub mod SummaryLaws

@@ -1,6 +1,6 @@
 -- Merging by levels, as the paper says it, comes to the same as the actions on the left hill, on all hills. Assumes nothing.
-use mathlib.Core.Path.{_≡_, refl, sym, _∙_}
-use mathlib.Core.List.{List, [], _∷_, _++_, append-assoc, append-nil, reverse, reverse-cons, reverse-reverse}
+use mathlib.Core.Path.{_≡_, refl, _∙_}
+use mathlib.Core.List.{List, [], _∷_, _++_, append-nil, reverse, reverse-cons, reverse-reverse}
 use Rattle.algebra.specs.Algebra.{Algebra, Laws}
 use Rattle.hill.specs.Summary.{Hill, hill}
 use Rattle.hill.specs.Merge.{fillValley, mergeHills}

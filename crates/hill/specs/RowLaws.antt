@@ -1,5 +1,5 @@
 -- Every way of cutting a log and of merging the pieces comes to the summary of the joined chunks. Assumes nothing.
-use mathlib.Core.Path.{_≡_, refl, ap, sym, _∙_}
+use mathlib.Core.Path.{_≡_, refl, sym, _∙_}
 use mathlib.Core.Bool.{Bool, true, false, cond}
 use mathlib.Core.List.{List, [], _∷_, _++_, map, map-append, append-assoc, append-nil}
 use mathlib.Core.Option.{Option, none, some, Option·map}
@@ -49,15 +49,15 @@ module _ {S A : Type 0} (φ : S → A) where
   map-drop (suc n) [] = refl
   map-drop (suc n) (x ∷ l) = map-drop n l
 
--- Two rows side by side, the second being φ of the first: where a merge on neighbours of the second comes to φ of what it comes to on the first
--- (asked of the neighbours that are `Fit` for a merge), the list of merges keeps the rows so, and gives the same answers.
+-- Each merge of the list is on neighbours that are `Fit` for it, in the row as it then stands.
+abbrev pub Proper : {S B : Type 0} (g : List S → B → Option S) (Fit : List S → Type 0) → List (Call B) → List S → Type 0
+Proper g Fit [] st = Unit {0}
+Proper g Fit (c ∷ cs) st = Fit (take (c .many) (drop (c .place) st)) × Proper g Fit cs (put g (answer g c st) c st)
+
+-- Two rows side by side, the second being φ of the first: where a merge on fit neighbours of the second comes to φ of what it comes to on the
+-- first, the list of merges keeps the rows so, and gives the same answers.
 module _ {S A B : Type 0} (φ : S → A) (g : List S → B → Option S) (f : List A → B → Option A) (Fit : List S → Type 0)
     (same : (l : List S) (b : B) → Fit l → f (map φ l) b ≡ Option·map φ (g l b)) where
-  -- Each merge of the list is on neighbours that are fit for it, in the row as it then stands.
-  abbrev pub Proper : List (Call B) → List S → Type 0
-  Proper [] st = Unit {0}
-  Proper (c ∷ cs) st = Fit (take (c .many) (drop (c .place) st)) × Proper cs (put g (answer g c st) c st)
-
   answer-same : (c : Call B) (st : List S) → Fit (take (c .many) (drop (c .place) st)) → answer f c (map φ st) ≡ Option·map φ (answer g c st)
   answer-same c st k = rw (← map-drop φ (c .place) st, ← map-take φ (c .many) (drop (c .place) st)) (same (take (c .many) (drop (c .place) st)) (c .lent) k)
 
@@ -65,7 +65,7 @@ module _ {S A B : Type 0} (φ : S → A) (g : List S → B → Option S) (f : Li
   put-same none c st = refl
   put-same (some a) c st = simp (map-append, map-take, map-drop)
 
-  pub replay-same : (cs : List (Call B)) (st : List S) → Proper cs st →
+  pub replay-same : (cs : List (Call B)) (st : List S) → Proper g Fit cs st →
       (replay f cs (map φ st) ≡ map φ (replay g cs st)) × (answers f cs (map φ st) ≡ map (Option·map φ) (answers g cs st))
   replay-same [] st k = (refl, refl)
   replay-same (c ∷ cs) st k =
@@ -100,6 +100,10 @@ module _ {R : Type 0} (𝒜 : Algebra R) (ℒ : Laws 𝒜) where
   -- Half with half on a row of summaries comes to merging in order.
   pub mergeRow-inOrder : (row : List (Summary Fig R)) → mergeRow 𝒜 row ≡ inOrder (mergeSummary 𝒜) blank row
   mergeRow-inOrder row = halves-inOrder (mergeSummary 𝒜) blank (mergeSummary-assoc 𝒜 ℒ) (λ a. refl) (merge-blank 𝒜) (length row) row (omega arith)
+
+  -- A row of two is merged by one merge.
+  pub mergeRow-two : (a b : Summary Fig R) → mergeRow 𝒜 (a ∷ (b ∷ [])) ≡ mergeSummary 𝒜 a b
+  mergeRow-two a b = refl
 
   inOrder-summaries : (xs : List (List (Record R))) → inOrder (mergeSummary 𝒜) blank (map (summaryOf 𝒜) xs) ≡ summaryOf 𝒜 (joined xs)
   inOrder-summaries [] = refl
@@ -137,7 +141,7 @@ module _ {R : Type 0} (𝒜 : Algebra R) (ℒ : Laws 𝒜) where
     only (x ∷ []) s k = rw (append-nil x) (cc)
     only (x ∷ (y ∷ xs)) s k = cc
 
-    proper : (cs : List (Call B)) (st : List (List (Record R))) → Proper (summaryOf 𝒜) stretchCall mergeCall (λ l. Unit {0}) (λ l b k. call-same l b) cs st
+    proper : (cs : List (Call B)) (st : List (List (Record R))) → Proper stretchCall (λ l. Unit {0}) cs st
     proper [] st = tt
     proper (c ∷ cs) st = (tt, proper cs (put stretchCall (answer stretchCall c st) c st))
 

@@ -5,14 +5,14 @@ use Prim.Native.Nat.{ℕ, suc, _+_, _≤_, min}
 use native.Mathlib.Nat.{add-zero, add-suc}
 use native.Mathlib.Omega.{arith}
 use lib.ListN.{length}
-use Rattle.hill.specs.Verdict.{pass, low, between}
+use Rattle.hill.specs.Verdict.{pass, between}
 use Rattle.hill.specs.VerdictLaws.{low-fst, low-snd, between-pass}
 use Rattle.hill.specs.Log.{Record, opening, closing, depth, startLevel, endLevel, endOf, peakOf, joints}
 use Rattle.hill.specs.Tree.{Forest, nil, tree, write}
 use Rattle.hill.specs.Summary.{Hill, hill, rise, fall, middle}
-use Rattle.hill.specs.Building.{push, empty, join, close, step, run, hillOf}
+use Rattle.hill.specs.Building.{empty, join, step, run, hillOf}
 use Rattle.hill.specs.Slopes.{fall-join, rise-join}
-use Rattle.hill.specs.TreeLaws.{beside, write-beside, free, free-laws, hillOf-write, value-free}
+use Rattle.hill.specs.TreeLaws.{write-beside, free, free-laws, hillOf-write, value-free}
 
 module _ {R : Type 0} where
   -- The records of the left slope over peak p, and of the right slope.
@@ -83,19 +83,27 @@ module _ {R : Type 0} where
   abbrev pub treeOf : List (Record R) → Forest R
   treeOf log = middle (hillOf (free R) log)
 
-  -- A hill with no slopes, over level 0.
-  flat : (p : ℕ) (a : Hill (Forest R) R) (log : List (Record R)) → spell p a ≡ log → p + rise a ≡ 0 → p + fall a ≡ 0 → write 0 (middle a) ≡ log
-  flat p (hill [] m []) log s j k =
-      let q : p ≡ 0 = omega arith in
-      sym (append-nil (write 0 m)) ∙ (rw q at s)
+  -- A hill with no slopes.
+  pub flat : (p : ℕ) (a : Hill (Forest R) R) (log : List (Record R)) → spell p a ≡ log → rise a ≡ 0 → fall a ≡ 0 → write p (middle a) ≡ log
+  flat p (hill [] m []) log s j k = sym (append-nil (write p m)) ∙ s
   flat p (hill [] m (e ∷ d)) log s j k = absurd (omega arith)
   flat p (hill (f ∷ u) m d) log s j k = absurd (omega arith)
 
+  -- Records that meet, go from level l to level l and reach no lower one are the traversal of their forest at depth l.
+  pub write-level : (l : ℕ) (xs : List (Record R)) → Meets l xs → endFrom l xs ≡ l → peakFrom l xs ≡ l → write l (treeOf xs) ≡ xs
+  write-level l xs k e q =
+      let z : l + 0 ≡ l = add-zero l in
+      let t = spell-run l (empty (free R)) xs (rw z k) in
+      let s : spell l (hillOf (free R) xs) ≡ xs = ap (λ p. spell p (hillOf (free R) xs)) (sym q) ∙ t .0 in
+      flat l (hillOf (free R) xs) xs s (omega (arith, t .1, q)) (omega (arith, t .2, q, ap (λ n. endFrom n xs) z, e))
+
+  peak-ground : (xs : List (Record R)) → peakFrom 0 xs ≡ 0
+  peak-ground [] = refl
+  peak-ground (x ∷ xs) = let e : min 0 (depth x) ≡ 0 = omega arith in ap (λ p. peakFrom p xs) e ∙ peak-ground xs
+
   -- A log whose records meet and that goes from level 0 to level 0 is the traversal of its forest ..
   pub write-treeOf : (log : List (Record R)) → Meets 0 log → endFrom 0 log ≡ 0 → write 0 (treeOf log) ≡ log
-  write-treeOf log k e =
-      let t = spell-run 0 (empty (free R)) log k in
-      flat (peakFrom 0 log) (hillOf (free R) log) log (t .0) (t .1) (t .2 ∙ e)
+  write-treeOf log k e = write-level 0 log k e (peak-ground log)
 
   -- .. and of no other.
   pub treeOf-write : (d : ℕ) (f : Forest R) → treeOf (write d f) ≡ f

@@ -10,7 +10,7 @@ use Rattle.hill.specs.Log.{Record, opening, closing, startLevel, endOf, 
 use Rattle.hill.specs.Figure.{held}
 
 -- The left values, the head at level peak + 1, the last at the start level; the middle value; the unclosed records, the deepest first,
--- each with its combined held figures so far. The levels of a slope are the peak and the slope's length.
+-- each with its combined held figures so far. Start and end are the peak and a slope's length.
 pub data Hill (Fig R : Type 0) : Type 0 where
   hill : List Fig → Fig → List (R × Fig) → Hill Fig R
 
@@ -71,6 +71,15 @@ module _ {R : Type 0} (𝒜 : Algebra R) where
   open Algebra 𝒜 using (Fig, ι, _⊗_, node)
 
   infixl 70 _⊗_
+  -- A spoilt part has no peak and no values: these stand in for them where no result depends on them.
+  abbrev pub peak : Part Fig R → ℕ
+  peak (spoilt f s e o) = 0
+  peak (whole p o h) = p
+
+  abbrev pub slopes : Part Fig R → Hill Fig R
+  slopes (spoilt f s e o) = hill [] ι []
+  slopes (whole p o h) = h
+
   -- "A left or middle value combines the records at its level that are both opened and closed in the chunk and held by none that the chunk opens":
   -- those of depth d that are closed further on, and opened before the first close at depth d - 1.
   abbrev pub done : ℕ → List (Record R) → Fig

@@ -1,5 +1,5 @@
 -- Merging accepted summaries gives an accepted one, and the summary of readable records is accepted. Assumes nothing.
-use mathlib.Core.Path.{_≡_, refl, ap, sym, subst, _∙_}
+use mathlib.Core.Path.{_≡_, refl, sym, subst, _∙_}
 use mathlib.Core.Bool.{Bool, true, false}
 use mathlib.Core.List.{List, [], _∷_, _++_}
 use Prim.Native.Nat.{ℕ, zero, suc, _+_, _-_, _*_, _≤_, _<_, min}
@@ -12,8 +12,8 @@ use Rattle.algebra.specs.Algebra.{Algebra, Laws}
 use Rattle.hill.specs.Verdict.{Verdict, pass, refuse, low, ask, between, count, cut}
 use Rattle.hill.specs.VerdictLaws.{low-fst, low-snd, between-pass, between-high, count-pass, refuse-pass}
 use Rattle.hill.specs.Log.{Record, opening, closing}
-use Rattle.hill.specs.Summary.{Hill, hill, Part, spoilt, whole, Summary, blank, part, rise, fall, middle, start, end, opened, verdict, judged, summaryOf}
-use Rattle.hill.specs.Merge.{mergeHills, peak, slopes, mergeVerdict, mergePart, mergeSummary}
+use Rattle.hill.specs.Summary.{Hill, hill, Part, spoilt, whole, Summary, blank, part, rise, fall, middle, start, end, opened, verdict, judged, summaryOf, peak, slopes}
+use Rattle.hill.specs.Merge.{mergeHills, mergeVerdict, mergePart, mergeSummary}
 use Rattle.hill.specs.Valid.{Sizes, ValidSpoilt, weightUp, weightDown, weight, AllFine, FineHill, ValidHill, ValidPart, ValidSummary, Readable, AllReadable}
 use Rattle.hill.specs.Building.{push, join, close, closes, merge}
 use Rattle.hill.specs.Slopes.{fall-join, fall-closes, fall-merge, rise-merge}
@@ -216,6 +216,10 @@ module _ {R : Type 0} (𝒜 : Algebra R) (𝒮 : Sizes 𝒜) where
   valid-judged pass s e t p h r k l f = f refl
   valid-judged (refuse n) s e t p h r k l f = valid-spoilt n s e t r k l
 
+  pub readable-append : (xs ys : List (Record R)) → AllReadable 𝒜 𝒮 xs → AllReadable 𝒜 𝒮 ys → AllReadable 𝒜 𝒮 (xs ++ ys)
+  readable-append [] ys a b = b
+  readable-append (x ∷ xs) ys a b = (a .0, readable-append xs ys (a .1) b)
+
   valid-single : (x : Record R) → Readable 𝒜 𝒮 x → ValidPart 𝒜 𝒮 (single 𝒜 x)
   valid-single (opening d r) c = record {
     start-high = omega arith;
@@ -247,18 +251,18 @@ module _ {R : Type 0} (𝒜 : Algebra R) (𝒮 : Sizes 𝒜) where
         let c = count-pass (o + n) (low-snd (between (p + fall g) (q + rise h)) (count (o + n)) m) in
         rw (mergeHills-merge 𝒜 ℒ g h) (valid-hill ℒ p q o n g h v w (between-pass (p + fall g) (q + rise h) j) (between-high (p + fall g) (q + rise h) j) c)
 
-    -- Merging accepted summaries gives an accepted one.
     pub valid-merge : (a b : Part Fig R) → ValidPart 𝒜 𝒮 a → ValidPart 𝒜 𝒮 b → ValidPart 𝒜 𝒮 (mergePart 𝒜 a b)
     valid-merge a b v w =
         valid-judged (mergeVerdict 𝒜 a b) (start a) (end b) (opened a + opened b) (min (peak 𝒜 a) (peak 𝒜 b)) (mergeHills 𝒜 (slopes 𝒜 a) (slopes 𝒜 b))
         (range-merge a b v w) (start-64 a v) (end-64 b w) (valid-pass a b v w)
 
+    -- MERGING accepted summaries gives an accepted one.
     pub valid-mergeSummary : (a b : Summary Fig R) → ValidSummary 𝒜 𝒮 a → ValidSummary 𝒜 𝒮 b → ValidSummary 𝒜 𝒮 (mergeSummary 𝒜 a b)
     valid-mergeSummary blank b v w = w
     valid-mergeSummary (part a) blank v w = v
     valid-mergeSummary (part a) (part b) v w = valid-merge a b v w
 
-    -- The summary of a chunk of readable records is accepted.
+    -- A READABLE CHUNK's summary is accepted.
     pub valid-summary : (xs : List (Record R)) → AllReadable 𝒜 𝒮 xs → ValidSummary 𝒜 𝒮 (summaryOf 𝒜 xs)
     valid-summary [] r = tt
     valid-summary (x ∷ xs) r =

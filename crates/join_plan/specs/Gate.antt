@@ -8,8 +8,8 @@ use Rattle.algebra.specs.Algebra.{Algebra, Laws}
 use Rattle.gate.specs.Outcome.{result}
 use Rattle.hill.specs.Verdict.{Verdict, pass, refuse, low, between, count, ends}
 use Rattle.hill.specs.VerdictLaws.{low-fst, low-snd, between-pass, ends-pass, refuse-pass}
-use Rattle.hill.specs.Summary.{Hill, Part, spoilt, whole, Summary, blank as blankSummary, part, middle, fall, start, end, opened, verdict, judged}
-use Rattle.hill.specs.Merge.{peak, slopes, mergeHills, mergeVerdict, mergePart, mergeSummary}
+use Rattle.hill.specs.Summary.{Hill, Part, spoilt, whole, Summary, blank as blankSummary, part, middle, fall, start, end, opened, verdict, judged, peak, slopes}
+use Rattle.hill.specs.Merge.{mergeHills, mergeVerdict, mergePart, mergeSummary}
 use Rattle.hill.specs.SummaryLaws.{start-merge, end-merge}
 use Rattle.hill.specs.Finish.{outcome, finishOf}
 use Rattle.hill.specs.Row.{mergeRow}

@@ -9,8 +9,8 @@ use Rattle.hill.specs.Verdict.{Verdict, pass, between, count, ends}
 use Rattle.hill.specs.VerdictLaws.{refuse-pass, low-fst, low-snd, between-pass, between-high, ends-pass}
 use Rattle.hill.specs.Log.{Record, startLevel, endLevel, endOf, peakOf, openedOf, joints, faultOf, logFault}
 use Rattle.hill.specs.Closing.{at}
-use Rattle.hill.specs.Summary.{Part, blank as blankSummary, part, spoilt, whole, verdict, start, end, partOf, summaryOf}
-use Rattle.hill.specs.Merge.{peak, mergeSummary}
+use Rattle.hill.specs.Summary.{Part, blank as blankSummary, part, spoilt, whole, verdict, start, end, partOf, summaryOf, peak}
+use Rattle.hill.specs.Merge.{mergeSummary}
 use Rattle.hill.specs.SummaryLaws.{verdict-partOf, levels}
 use Rattle.hill.specs.Row.{joined}
 use Rattle.hill.specs.RowLaws.{inOrder, mergeRow-inOrder, mergeRow-summaries}

@@ -3,12 +3,12 @@
 use mathlib.Core.Path.{_≡_, refl, sym, ap, _∙_}
 use mathlib.Core.List.{List, [], _∷_, _++_}
 use Prim.Native.Nat.{ℕ, zero, suc, _+_, _-_, _*_, _/_, _%_, _^_, _≤_, _<_}
-use native.Mathlib.Nat.{add-zero, add-suc, suc-add, zero-add, pow-suc, div-div-eq-div-mul, mul-comm, div-one, mod-lt, sub-zero, suc-sub-suc}
+use native.Mathlib.Nat.{add-zero, add-suc, suc-add, zero-add, pow-suc, div-div-eq-div-mul, mul-comm, div-one, mod-lt, sub-zero, suc-sub-suc, le-of-eq}
 use native.Mathlib.Numerals.{add-one}
 use lib.Arith.{mod-mul, digits-mod, digits-div}
 use native.Mathlib.Omega.{arith}
-use lib.ListN.{List·getD-append, length, getD, drop, set, length-set, length-append, length-drop}
-use lib.Seq.{sets, sets-eq, getD-drop, getD-set-same, getD-set-other, take-at, drop-append-add, drop-drop}
+use lib.ListN.{List·getD-append, length, getD, take, drop, set, length-set, length-append, length-drop}
+use lib.Seq.{take-all, sets, sets-eq, getD-drop, getD-set-same, getD-set-other, take-at, drop-append-add, drop-drop}
 use lib.Dec.{lit<}
 use Rattle.number.specs.Bytes.{leAt, bytesOf, putAt}
 
@@ -42,6 +42,10 @@ pub leAt-lt : (n : ℕ) (s : List ℕ) (i : ℕ) → ((j : ℕ) → getD s j 0 <
 unfolding leAt
 leAt-lt zero s i h = lit< tt
 leAt-lt (suc n) s i h = rw pow-suc (omega (arith, h i, leAt-lt n s (suc i) h))
+
+-- a part to the end, as the logic gives it
+pub part-rest : (i : ℕ) (l : List ℕ) → take (length l - i) (drop i l) ≡ drop i l
+part-rest i l = take-all (length l - i) (drop i l) (le-of-eq (length-drop i l))
 
 -- ---- the bytes of a number
 

@@ -4,8 +4,7 @@ use Prim.Native.Nat.{ℕ, zero, suc, _+_, _-_}
 use lib.ListN.{length, getD, drop}
 use Rattle.algebra.specs.Algebra.{Algebra}
 use Rattle.algebra.specs.Run.{Level, Context, run}
-use Rattle.hill.specs.Summary.{Hill, hill, Summary, blank, part}
-use Rattle.hill.specs.Merge.{peak, slopes}
+use Rattle.hill.specs.Summary.{Hill, hill, Summary, blank, part, peak, slopes}
 use Rattle.join_plan.specs.Plan.{Line, planOfRow}
 
 module _ {R : Type 0} (𝒜 : Algebra R) where

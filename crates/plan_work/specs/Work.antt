@@ -6,8 +6,7 @@ use lib.Dec.{leb, eqb}
 use lib.ListN.{take, drop}
 use Rattle.algebra.specs.Algebra.{Algebra}
 use Rattle.algebra.specs.Run.{through}
-use Rattle.hill.specs.Summary.{Summary, blank, part, middle}
-use Rattle.hill.specs.Merge.{slopes}
+use Rattle.hill.specs.Summary.{Summary, blank, part, middle, slopes}
 use Rattle.join_plan.specs.Plan.{Line, joins, folded, planOfRow}
 use Rattle.plan_work.specs.Runs.{peakOf, slopesOf, runLevels}
 

@@ -8,8 +8,8 @@ use native.Mathlib.Omega.{arith}
 use lib.ListN.{length, drop, drop-of-length-le}
 use Rattle.algebra.specs.Algebra.{Algebra, Laws, Commutative}
 use Rattle.hill.specs.Verdict.{pass}
-use Rattle.hill.specs.Summary.{Hill, Part, Summary, spoilt, whole, blank, part, rise, fall, middle}
-use Rattle.hill.specs.Merge.{slopes, mergeSummary}
+use Rattle.hill.specs.Summary.{Hill, Part, Summary, spoilt, whole, blank, part, rise, fall, middle, slopes}
+use Rattle.hill.specs.Merge.{mergeSummary}
 use Rattle.hill.specs.Finish.{outcome, finishOf}
 use Rattle.hill.specs.Building.{empty, merge, merge-empty, empty-merge, merge-assoc}
 use Rattle.hill.specs.SummaryLaws.{verdict-merge, slopes-merge}

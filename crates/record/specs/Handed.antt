@@ -5,8 +5,9 @@ use Prim.Native.Nat.{ℕ, _+_, _-_, _*_, _≤_, _<_}
 use native.Mathlib.Omega.{arith}
 use lib.ListN.{length, take, drop, length-drop, drop-of-length-le, length-append}
 use Rattle.gate.specs.Outcome.{refused, result}
+use Rattle.number.specs.Laws.{part-rest}
 use Rattle.record.specs.Record.{readOf, recordsOf}
-use Rattle.record.specs.Laws.{sound, records-nil, records-bad, records-next, part-rest, onto, onto-nil, onto-next}
+use Rattle.record.specs.Laws.{sound, records-nil, records-bad, records-next, onto, onto-nil, onto-next}
 use Rattle.record.specs.declared.Fields.{Fields}
 
 -- Of the chunk s the records `done` are read, and `rest` is left.

@@ -2,11 +2,10 @@
 use mathlib.Core.Path.{_≡_, refl, sym, ap, _∙_, subst}
 use mathlib.Core.Bool.{Bool, true, false, cond, _&&_}
 use mathlib.Core.List.{List, [], _∷_, _++_, append-assoc}
-use Prim.Native.Nat.{ℕ, zero, suc, _-_, _≤_, _<_}
-use native.Mathlib.Nat.{le-refl, le-of-eq}
+use Prim.Native.Nat.{ℕ, zero, suc, _≤_, _<_}
+use native.Mathlib.Nat.{le-refl}
 use native.Mathlib.Omega.{arith}
-use lib.ListN.{length, take, drop, length-drop}
-use lib.Seq.{take-all}
+use lib.ListN.{length, drop, length-drop}
 use lib.Dec.{T, leb, eqb, lit≤}
 use lib.IntN.{ℤ, pos, negsuc, natAbs}
 use lib.Signed.{leZ}
@@ -66,7 +65,7 @@ and-right : (a b : Bool) → a && b ≡ true → b ≡ true
 and-right true b e = e
 and-right false b e = absurd (subst T (sym e) tt)
 
-within-size : (z : ℤ) → within z ≡ true → natAbs z ≤ 1_000_000_000
+pub within-size : (z : ℤ) → within z ≡ true → natAbs z ≤ 1_000_000_000
 unfolding within
 within-size (pos n) e = leb-true n 1_000_000_000 e
 within-size (negsuc n) e = omega (arith, leb-true n 999_999_999 (and-left (leb n 999_999_999) true e))
@@ -125,10 +124,6 @@ unfolding recordsOf recordsIn Same
 records-next [] f e = absurd (omega (arith, sound [] f e))
 records-next (b ∷ s) f e =
     rw e (ap (before f) (enough (length s) (length (drop (f .length) (b ∷ s))) (drop (f .length) (b ∷ s)) (shorter b s f e) (le-refl _)))
-
--- a part to the end, as the logic gives it
-pub part-rest : (i : ℕ) (l : List ℕ) → take (length l - i) (drop i l) ≡ drop i l
-part-rest i l = take-all (length l - i) (drop i l) (le-of-eq (length-drop i l))
 
 -- ---- records one after the other
 

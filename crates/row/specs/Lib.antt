@@ -1,0 +1,3 @@
+-- What must be believed: Row. The rest is proved of it.
+pub mod Row
+pub mod Laws

@@ -1,0 +1,97 @@
+-- What question 5 counts and takes of a stored number is what the mode says of it. Assumes nothing.
+use mathlib.Core.Path.{_≡_, refl, sym, ap, subst, _∙_}
+use mathlib.Core.Logic.{_≢_}
+use mathlib.Core.Bool.{Bool, true, false, cond, _&&_}
+use Prim.Native.Nat.{ℕ, zero, suc, _+_, _*_, _%_, _^_, _≤_, _<_}
+use native.Mathlib.Nat.{mod-eq-of-lt, mod-lt}
+use native.Mathlib.Omega.{arith}
+use lib.Dec.{eqb, leb, lit<}
+use lib.IntN.{ℤ, pos, negsuc, natAbs, pos-ne-negsuc}
+use borrow.Author.Tests.{leb-true, le-leb}
+use Rattle.number.specs.IntegerLaws.{up}
+use Rattle.figure.specs.FourModes.{limit, readHeld, heldIf, storeHeld}
+use Rattle.figure.specs.Bound.{sizeHeld}
+use Rattle.figure.specs.StoreLaws.{held-stored}
+use Rattle.figure.specs.Mode.{Mode, modeOf, modeInUse}
+use Rattle.figure.specs.Stored.{IsStored, sizeOf, none}
+use Rattle.summary.specs.Judge.{isNothing, nothingIn, counted, isStamp}
+use Rattle.summary.specs.Tests.{false-true, and-right}
+
+-- Mode M has number m.
+pub record Numbered (m : ℕ) (M : Mode) : Type 0 where
+  pub nothing-is : none M ≡ nothingIn m
+  -- modes 1 to 3
+  pub unit-is : m ≢ 4 → M .sizes .unit ≡ limit
+  pub size-is : m ≢ 4 → (z : ℤ) → sizeOf M z ≡ counted m z
+  pub any-stored : m ≢ 4 → (z : ℤ) → IsStored M z
+  -- mode 4
+  pub unit-one : m ≡ 4 → M .sizes .unit ≡ 1
+  pub size-none : m ≡ 4 → (z : ℤ) → sizeOf M z ≡ 0
+  pub stamp-stored : m ≡ 4 → (z : ℤ) → isStamp z ≡ true → IsStored M z
+  pub stored-stamp : m ≡ 4 → (z : ℤ) → IsStored M z → isStamp z ≡ true
+
+size-held : (z : ℤ) → sizeHeld (readHeld z) ≡ cond (isNothing z) 0 (natAbs z)
+unfolding sizeHeld readHeld
+size-held (pos n) = refl
+size-held (negsuc n) = go (eqb n 9223372036854775807)
+  where
+    go : (t : Bool) → sizeHeld (heldIf t (negsuc n)) ≡ cond t 0 (suc n)
+    go true = refl
+    go false = refl
+
+stamp-in : (z : ℤ) → isStamp z ≡ true → pos (up z % 2 ^ 32) ≡ z
+unfolding isStamp
+stamp-in (pos n) e = ap pos (mod-eq-of-lt (omega (arith, leb-true n 4294967295 (and-right (leb 0 n) (leb n 4294967295) e))))
+stamp-in (negsuc n) e = false-true e
+
+in-stamp : (z : ℤ) → pos (up z % 2 ^ 32) ≡ z → isStamp z ≡ true
+unfolding isStamp
+in-stamp (pos n) e =
+    let f : n % 2 ^ 32 ≡ n = ap up e in
+    rw (le-leb 0 n (omega arith)) (le-leb n 4294967295 (omega (arith, mod-lt n {m = 2 ^ 32} (lit< tt))))
+in-stamp (negsuc n) e = absurd (pos-ne-negsuc 0 n e)
+
+pub numbered : (m : ℕ) → modeInUse m ≡ true → Numbered m (modeOf m)
+unfolding modeOf modeInUse IsStored sizeOf none nothingIn counted storeHeld
+numbered zero u = false-true u
+numbered (suc zero) u = record {
+  nothing-is = refl;
+  unit-is = λ _. refl;
+  size-is = λ _ z. refl;
+  any-stored = λ _ z. refl;
+  unit-one = λ e. absurd (omega arith);
+  size-none = λ e. absurd (omega arith);
+  stamp-stored = λ e. absurd (omega arith);
+  stored-stamp = λ e. absurd (omega arith);
+}
+numbered (suc (suc zero)) u = record {
+  nothing-is = refl;
+  unit-is = λ _. refl;
+  size-is = λ _ z. size-held z;
+  any-stored = λ _ z. held-stored z;
+  unit-one = λ e. absurd (omega arith);
+  size-none = λ e. absurd (omega arith);
+  stamp-stored = λ e. absurd (omega arith);
+  stored-stamp = λ e. absurd (omega arith);
+}
+numbered (suc (suc (suc zero))) u = record {
+  nothing-is = refl;
+  unit-is = λ _. refl;
+  size-is = λ _ z. refl;
+  any-stored = λ _ z. refl;
+  unit-one = λ e. absurd (omega arith);
+  size-none = λ e. absurd (omega arith);
+  stamp-stored = λ e. absurd (omega arith);
+  stored-stamp = λ e. absurd (omega arith);
+}
+numbered (suc (suc (suc (suc zero)))) u = record {
+  nothing-is = refl;
+  unit-is = λ n. absurd (n refl);
+  size-is = λ n. absurd (n refl);
+  any-stored = λ n. absurd (n refl);
+  unit-one = λ _. refl;
+  size-none = λ _ z. refl;
+  stamp-stored = λ _ z e. stamp-in z e;
+  stored-stamp = λ _ z e. in-stamp z e;
+}
+numbered (suc (suc (suc (suc (suc m))))) u = absurd (omega (arith, leb-true (suc (suc (suc (suc (suc m))))) 4 (and-right (leb 1 (suc (suc (suc (suc (suc m)))))) (leb (suc (suc (suc (suc (suc m))))) 4) u)))

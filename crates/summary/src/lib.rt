@@ -1,0 +1,1 @@
+// The bytes of a summary. It all stands in specs/ so far.

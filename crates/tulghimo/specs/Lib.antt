@@ -1,0 +1,2 @@
+-- What the C functions answer and leave in the lent buffers.
+pub mod Interface

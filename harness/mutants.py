@@ -1,0 +1,334 @@
+#!/usr/bin/env python3
+"""Changes each rule of document 01 in the reference once and shows that the tests
+notice.
+
+Each line of the table is one change of text: the file in reference/src, the old text
+(which must stand there exactly once), the new text, and the rule that it breaks. The
+change is made in a scratch copy of the workspace, which is built and tested there.
+A change that does not build proves nothing and counts as missed.
+
+    python3 harness/mutants.py            all of them, ten to twenty minutes
+    python3 harness/mutants.py merge row  only those whose file or rule has such a word
+
+Prints a line for each and "N caught, M missed"; the exit status is 0 only if none is
+missed. It is not a part of the gate, since it takes long.
+"""
+
+import os
+import pathlib
+import shutil
+import signal
+import subprocess
+import sys
+import tempfile
+
+HERE = pathlib.Path(__file__).resolve().parent
+TIMEOUT_SECONDS = 300
+
+# The tests that take no time; the others follow where these notice nothing.
+QUICK = ["--", "paper::", "gate::", "records::", "question_5::", "rows::pieces", "rows::halves"]
+
+# Records: bytes, reading, ranges.
+RECORDS = [
+    ("bytes.rs", "bytes.iter().rev()", "bytes.iter()", "little-endian"),
+    ("bytes.rs", "number - range\n", "number - range + 1\n", "two's complement"),
+    ("record.rs", "const GRAMS: i64 = 1_000_000_000;", "const GRAMS: i64 = 1_000_000_001;",
+     "values within 10^9"),
+    ("record.rs", "const DEEPEST: usize = 63;", "const DEEPEST: usize = 64;", "depth 0 to 63"),
+    ("record.rs", "DEFAULT_FLOOR: i64 = -1_000_000_000;", "DEFAULT_FLOOR: i64 = 0;",
+     "the floor of a short record"),
+    ("record.rs", "DEFAULT_CEILING: i64 = 1_000_000_000;", "DEFAULT_CEILING: i64 = 999_999_999;",
+     "the ceiling of a short record"),
+    ("record.rs", "length == 18 || length == 10", "length == 18", "an open may have length 10"),
+    ("record.rs", "CLOSE => length == 6,", "CLOSE => length == 6 || length == 10,",
+     "a close has length 6"),
+    ("record.rs", "|| chunk.len() < length", "|| chunk.len() <= length", "all bytes are there"),
+    ("record.rs", "&& floor <= ceiling", "&& floor < ceiling", "floor may equal ceiling"),
+    ("record.rs", "within(value) && within(floor)", "within(floor)", "the value has a range"),
+    ("record.rs", "Record::Close { depth } => depth + 1,", "Record::Close { depth } => *depth,",
+     "a close starts at level d+1"),
+    ("record.rs", "Record::Open(open) => open.depth + 1,", "Record::Open(open) => open.depth,",
+     "an open ends at level d+1"),
+    ("record.rs", "rest = &rest[length..];", "rest = &rest[rest.len()..];",
+     "the rest is read as a chunk of its own"),
+]
+
+# Records: levels, faults, closing, holding.
+LOG = [
+    ("log.rs", "MOST_OPENED: u64 = 100_000;", "MOST_OPENED: u64 = 100_001;",
+     "at most 100,000 opened"),
+    ("log.rs", ".all(|pair| pair[0].end_level() > 0)", ".all(|pair| pair[0].end_level() > 1)",
+     "no level between is 0 (one is)"),
+    ("log.rs", ".all(|pair| pair[0].end_level() > 0)", ".all(|_| true)",
+     "no level between is 0 (any is)"),
+    ("log.rs", ".all(|pair| pair[0].end_level() == pair[1].start_level())", ".all(|_| true)",
+     "neighbours meet"),
+    ("log.rs", "Some(7)\n    } else if !levels", "Some(8)\n    } else if !levels",
+     "not meeting is fault 7"),
+    ("log.rs", ".find(|&later| records[later] == Record::Close { depth })",
+     ".rfind(|&later| records[later] == Record::Close { depth })", "the first close closes"),
+    ("log.rs", "records[later].depth() == depth + 1)", "records[later].depth() > depth)",
+     "directly held: depth d+1"),
+    ("log.rs", ".unwrap_or(records.len())", ".unwrap_or(place + 1)",
+     "an unclosed record holds what comes after"),
+    ("log.rs", "start_level() == 0 && records[", "start_level() == 0 || records[",
+     "a log begins and ends at level 0"),
+    ("log.rs", "Some(10)", "Some(11)", "no record is fault 10"),
+]
+
+# Four modes.
+MODES = [
+    ("mode.rs", "Mode::Heaviest => figures.max(),",
+     "Mode::Heaviest => Some(figures.max().unwrap_or(0)),", "slip: nothing held as 0 in mode 2"),
+    ("mode.rs", "(Mode::Heaviest, Some(greatest)) => v + greatest,",
+     "(Mode::Heaviest, Some(greatest)) => v + greatest.max(0),", "v + the greatest held figure"),
+    ("mode.rs", "Mode::Heaviest => figures.max(),", "Mode::Heaviest => figures.min(),",
+     "the greatest, not the least"),
+    ("mode.rs", "(Mode::Net, held) => v + held.unwrap_or(0),", "(Mode::Net, _) => v,",
+     "net adds what is held"),
+    ("mode.rs", "between(v + held.unwrap_or(0), record.floor, record.ceiling)",
+     "v + between(held.unwrap_or(0), record.floor, record.ceiling)",
+     "floor and ceiling bind v + the sum"),
+    ("mode.rs", "if number < floor {", "if number < floor && floor > 0 {", "raised to the floor"),
+    ("mode.rs", "} else if number > ceiling {", "} else if number > ceiling && ceiling < 0 {",
+     "lowered to the ceiling"),
+    ("mode.rs", "31 * held", "33 * held", "stamp: 31 times"),
+    ("mode.rs", "number.rem_euclid(1 << 32)", "number.rem_euclid(1 << 33)",
+     "stamp: modulo 2^32"),
+    ("mode.rs", "Mode::Stamp => Some(modulo_2_32(figures.sum())),",
+     "Mode::Stamp => Some(figures.sum()),", "stamp sums wrap"),
+    ("mode.rs", "held.unwrap_or(i64::MIN)", "held.unwrap_or(i64::MIN + 1)",
+     "nothing is stored as -2^63"),
+    ("mode.rs", "mode == Mode::Heaviest && number == i64::MIN", "number == i64::MIN",
+     "-2^63 is nothing in mode 2 alone"),
+    ("mode.rs", "Mode::Eaten => 3,", "Mode::Eaten => 5,", "the mode is 1 to 4"),
+]
+
+# Summaries of chunks.
+SUMMARIES = [
+    ("summary.rs", "records.iter().map(lowest_of).min()", "records.iter().map(lowest_of).max()",
+     "the peak is the lowest level"),
+    ("summary.rs", "start_level().min(record.end_level())", "start_level()",
+     "the peak counts every level reached"),
+    ("summary.rs", ".is_some() && !is_held[place]", ".is_some()",
+     "left and middle values: held by none that the chunk opens"),
+    ("summary.rs", "log::closer(records, place).is_some() && !is_held[place]", "!is_held[place]",
+     "left and middle values: closed in the chunk"),
+    ("summary.rs", ".filter(|&later| log::closer(records, later).is_some())",
+     ".filter(|&later| later > 0)", "held so far: those that the chunk also closes"),
+    ("summary.rs", "log::opened(records).min(MORE_OPENED)", "log::opened(records)",
+     "opened is cut to 100,001"),
+    ("summary.rs", "left: (peak + 1..=start)\n            .rev()", "left: (peak + 1..=start)",
+     "left values go from start down"),
+    ("summary.rs", "left: (peak + 1..=start)", "left: (peak..=start)",
+     "slip: the level at the peak counted on both slopes"),
+    ("summary.rs", "opened: log::opened(records),", "opened: records.len() as u64,",
+     "opened counts opens"),
+    ("summary.rs", "if hill.start != 0 || hill.end != 0", "if hill.start != 0",
+     "finish puts 11"),
+    ("summary.rs", "Case::Blank => Err(10),", "Case::Blank => Err(11),", "finish puts 10"),
+    ("summary.rs", "start: records[0].start_level(),\n            end: records[records.len() - 1]",
+     "start: records[0].start_level(),\n            end: records[0]",
+     "a spoilt one has the chunk's end level"),
+]
+
+# Merging.
+MERGING = [
+    ("merge.rs", "(Case::Blank, _) => right.case.clone(),", "(Case::Blank, _) => Case::Blank,",
+     "a blank adds nothing"),
+    ("merge.rs", "_ => merge_records(left, right),", "_ => left.case.clone(),",
+     "impostor: the left side handed back"),
+    ("merge.rs", "&[unclosed.held, from_deeper, r.left_at(level)]", "&[unclosed.held, from_deeper]",
+     "closing takes the right's value"),
+    ("merge.rs", "&[unclosed.held, from_deeper, r.left_at(level)]",
+     "&[unclosed.held, r.left_at(level)]", "closing takes what came from deeper"),
+    ("merge.rs", "&[unclosed.held, from_deeper, r.left_at(level)]",
+     "&[from_deeper, r.left_at(level)]", "closing takes the held figures so far"),
+    ("merge.rs", "+ 1..=l.end).rev()", "+ 1..=l.end)", "deepest first"),
+    ("merge.rs", "&[l.middle, outcome, r.left_at(level)]", "&[l.middle, r.left_at(level)]",
+     "the outcome joins the left's peak"),
+    ("merge.rs", "&[unclosed.held, outcome, r.middle]", "&[unclosed.held, outcome]",
+     "the right's middle is held by the left's record"),
+    ("merge.rs", "&[l.middle, outcome, r.middle]", "&[outcome, r.middle]",
+     "level peaks: both middles"),
+    ("merge.rs", "} else if left_end == 0 {", "} else if left_end == 0 && opened == 0 {",
+     "joining at level 0 is fault 8"),
+    ("merge.rs", "if left_end != right_start {", "if left_end < right_start {",
+     "not meeting is fault 7"),
+    ("merge.rs", "opened > MOST_OPENED", "opened >= MOST_OPENED", "100,000 opened are taken"),
+    ("merge.rs", ".flatten().min()", ".flatten().max()", "the lowest of these faults"),
+    ("merge.rs", "own_fault(right),", "None,", "the right's fault counts"),
+    ("merge.rs", "opened: opened.min(MORE_OPENED),", "opened,", "opened added is cut to 100,001"),
+]
+
+# Question 5.
+ACCEPTING = [
+    ("layout.rs", "&& (peak != 0 || start == 0 || end == 0)", "", "a peak of 0 has an end at 0"),
+    ("layout.rs", "&& peak <= end\n", "\n", "peak not above end"),
+    ("layout.rs", "HIGHEST_LEVEL: u64 = 64;", "HIGHEST_LEVEL: u64 = 65;", "levels 0 to 64"),
+    ("layout.rs", "&& !(flat && hill.opened == 0)", "&& (!flat || hill.opened < 1_000_000)",
+     "a flat hill has opened one"),
+    ("layout.rs", "hill.opened <= MOST_OPENED", "hill.opened <= MORE_OPENED",
+     "a hill has opened at most 100,000"),
+    ("layout.rs", "|| whole || hill.middle == nothing(mode)", "|| whole || hill.opened > 0",
+     "at peak 0 the middle holds nothing"),
+    ("layout.rs", "hill.peak != 0 || whole ||", "hill.peak != 0 ||",
+     "unless start = end = 0"),
+    ("layout.rs", "grams * i128::from(unclosed) + absolute", "absolute",
+     "the range counts unclosed records"),
+    ("layout.rs", "i128::from(value).abs()", "i128::from(value)", "absolute values"),
+    ("layout.rs", "(0..1 << 32)", "(0..=1 << 32)", "stamps up to 2^32 - 1"),
+    ("layout.rs", " && hill.opened >= unclosed", "", "mode 4: opened at least the unclosed"),
+    ("layout.rs", "&& (fault != 9 || opened == MORE_OPENED)", "",
+     "spoilt with fault 9 has opened 100,001"),
+    ("layout.rs", "&& opened <= MORE_OPENED\n", "\n", "spoilt has opened at most 100,001"),
+    ("layout.rs", "(7..=9).contains(&fault)", "(7..=11).contains(&fault)", "fault 7, 8 or 9"),
+    ("layout.rs", "field16(bytes, 0) != bytes.len() as u64", "field16(bytes, 0) > bytes.len() as u64",
+     "exactly one summary"),
+    ("layout.rs", "record.floor, record.ceiling)\n", "record.floor, GRAMS)\n",
+     "records meet the ranges"),
+]
+
+# Rows, plans, runs, work.
+PLANS = [
+    ("row.rs", "length < 6 ||", "length < 5 ||", "a length below 6: the last piece"),
+    ("row.rs", "if rest.len() == 1 {", "if rest.len() == 6 {", "one byte left is a piece"),
+    ("row.rs", "count - count / 2", "count / 2", "the left half has the odd one"),
+    ("row.rs", "ends[0].0 != 0 ||", "ends[0].0 != 0 &&", "a row begins and ends at level 0"),
+    ("row.rs", "opened > MOST_OPENED", "opened > MOST_OPENED + 1", "9 counts the whole row"),
+    ("row.rs", "spoilt_fault == Some(8) ||", "", "a row has its spoilt ones' faults"),
+    ("plan.rs", "for i in (0..j).rev() {\n            let depths: Vec<usize> = (0..=DEEPEST)",
+     "for i in 0..j {\n            let depths: Vec<usize> = (0..=DEEPEST)", "lines by falling i"),
+    ("plan.rs", "hill.peak <= depth && depth < hill.end", "hill.peak <= depth && depth <= hill.end",
+     "slip: the join of neighbours that share no open record"),
+    ("plan.rs", "&& !(i + 1..j).any(|between| closes(&row[between], depth))", "",
+     "a join skips what a chunk between closes"),
+    ("plan.rs", "lowest: *depths.iter().min()?", "lowest: *depths.iter().max()?",
+     "lowest depth of a line"),
+    ("plan.rs", "put(&mut out, 19, 2);", "put(&mut out, 20, 2);", "a line has kind 19"),
+    ("run.rs", "l: figure(Some(-FAR)),",
+     "l: hill_at(row, line.i).unclosed_at(line.lowest + 1).record.floor,",
+     "slip: the floor applied once to a whole run"),
+    ("run.rs", "h: figure(Some(FAR)),",
+     "h: hill_at(row, line.i).unclosed_at(line.lowest + 1).record.ceiling,",
+     "slip: the ceiling applied once to a whole run"),
+    ("run.rs", "a: all_on_the_way(row, line),", "a: figure(Some(0)),",
+     "mode 3: a adds all on the way"),
+    ("run.rs", "a: greatest_beside(row, line),", "a: Some(greatest_beside(row, line).unwrap_or(0)),",
+     "mode 2: A may be nothing"),
+    ("run.rs", "z: figure(None),", "z: figure(Some(0)),", "mode 2: z for nothing"),
+    ("run.rs", "m: modulo_2_32(figure(Some(1)) - figure(Some(0))),", "m: 31,",
+     "mode 4: m over all levels"),
+    ("run.rs", "put(&mut out, 20, 2);", "put(&mut out, 19, 2);", "a run has kind 20"),
+    ("work.rs", "hill.peak == line.highest + 1", "hill.peak > line.highest",
+     "middles of hills whose peak is highest + 1"),
+    ("work.rs", "earlier.lowest == line.highest + 1", "earlier.lowest > line.highest",
+     "earlier lines whose lowest is highest + 1"),
+    ("work.rs", "line.i <= earlier.i && earlier.j <= line.j", "line.j > 0",
+     "earlier lines from i to j"),
+    ("work.rs", "line.i <= earlier.i &&", "line.i < earlier.i &&",
+     "an earlier line may start at i"),
+    ("work.rs", "outcomes.last()", "outcomes.first()", "the last outcome is the figure"),
+    ("work.rs", "line.highest - line.lowest + 1", "line.highest - line.lowest",
+     "levels folded"),
+]
+
+# The gate and the calls.
+CALLS = [
+    ("gate.rs", "LONGEST_CHUNK: usize = 65_536;", "LONGEST_CHUNK: usize = 65_535;",
+     "65,536 bytes are taken"),
+    ("gate.rs", "LONGEST_CHUNK: usize = 65_536;", "LONGEST_CHUNK: usize = 65_537;",
+     "65,537 bytes are not"),
+    ("gate.rs", "(2..=64)", "(1..=64)", "one piece gets 4"),
+    ("gate.rs", "(2..=64)", "(2..=65)", "65 pieces get 4"),
+    ("gate.rs", "(2..=64)", "(2..=63)", "64 pieces are taken"),
+    ("gate.rs", "summary.mode == summaries[0].mode", "summary.mode.number() > 0",
+     "all of one mode"),
+    ("gate.rs", "result.len() <= capacity", "result.len() < capacity", "an exact buffer is enough"),
+    ("calls.rs", "    let mode = question_1(mode)?;\n    question_2(chunk)?;",
+     "    question_2(chunk)?;\n    let mode = question_1(mode)?;", "1 before 2"),
+    ("calls.rs", "question_2(chunk)?;\n    let records = question_3(chunk)?;",
+     "let records = question_3(chunk)?;\n    question_2(chunk)?;", "2 before 3"),
+    ("calls.rs", "    let pieces = question_4(row)?;\n",
+     "    question_5(&row::pieces(row))?;\n    let pieces = question_4(row)?;\n", "4 before 5"),
+    ("calls.rs", "    question_6(&two)?;\n", "", "merge puts 6"),
+    ("calls.rs", "questions_7_to_11_of_row(&summaries)?;\n    let work", "let work",
+     "work puts 7 to 11"),
+    ("calls.rs", "    questions_7_to_11_of_row(&summaries)?;\n    question_12(encode_plan",
+     "    question_12(encode_plan", "the plan puts 7 to 11"),
+    ("calls.rs", "length, depth, 0, 0, 0]", "length, depth, depth, 0, 0]",
+     "the last three are 0 for a close"),
+    ("calls.rs", "{net} {heaviest} {eaten} {stamp}\\n", "{net} {heaviest} {stamp} {eaten}\\n",
+     "the order of the day's figures"),
+    ("calls.rs", "refused {number}\\n", "refused {number}", "the line ends with a newline"),
+]
+
+TABLE = RECORDS + LOG + MODES + SUMMARIES + MERGING + ACCEPTING + PLANS + CALLS
+
+
+def cargo(workspace, *arguments):
+    """Runs cargo test in the scratch copy; its exit status, or None when it hangs."""
+    command = ["cargo", "test", "-q", "--offline", "-p", "reference", "--test", "document_01"]
+    environment = dict(
+        os.environ,
+        CARGO_PROFILE_TEST_OPT_LEVEL="1",
+        CARGO_PROFILE_TEST_DEBUG="0",
+        RUST_BACKTRACE="0",
+    )
+    process = subprocess.Popen(
+        command + list(arguments),
+        cwd=workspace,
+        env=environment,
+        stdout=subprocess.DEVNULL,
+        stderr=subprocess.DEVNULL,
+        start_new_session=True,
+    )
+    try:
+        return process.wait(timeout=TIMEOUT_SECONDS)
+    except subprocess.TimeoutExpired:
+        os.killpg(process.pid, signal.SIGKILL)
+        process.wait()
+        return None
+
+
+def try_one(workspace, file, old, new):
+    """What became of one change: 'caught', or why it was not."""
+    path = workspace / "reference" / "src" / file
+    text = path.read_text(encoding="utf-8")
+    if text.count(old) != 1:
+        return f"the old text stands there {text.count(old)} times"
+    path.write_text(text.replace(old, new), encoding="utf-8")
+    try:
+        if cargo(workspace, "--no-run") != 0:
+            return "does not build"
+        if cargo(workspace, *QUICK) == 0 and cargo(workspace) == 0:
+            return "not noticed"
+        return "caught"
+    finally:
+        path.write_text(text, encoding="utf-8")
+
+
+def main():
+    words = sys.argv[1:]
+    chosen = [
+        change
+        for change in TABLE
+        if not words or any(word in change[0] or word in change[3] for word in words)
+    ]
+    missed = 0
+    with tempfile.TemporaryDirectory() as scratch:
+        workspace = pathlib.Path(scratch) / "harness"
+        shutil.copytree(HERE, workspace, ignore=shutil.ignore_patterns("target"))
+        if cargo(workspace) != 0:
+            print("the tests fail before any change")
+            return 1
+        for file, old, new, rule in chosen:
+            outcome = try_one(workspace, file, old, new)
+            missed += outcome != "caught"
+            print(f"{outcome}: {file}: {rule}", flush=True)
+    print(f"{len(chosen) - missed} caught, {missed} missed")
+    return 0 if missed == 0 else 1
+
+
+if __name__ == "__main__":
+    sys.exit(main())

@@ -1,0 +1,119 @@
+//! The calls of document 01, as functions of the lent bytes: the result or the
+//! number of the refusal. A buffer is only its capacity here: a refusal leaves it
+//! untouched, a result is written at its front and "bytes after it stay".
+
+use crate::gate::{
+    question_1, question_12, question_2, question_3, question_4, question_5, question_6,
+    questions_7_to_11_of_log, questions_7_to_11_of_row,
+};
+use crate::layout::encode;
+use crate::merge;
+use crate::mode::{stored, Mode};
+use crate::plan::{encode_plan, plan_by_levels};
+use crate::record::{read_first, Record, CLOSE, OPEN};
+use crate::row;
+use crate::run::{encode_run, run_of};
+use crate::summary::{self, summary_of, Summary};
+use crate::tree::log_figure;
+use crate::work;
+
+/// "read the first record of a chunk (answering kind, length, depth, value, floor
+/// and ceiling, the last three 0 for a close; an empty chunk gets 3; later bytes, and
+/// how many there are, are not judged)". "Reading puts 3".
+pub fn read(chunk: &[u8]) -> Result<[i64; 6], u8> {
+    let (record, length) = read_first(chunk).ok_or(3)?;
+    let (length, depth) = (length as i64, record.depth() as i64);
+    Ok(match record {
+        Record::Open(open) => [
+            OPEN as i64,
+            length,
+            depth,
+            open.value,
+            open.floor,
+            open.ceiling,
+        ],
+        Record::Close { .. } => [CLOSE as i64, length, depth, 0, 0, 0],
+    })
+}
+
+/// "summarise a chunk in a mode": "summarise 1, 2, 3 and 12".
+pub fn summarise(chunk: &[u8], mode: u32, capacity: usize) -> Result<Vec<u8>, u8> {
+    let mode = question_1(mode)?;
+    question_2(chunk)?;
+    let records = question_3(chunk)?;
+    question_12(encode(&summary_of(mode, &records)), capacity)
+}
+
+/// "merge two summaries": "merge 5, 6 and 12".
+pub fn merge(left: &[u8], right: &[u8], capacity: usize) -> Result<Vec<u8>, u8> {
+    let two = question_5(&[left, right])?;
+    question_6(&two)?;
+    question_12(encode(&merge::merge(&two[0], &two[1])), capacity)
+}
+
+/// "merge a row": "merging a row 4, 5, 6 and 12".
+pub fn merge_row(row: &[u8], capacity: usize) -> Result<Vec<u8>, u8> {
+    let summaries = questions_4_to_6(row)?;
+    question_12(encode(&row::merge_row(&summaries)), capacity)
+}
+
+/// "finish one summary, answering the figure as a signed 64-bit number": "finish 5
+/// and 7 to 11".
+pub fn finish(summary: &[u8]) -> Result<i64, u8> {
+    let one = question_5(&[summary])?;
+    summary::finish(&one[0]).map(stored)
+}
+
+/// "from a row, the plan": "plan and runs 4 to 12".
+pub fn plan(row: &[u8], capacity: usize) -> Result<Vec<u8>, u8> {
+    let summaries = questions_4_to_6(row)?;
+    questions_7_to_11_of_row(&summaries)?;
+    question_12(encode_plan(&plan_by_levels(&summaries)), capacity)
+}
+
+/// "the runs (one for each line, in plan order)": "plan and runs 4 to 12".
+pub fn runs(row: &[u8], capacity: usize) -> Result<Vec<u8>, u8> {
+    let summaries = questions_4_to_6(row)?;
+    questions_7_to_11_of_row(&summaries)?;
+    let mut out = Vec::new();
+    for line in plan_by_levels(&summaries) {
+        out.extend(encode_run(&run_of(&summaries, &line)));
+    }
+    question_12(out, capacity)
+}
+
+/// "and the work along the plan": "the work along the plan 4 to 11". Figure, joins
+/// and levels.
+pub fn work(row: &[u8]) -> Result<(i64, i64, i64), u8> {
+    let summaries = questions_4_to_6(row)?;
+    questions_7_to_11_of_row(&summaries)?;
+    let work = work::work(&summaries);
+    Ok((stored(work.figure), work.joins as i64, work.levels as i64))
+}
+
+/// The day's figures, "net, heaviest, eaten and stamp": "the day program, and any
+/// later call on a whole log, 2, 3 and 7 to 11".
+pub fn day(log: &[u8]) -> Result<[i64; 4], u8> {
+    question_2(log)?;
+    let records = question_3(log)?;
+    questions_7_to_11_of_log(&records)?;
+    Ok(Mode::ALL.map(|mode| log_figure(mode, &records)))
+}
+
+/// What the day program prints: the figures "with one space between and a newline";
+/// "For a refusal it prints `refused `, the number and a newline."
+pub fn day_text(log: &[u8]) -> Vec<u8> {
+    let text = match day(log) {
+        Ok([net, heaviest, eaten, stamp]) => format!("{net} {heaviest} {eaten} {stamp}\n"),
+        Err(number) => format!("refused {number}\n"),
+    };
+    text.into_bytes()
+}
+
+/// The summaries of a row, by questions 4, 5 and 6.
+fn questions_4_to_6(row: &[u8]) -> Result<Vec<Summary>, u8> {
+    let pieces = question_4(row)?;
+    let summaries = question_5(&pieces)?;
+    question_6(&summaries)?;
+    Ok(summaries)
+}

@@ -1,0 +1,82 @@
+//! Damaged bytes: a record, chunk, summary or row with something wrong in it, or
+//! perhaps not.
+
+use super::Rng;
+use crate::bytes::put;
+
+/// Numbers that are an end of some range, or next to one.
+const EDGES: [i64; 34] = [
+    0,
+    1,
+    2,
+    3,
+    4,
+    5,
+    6,
+    7,
+    8,
+    9,
+    10,
+    16,
+    17,
+    18,
+    19,
+    24,
+    63,
+    64,
+    65,
+    -1,
+    99_999,
+    100_000,
+    100_001,
+    100_002,
+    1_000_000_000,
+    1_000_000_001,
+    -1_000_000_000,
+    -1_000_000_001,
+    4_294_967_295,
+    4_294_967_296,
+    i32::MIN as i64,
+    i32::MAX as i64,
+    i64::MIN,
+    i64::MAX,
+];
+
+/// The bytes with one thing changed.
+pub fn damage(rng: &mut Rng, bytes: &[u8]) -> Vec<u8> {
+    let mut out = bytes.to_vec();
+    let place = rng.below(bytes.len() + 1);
+    match rng.below(7) {
+        // One bit.
+        0 if place < out.len() => out[place] ^= 1 << rng.below(8),
+        // Any byte.
+        1 if place < out.len() => out[place] = rng.bits() as u8,
+        // The end cut off.
+        2 => out.truncate(place),
+        // A byte more.
+        3 => out.insert(place, rng.bits() as u8),
+        // A byte fewer.
+        4 if place < out.len() => {
+            out.remove(place);
+        }
+        // A number from the edges.
+        _ => overwrite(rng, &mut out, place),
+    }
+    out
+}
+
+/// Writes a number from the edges, 2, 4 or 8 bytes wide, over what is there.
+fn overwrite(rng: &mut Rng, out: &mut [u8], place: usize) {
+    let width = rng.pick(&[2, 2, 4, 8]);
+    let mut number = Vec::new();
+    put(&mut number, rng.pick(&EDGES), width);
+    for (to, from) in out[place..].iter_mut().zip(number) {
+        *to = from;
+    }
+}
+
+/// Random bytes, up to a length.
+pub fn noise(rng: &mut Rng, longest: usize) -> Vec<u8> {
+    let length = rng.below(longest + 1);
+    (0..length).map(|_| rng.bits() as u8).collect()
+}

@@ -1,0 +1,293 @@
+//! Logs, well formed and with each fault; their bytes; cuts; merge lists.
+
+use super::Rng;
+use crate::mode::Mode;
+use crate::record::{
+    encode_close, encode_full, encode_short, Open, Record, DEEPEST, DEFAULT_CEILING, DEFAULT_FLOOR,
+    GRAMS,
+};
+use crate::replay::{Call, Step, Stretches};
+
+/// How the tree of a log looks.
+#[derive(Clone, Copy, Debug, PartialEq, Eq)]
+pub enum Shape {
+    /// One record that holds all others.
+    Flat,
+    /// A few levels, many branches.
+    Bushy,
+    /// Down to depth 63 and up again, many times over.
+    Deep,
+    /// One long line down, with short branches on both sides.
+    Caterpillar,
+    /// Opens and closes as they come, within a depth drawn at random.
+    Any,
+}
+
+pub const SHAPES: [Shape; 5] = [
+    Shape::Flat,
+    Shape::Bushy,
+    Shape::Deep,
+    Shape::Caterpillar,
+    Shape::Any,
+];
+
+/// From where values, floors and ceilings are drawn.
+#[derive(Clone, Copy, Debug, PartialEq, Eq)]
+pub enum Values {
+    /// A few grams, so that floors and ceilings bind often.
+    Small,
+    /// The ends of the range, and next to them.
+    Ends,
+    /// The whole range.
+    Full,
+}
+
+pub const VALUES: [Values; 3] = [Values::Small, Values::Ends, Values::Full];
+
+/// A number of grams within ±1,000,000,000.
+pub fn grams(rng: &mut Rng, values: Values) -> i64 {
+    match values {
+        Values::Small => rng.between(-20, 20),
+        Values::Ends => rng.pick(&[-GRAMS, 1 - GRAMS, -1, 0, 1, GRAMS - 1, GRAMS]),
+        Values::Full => rng.between(-GRAMS, GRAMS),
+    }
+}
+
+/// A readable open record; its floor and ceiling are the default ones in a third of
+/// the cases, and equal in some.
+pub fn open(rng: &mut Rng, depth: usize, values: Values) -> Open {
+    let value = grams(rng, values);
+    let (one, other) = (grams(rng, values), grams(rng, values));
+    let (floor, ceiling) = match rng.below(6) {
+        0 | 1 => (DEFAULT_FLOOR, DEFAULT_CEILING),
+        2 => (one, one),
+        _ => (one.min(other), one.max(other)),
+    };
+    Open {
+        depth,
+        value,
+        floor,
+        ceiling,
+    }
+}
+
+/// A well-formed log of about `opened` opened records, at least one.
+pub fn log(rng: &mut Rng, shape: Shape, values: Values, opened: usize) -> Vec<Record> {
+    match shape {
+        Shape::Flat => walk(rng, values, opened, 1, 1),
+        Shape::Bushy => walk(rng, values, opened, 5, 1),
+        Shape::Deep => walk(rng, values, opened, DEEPEST, 9),
+        Shape::Caterpillar => caterpillar(rng, values, opened),
+        Shape::Any => {
+            let deepest = 1 + rng.below(DEEPEST);
+            walk(rng, values, opened, deepest, 2)
+        }
+    }
+}
+
+/// A well-formed log of a shape, values and size drawn at random.
+pub fn any_log(rng: &mut Rng, most_opened: usize) -> Vec<Record> {
+    let shape = rng.pick(&SHAPES);
+    let values = rng.pick(&VALUES);
+    let opened = 1 + rng.below(most_opened);
+    log(rng, shape, values, opened)
+}
+
+/// Opens and closes at random until `opened` are opened, then closes down to level
+/// 0. Where both are possible, `favour` opens come on one close.
+fn walk(
+    rng: &mut Rng,
+    values: Values,
+    opened: usize,
+    deepest: usize,
+    favour: usize,
+) -> Vec<Record> {
+    let mut records = vec![Record::Open(open(rng, 0, values))];
+    let mut level = 1;
+    let mut left_to_open = opened.saturating_sub(1);
+    while level > 0 {
+        let may_open = left_to_open > 0 && level <= deepest;
+        let may_close = level > 1 || left_to_open == 0;
+        if may_open && (!may_close || !rng.one_in(favour + 1)) {
+            records.push(Record::Open(open(rng, level, values)));
+            level += 1;
+            left_to_open -= 1;
+        } else {
+            level -= 1;
+            records.push(Record::Close { depth: level });
+        }
+    }
+    records
+}
+
+/// One line of records down, each with leaves before and after the next.
+fn caterpillar(rng: &mut Rng, values: Values, opened: usize) -> Vec<Record> {
+    let deepest = (opened / 2).min(DEEPEST);
+    let mut records = Vec::new();
+    for depth in 0..=deepest {
+        records.push(Record::Open(open(rng, depth, values)));
+        leaves(rng, values, depth + 1, &mut records);
+    }
+    for depth in (0..=deepest).rev() {
+        records.push(Record::Close { depth });
+        if depth > 0 {
+            leaves(rng, values, depth, &mut records);
+        }
+    }
+    records
+}
+
+/// None, one or two records that hold nothing, if the depth allows them.
+fn leaves(rng: &mut Rng, values: Values, depth: usize, records: &mut Vec<Record>) {
+    if depth <= DEEPEST {
+        for _ in 0..rng.pick(&[0, 0, 1, 2]) {
+            records.push(Record::Open(open(rng, depth, values)));
+            records.push(Record::Close { depth });
+        }
+    }
+}
+
+/// A flat well-formed log with exactly `opened` opened records of one gram each.
+pub fn flat(opened: usize) -> Vec<Record> {
+    let one_gram = |depth| {
+        Record::Open(Open {
+            depth,
+            value: 1,
+            floor: DEFAULT_FLOOR,
+            ceiling: DEFAULT_CEILING,
+        })
+    };
+    let mut records = vec![one_gram(0)];
+    for _ in 1..opened {
+        records.push(one_gram(1));
+        records.push(Record::Close { depth: 1 });
+    }
+    records.push(Record::Close { depth: 0 });
+    records
+}
+
+/// The shapes of all well-formed logs with `opened` opened records, each once: true
+/// for an open, false for a close.
+pub fn all_shapes(opened: usize) -> Vec<Vec<bool>> {
+    let mut begun: Vec<(Vec<bool>, usize)> = vec![(vec![true], 1)];
+    for _ in 1..2 * opened {
+        let mut longer = Vec::new();
+        for (shape, level) in begun {
+            let opens = shape.iter().filter(|&&is_open| is_open).count();
+            if opens < opened {
+                longer.push(([shape.clone(), vec![true]].concat(), level + 1));
+            }
+            if level > 1 || opens == opened {
+                longer.push(([shape, vec![false]].concat(), level - 1));
+            }
+        }
+        begun = longer;
+    }
+    begun.into_iter().map(|(shape, _)| shape).collect()
+}
+
+/// A log of a given shape with values drawn at random.
+pub fn of_shape(rng: &mut Rng, shape: &[bool], values: Values) -> Vec<Record> {
+    let mut level = 0;
+    let mut records = Vec::new();
+    for &is_open in shape {
+        if is_open {
+            records.push(Record::Open(open(rng, level, values)));
+            level += 1;
+        } else {
+            level -= 1;
+            records.push(Record::Close { depth: level });
+        }
+    }
+    records
+}
+
+/// A log whose lowest fault is the given one: 7, 8, 9, 10 or 11.
+pub fn with_fault(rng: &mut Rng, fault: u8) -> Vec<Record> {
+    match fault {
+        // Without a record from the middle, its neighbours do not meet.
+        7 => {
+            let mut records = log(rng, Shape::Any, Values::Small, 12);
+            let place = 1 + rng.below(records.len() - 2);
+            records.remove(place);
+            records
+        }
+        // Between two logs the level is 0.
+        8 => [any_log(rng, 10), any_log(rng, 10)].concat(),
+        9 => flat(100_001),
+        10 => Vec::new(),
+        // A part of a log begins or ends above level 0.
+        11 => {
+            let records = any_log(rng, 20);
+            let first = rng.below(records.len());
+            let last = first + rng.below(records.len() - first);
+            if (first, last) == (0, records.len() - 1) {
+                records[..last].to_vec()
+            } else {
+                records[first..=last].to_vec()
+            }
+        }
+        _ => panic!("no fault {fault}"),
+    }
+}
+
+/// The bytes of records; an open with the default floor and ceiling is short in half
+/// of the cases.
+pub fn encode_mixed(rng: &mut Rng, records: &[Record]) -> Vec<u8> {
+    let mut out = Vec::new();
+    for record in records {
+        match record {
+            Record::Close { depth } => out.extend(encode_close(*depth)),
+            Record::Open(open) => {
+                let is_default = (open.floor, open.ceiling) == (DEFAULT_FLOOR, DEFAULT_CEILING);
+                if is_default && rng.one_in(2) {
+                    out.extend(encode_short(open.depth, open.value));
+                } else {
+                    out.extend(encode_full(open));
+                }
+            }
+        }
+    }
+    out
+}
+
+/// Records cut into `count` chunks at random places; some may be empty.
+pub fn cut(rng: &mut Rng, records: &[Record], count: usize) -> Vec<Vec<Record>> {
+    let mut places: Vec<usize> = (1..count).map(|_| rng.below(records.len() + 1)).collect();
+    places.extend([0, records.len()]);
+    places.sort_unstable();
+    places
+        .windows(2)
+        .map(|pair| records[pair[0]..pair[1]].to_vec())
+        .collect()
+}
+
+/// A list of merges on the row of these chunks, each possible on the row as it then
+/// stands. Buffers are exact, one short, empty, longer, or of any length.
+pub fn merge_list(rng: &mut Rng, mode: Mode, chunks: &[Vec<Record>]) -> Vec<Step> {
+    let mut row = Stretches {
+        mode,
+        stretches: chunks.to_vec(),
+    };
+    let mut steps = Vec::new();
+    while row.count() > 1 && !rng.one_in(40) {
+        let call = rng.pick(&[Call::Merge, Call::MergeRow]);
+        let count = match call {
+            Call::Merge => 2,
+            Call::MergeRow => 2 + rng.below(row.count() - 1).min(rng.below(64)),
+        };
+        let place = rng.below(row.count() - count + 1);
+        let exact = row.joined(place, count).len();
+        let any = rng.below(2000);
+        let capacity = rng.pick(&[exact, exact, exact + 1, exact + any, exact - 1, 0, any]);
+        let step = Step {
+            call,
+            place,
+            count,
+            capacity,
+        };
+        let _ = row.step(&step);
+        steps.push(step);
+    }
+    steps
+}

@@ -1,0 +1,35 @@
+//! The reference tally: document 01 ("The feed log, its hills and its join
+//! plan") and the tree recursion of METR 2006-64, written out slowly and plainly.
+//!
+//! Everything else is compared with this crate, so it is meant to be read beside
+//! document 01. Each function quotes the sentence that it puts into code. Records
+//! find their closes and their holders by search, never by a stack.
+//!
+//! | Section of document 01     | Module                                   |
+//! |----------------------------|------------------------------------------|
+//! | Records                    | [`bytes`], [`record`], [`log`], [`tree`] |
+//! | Four modes                 | [`mode`]                                 |
+//! | Summaries                  | [`summary`], [`merge`], [`layout`]       |
+//! | Plan and runs              | [`plan`], [`run`], [`work`], [`row`]     |
+//! | The row of demand 3        | [`replay`]                               |
+//! | The questions at the gate  | [`gate`], [`calls`]                      |
+//!
+//! [`gen`] makes the inputs that tests try: logs, cuts, merge lists, damaged bytes
+//! and summaries that no chunk makes.
+
+pub mod bytes;
+pub mod calls;
+pub mod gate;
+pub mod gen;
+pub mod layout;
+pub mod log;
+pub mod merge;
+pub mod mode;
+pub mod plan;
+pub mod record;
+pub mod replay;
+pub mod row;
+pub mod run;
+pub mod summary;
+pub mod tree;
+pub mod work;

@@ -1,0 +1,96 @@
+//! Bytes for tests, put together with the standard library's own conversions, so
+//! that the reference's encoder is not judged by itself.
+
+/// An open record of length 18.
+pub fn open(depth: u16, value: i32, floor: i32, ceiling: i32) -> Vec<u8> {
+    let mut out = words(&[18, 1, depth]);
+    for grams in [value, floor, ceiling] {
+        out.extend(grams.to_le_bytes());
+    }
+    out
+}
+
+/// An open record of length 10.
+pub fn short(depth: u16, value: i32) -> Vec<u8> {
+    let mut out = words(&[10, 1, depth]);
+    out.extend(value.to_le_bytes());
+    out
+}
+
+/// A close record.
+pub fn close(depth: u16) -> Vec<u8> {
+    words(&[6, 2, depth])
+}
+
+/// 16-bit numbers.
+pub fn words(numbers: &[u16]) -> Vec<u8> {
+    numbers
+        .iter()
+        .flat_map(|number| number.to_le_bytes())
+        .collect()
+}
+
+pub fn blank(mode: u16) -> Vec<u8> {
+    words(&[6, 16, mode])
+}
+
+pub fn spoilt(mode: u16, fault: u16, start: u16, end: u16, opened: u32) -> Vec<u8> {
+    let mut out = words(&[16, 17, mode, fault, start, end]);
+    out.extend(opened.to_le_bytes());
+    out
+}
+
+/// The fields of a hill, whether they fit or not.
+#[derive(Clone, Debug)]
+pub struct Hill {
+    pub mode: u16,
+    pub start: u16,
+    pub peak: u16,
+    pub end: u16,
+    pub opened: u32,
+    pub left: Vec<i64>,
+    pub middle: i64,
+    /// Value, floor, ceiling, held figures.
+    pub right: Vec<(i32, i32, i32, i64)>,
+}
+
+impl Hill {
+    pub fn bytes(&self) -> Vec<u8> {
+        let mut body = words(&[18, self.mode, self.start, self.peak, self.end]);
+        body.extend(self.opened.to_le_bytes());
+        for value in &self.left {
+            body.extend(value.to_le_bytes());
+        }
+        body.extend(self.middle.to_le_bytes());
+        for (value, floor, ceiling, held) in &self.right {
+            body.extend(value.to_le_bytes());
+            body.extend(floor.to_le_bytes());
+            body.extend(ceiling.to_le_bytes());
+            body.extend(held.to_le_bytes());
+        }
+        let length = body.len() as u16 + 2;
+        [words(&[length]), body].concat()
+    }
+}
+
+/// What "nothing held" is in the bytes of a mode: 0, and -2^63 in mode 2.
+pub fn nothing(mode: u16) -> i64 {
+    if mode == 2 {
+        -9_223_372_036_854_775_808
+    } else {
+        0
+    }
+}
+
+/// Log D: "open 0 value 10 floor 0 ceiling 100; open 1 value 5 floor 0 ceiling 4;
+/// close 1; open 1 value -3 floor 0 ceiling 100; close 1; close 0".
+pub fn log_d() -> Vec<Vec<u8>> {
+    vec![
+        open(0, 10, 0, 100),
+        open(1, 5, 0, 4),
+        close(1),
+        open(1, -3, 0, 100),
+        close(1),
+        close(0),
+    ]
+}
