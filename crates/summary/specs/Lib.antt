@@ -2,6 +2,7 @@
 pub mod Layout
 pub mod Judge
 pub mod Decode
+pub mod Decide
 pub mod Fields
 pub mod Tests
 pub mod ModeValues
@@ -11,3 +12,4 @@ pub mod ReadBack
 pub mod Written
 pub mod WriteBack
 pub mod Accepted
+pub mod DecideLaws

@@ -1,12 +1,14 @@
 -- Tests that say whether a statement holds. Assumes nothing.
 use mathlib.Core.Path.{_≡_, refl, sym, subst}
-use mathlib.Core.Logic.{_≢_, _⊎_, inl, inr}
-use mathlib.Core.Bool.{Bool, true, false, cond, not, _&&_, _||_}
+use mathlib.Core.Logic.{_⊎_, inl, inr}
+use mathlib.Core.Bool.{Bool, true, false, not, _&&_, _||_}
 use Prim.Native.Nat.{ℕ, zero, suc, _≤_, _<_}
 use native.Mathlib.Omega.{arith}
-use lib.Dec.{leb, ltb, eqb}
-use lib.IntN.{ℤ, pos, negsuc}
-use lib.Signed.{leZ, _≤ℤ_}
+use lib.Dec.{T, leb, ltb, eqb}
+use lib.IntN.{ℤ}
+use lib.Signed.{leZ, _≤ℤ_, ≤ℤ-refl}
+use Rattle.number.specs.IntegerLaws.{≤-antisym}
+use Rattle.summary.specs.Decide.{allTo}
 use borrow.Author.Tests.{leb-true, le-leb, eqb-true, eq-eqb, ltb-true, lt-ltb}
 
 -- The test t says whether P.
@@ -69,6 +71,18 @@ module _ {P Q : Type 0} where
       from true t f g e x = g e
       from false t f g e x = false-true (f x)
 
+  -- "Q unless P" is "P, or Q"
+  pub tells-unless : {s t : Bool} → Tells P s → Tells Q t → Tells (¬ P → Q) (s || t)
+  tells-unless {s} {t} p q = record { to = to s t (p .to) (q .to); from = from s t (p .from) (q .from) }
+    where
+      to : (s t : Bool) → (P → s ≡ true) → (Q → t ≡ true) → (¬ P → Q) → s || t ≡ true
+      to true t f g h = refl
+      to false t f g h = g (h (λ x. false-true (f x)))
+
+      from : (s t : Bool) → (s ≡ true → P) → (t ≡ true → Q) → s || t ≡ true → ¬ P → Q
+      from true t f g e n = absurd (n (f refl))
+      from false t f g e n = g e
+
   -- the same test for another wording
   pub tells-also : {t : Bool} → (P → Q) → (Q → P) → Tells P t → Tells Q t
   tells-also f g p = record { to = λ q. p .to (g q); from = λ e. f (p .from e) }
@@ -84,6 +98,18 @@ tells-not {P} {t} p = record { to = to t (p .from); from = from t (p .to) }
     from true f e x = false-true e
     from false f e x = false-true (f x)
 
+truth : (t : Bool) → T t → t ≡ true
+truth true x = refl
+truth false x = absurd x
+
+pub tells-order : (a b : ℤ) → Tells (a ≤ℤ b) (leZ a b)
+tells-order a b = record { to = λ h. truth (leZ a b) (h .le); from = λ e. record { le = subst T (sym e) tt } }
+
+pub tells-same : (a b : ℤ) → Tells (a ≡ b) (leZ a b && leZ b a)
+tells-same a b =
+    tells-also (λ p. ≤-antisym (p .0) (p .1)) (λ e. (subst (λ z. a ≤ℤ z) e (≤ℤ-refl a), subst (λ z. z ≤ℤ a) e (≤ℤ-refl a)))
+    (tells-and (tells-order a b) (tells-order b a))
+
 -- What holds below n, and of n, holds below n + 1.
 below : (i n : ℕ) → i < suc n → (i < n) ⊎ (n ≡ i)
 below i n l = go (ltb i n) (tells-lt i n)
@@ -98,11 +124,6 @@ one-more P n h p i l = go (below i n l)
     go : (i < n) ⊎ (n ≡ i) → P i
     go (inl k) = h i k
     go (inr e) = subst P e p
-
--- f 0, .., f (n - 1)
-unfoldable pub allTo : ℕ → (ℕ → Bool) → Bool
-allTo zero f = true
-allTo (suc n) f = allTo n f && f n
 
 pub tells-all : (P : ℕ → Type 0) (f : ℕ → Bool) → ((i : ℕ) → Tells (P i) (f i)) → (n : ℕ) → Tells ((i : ℕ) → i < n → P i) (allTo n f)
 unfolding allTo

@@ -1,14 +1,12 @@
 -- The hill that bytes say: its slopes' lengths, what it weighs, and its records in range. Assumes nothing.
-use mathlib.Core.Path.{_≡_, refl, sym, ap, subst}
-use mathlib.Core.Bool.{Bool, true, false}
+use mathlib.Core.Path.{_≡_, refl, ap}
+use mathlib.Core.Bool.{true}
 use mathlib.Core.List.{List, [], _∷_}
 use Prim.Native.Nat.{ℕ, zero, suc, _+_, _*_, _≤_, _<_}
 use native.Mathlib.Nat.{le-refl}
 use native.Mathlib.Omega.{arith}
-use lib.Dec.{T}
 use lib.ListN.{length}
 use lib.IntN.{ℤ, pos, negsuc, natAbs}
-use lib.Signed.{leZ, _≤ℤ_}
 use borrow.Author.Tests.{le-leb}
 use Rattle.record.specs.Record.{within, inRange}
 use Rattle.record.specs.Laws.{within-size}
@@ -19,7 +17,7 @@ use Rattle.hill.specs.Summary.{blank, part, spoilt, whole}
 use Rattle.hill.specs.Valid.{Sizes, weightUp, weightDown, AllFine}
 use Rattle.summary.specs.Judge.{kindAt, faultAt, spoiltStartAt, peakAt, endAt, openedAt, leftAt, heldAt, sumTo}
 use Rattle.summary.specs.Decode.{amountsAt, leftsIn, rightsIn, hillIn, reading}
-use Rattle.summary.specs.Tests.{Tells, tells-and, tells-also, tells-le, one-more}
+use Rattle.summary.specs.Tests.{Tells, tells-and, tells-also, tells-le, tells-order, one-more}
 
 abbrev pub sizesIn : (M : Mode) → Sizes (M .algebra)
 sizesIn M = record {
@@ -41,13 +39,6 @@ inside (negsuc n) h = rw (le-leb n 999_999_999 (omega arith))
 
 tells-within : (z : ℤ) → Tells (natAbs z ≤ limit) (within z)
 tells-within z = record { to = inside z; from = within-size z }
-
-truth : (t : Bool) → T t → t ≡ true
-truth true x = refl
-truth false x = absurd x
-
-tells-order : (a b : ℤ) → Tells (a ≤ℤ b) (leZ a b)
-tells-order a b = record { to = λ h. truth (leZ a b) (h .le); from = λ e. record { le = subst T (sym e) tt } }
 
 pub tells-range : (d : ℕ) (r : Amounts) → Tells ((d ≤ 63) × InRange r) (inRange d (r .value) (r .floor) (r .ceiling))
 unfolding inRange
