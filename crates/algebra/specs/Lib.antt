@@ -1,2 +1,3 @@
 pub mod Algebra
 pub mod Run
+pub mod Sizes

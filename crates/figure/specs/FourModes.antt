@@ -1,9 +1,10 @@
 -- The four modes of document 01, "Four modes", and how their figures are stored in 64 bits.
 use mathlib.Core.Bool.{Bool, true, false}
-use Prim.Native.Nat.{ℕ, _+_, _*_, _%_, _^_, _<_}
+use Prim.Native.Nat.{ℕ, _+_, _*_, _%_, _^_, _≤_, _<_}
 use native.Mathlib.Nat.{mod-lt}
 use lib.Dec.{eqb, lit<}
-use lib.IntN.{ℤ, pos, negsuc, _+ℤ_}
+use lib.IntN.{ℤ, pos, negsuc, _+ℤ_, natAbs}
+use lib.Signed.{_≤ℤ_}
 use Rattle.algebra.specs.Algebra.{Algebra}
 use Rattle.number.specs.Integer.{maxZ, clamp, wrap}
 use Rattle.number.specs.IntegerLaws.{up}
@@ -16,6 +17,17 @@ pub record Amounts : Type 0 where
   pub value : ℤ
   pub floor : ℤ
   pub ceiling : ℤ
+
+-- 10^9
+abbrev pub limit : ℕ
+limit = 1000000000
+
+-- "value, floor and ceiling lie within ±1,000,000,000, and floor is not above ceiling"
+pub record InRange (r : Amounts) : Type 0 where
+  pub value-in : natAbs (r .value) ≤ limit
+  pub floor-in : natAbs (r .floor) ≤ limit
+  pub ceiling-in : natAbs (r .ceiling) ≤ limit
+  pub ordered : r .floor ≤ℤ r .ceiling
 
 -- 1. Net: "v + the sum of the held figures".
 abbrev pub net : Algebra Amounts

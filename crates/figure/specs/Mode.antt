@@ -1,38 +1,131 @@
--- A mode with all that belongs to it, and the modes by their numbers.
+-- A mode with all that belongs to it, and the modes by their numbers. Each later theorem takes a `Mode`.
+use mathlib.Core.Path.{_≡_, refl}
 use mathlib.Core.Bool.{Bool, _&&_}
-use Prim.Native.Nat.{ℕ, zero, suc}
-use lib.Dec.{leb}
+use Prim.Native.Nat.{ℕ, zero, suc, _^_, _≤_, _<_}
+use lib.Dec.{leb, lit≤}
 use lib.IntN.{ℤ, +ℤ-comm}
+use mir.Syntax.{w64}
+use mir.Val.{SFits}
 use Rattle.algebra.specs.Algebra.{Algebra, Laws, Commutative}
-use Rattle.figure.specs.FourModes.{Amounts, net, heaviest, eaten, stamp, storeHeld, readHeld, storeStamp, readStamp}
+use Rattle.algebra.specs.Run.{Context}
+use Rattle.algebra.specs.Sizes.{Sizes, RunSizes}
+use Rattle.number.specs.IntegerLaws.{sfits-abs}
+use Rattle.figure.specs.FourModes.{Amounts, limit, InRange, net, heaviest, eaten, stamp, storeHeld, readHeld, storeStamp, readStamp}
 use Rattle.figure.specs.ModeLaws.{netLaws, eatenLaws, heaviestLaws, heaviest-comm, stampLaws, stamp-comm}
+use Rattle.figure.specs.Run.{netRun, heaviestRun, eatenRun, stampRun}
+use Rattle.figure.specs.Runs.{netContext, heaviestContext, eatenContext, stampContext}
+use Rattle.figure.specs.RunUnique.{Pinned, netPinned, heaviestPinned, eatenPinned, stampPinned}
+use Rattle.figure.specs.Bound.{netSizes, netRunSizes, heaviestSizes, heaviestRunSizes, eatenSizes, eatenRunSizes, stampSizes, stampRunSizes}
+use Rattle.figure.specs.StoreLaws.{held-back, held-fits, stamp-back, stamp-fits, readNetRun, readHeaviestRun, readEatenRun, readStampRun, RunFits, net-run-fits, line-back, line-run-fits, between-run-fits, affine-back, affine-run-fits}
+use Rattle.figure.specs.declared.Run.{Run}
 
 pub record Mode : Type 1 where
   pub algebra : Algebra Amounts
   pub laws : Laws algebra
   pub commutative : Commutative algebra
+  -- sizes for document 01's bound
+  pub sizes : Sizes algebra InRange
+  pub unit-small : sizes .unit ≤ limit
   -- a figure as a signed 64-bit number, and back
   pub store : algebra .Fig → ℤ
   pub read : ℤ → algebra .Fig
+  pub read-back : (v : algebra .Fig) → sizes .size v < 2 ^ 63 → read (store v) ≡ v
+  pub store-fits : (v : algebra .Fig) → sizes .size v < 2 ^ 63 → SFits w64 (store v)
+  -- runs, that their numbers are the only ones, and the numbers as they are stored
+  pub context : Context algebra InRange
+  pub pinned : Pinned context
+  pub runSizes : RunSizes context sizes
+  pub storeRun : context .K → Run
+  pub readRun : Run → context .K
+  pub run-back : (k : context .K) (n : ℕ) → runSizes .Within k n → n < 2 ^ 63 → readRun (storeRun k) ≡ k
+  pub run-fits : (k : context .K) (n : ℕ) → runSizes .Within k n → n < 2 ^ 63 → RunFits (storeRun k)
 
 abbrev pub mode1 : Mode
-mode1 = record { algebra = net; laws = netLaws; commutative = +ℤ-comm; store = λ z. z; read = λ z. z }
+mode1 = record {
+  algebra = net;
+  laws = netLaws;
+  commutative = +ℤ-comm;
+  sizes = netSizes;
+  unit-small = lit≤ tt;
+  store = λ z. z;
+  read = λ z. z;
+  read-back = λ _ _. refl;
+  store-fits = sfits-abs w64;
+  context = netContext;
+  pinned = netPinned;
+  runSizes = netRunSizes;
+  storeRun = netRun;
+  readRun = readNetRun;
+  run-back = λ _ _ _ _. refl;
+  run-fits = net-run-fits;
+}
 
 abbrev pub mode2 : Mode
-mode2 = record { algebra = heaviest; laws = heaviestLaws; commutative = heaviest-comm; store = storeHeld; read = readHeld }
+mode2 = record {
+  algebra = heaviest;
+  laws = heaviestLaws;
+  commutative = heaviest-comm;
+  sizes = heaviestSizes;
+  unit-small = lit≤ tt;
+  store = storeHeld;
+  read = readHeld;
+  read-back = held-back;
+  store-fits = held-fits;
+  context = heaviestContext;
+  pinned = heaviestPinned;
+  runSizes = heaviestRunSizes;
+  storeRun = heaviestRun;
+  readRun = readHeaviestRun;
+  run-back = line-back;
+  run-fits = line-run-fits;
+}
 
 abbrev pub mode3 : Mode
-mode3 = record { algebra = eaten; laws = eatenLaws; commutative = +ℤ-comm; store = λ z. z; read = λ z. z }
+mode3 = record {
+  algebra = eaten;
+  laws = eatenLaws;
+  commutative = +ℤ-comm;
+  sizes = eatenSizes;
+  unit-small = lit≤ tt;
+  store = λ z. z;
+  read = λ z. z;
+  read-back = λ _ _. refl;
+  store-fits = sfits-abs w64;
+  context = eatenContext;
+  pinned = eatenPinned;
+  runSizes = eatenRunSizes;
+  storeRun = eatenRun;
+  readRun = readEatenRun;
+  run-back = λ _ _ _ _. refl;
+  run-fits = between-run-fits;
+}
 
 abbrev pub mode4 : Mode
-mode4 = record { algebra = stamp; laws = stampLaws; commutative = stamp-comm; store = storeStamp; read = readStamp }
+mode4 = record {
+  algebra = stamp;
+  laws = stampLaws;
+  commutative = stamp-comm;
+  sizes = stampSizes;
+  unit-small = lit≤ tt;
+  store = storeStamp;
+  read = readStamp;
+  read-back = λ s _. stamp-back s;
+  store-fits = λ s _. stamp-fits s;
+  context = stampContext;
+  pinned = stampPinned;
+  runSizes = stampRunSizes;
+  storeRun = stampRun;
+  readRun = readStampRun;
+  run-back = λ k _ _ _. affine-back k;
+  run-fits = λ k _ _ _. affine-run-fits k;
+}
 
 -- "Is the mode 1 to 4?"
 unfoldable pub modeInUse : ℕ → Bool
 modeInUse m = leb 1 m && leb m 4
 
 -- by its number; a number that is no mode stands for mode 1, and no call gets so far with it
-abbrev pub modeOf : ℕ → Mode
+unfoldable pub modeOf : ℕ → Mode
 modeOf zero = mode1
 modeOf (suc zero) = mode1
 modeOf (suc (suc zero)) = mode2

@@ -1,12 +1,12 @@
 -- In each mode, figures side by side may be combined in any grouping and order, and nothing held adds nothing. Assumes nothing.
-use mathlib.Core.Path.{_≡_, refl, sym, ap, _∙_}
+use mathlib.Core.Path.{_≡_, refl, ap, _∙_}
 use mathlib.Core.HLevel.{isProp→PathP}
-use Prim.Native.Nat.{ℕ, _+_, _*_, _%_, _^_, _<_}
+use Prim.Native.Nat.{_+_, _*_, _^_, _<_}
 use native.Mathlib.Nat.{add-mod-mod}
 use native.Mathlib.Omega.{arith}
 use native.Mathlib.Bridge.{le-prop}
-use lib.IntN.{ℤ, pos, _+ℤ_, +ℤ-assoc, +ℤ-comm, +ℤ-idl, +ℤ-idr}
-use Rattle.algebra.specs.Algebra.{Algebra, Laws, Commutative}
+use lib.IntN.{ℤ, pos, +ℤ-assoc, +ℤ-idl, +ℤ-idr}
+use Rattle.algebra.specs.Algebra.{Laws, Commutative}
 use Rattle.number.specs.Integer.{maxZ, wrap}
 use Rattle.number.specs.IntegerLaws.{max-comm, max-assoc}
 use Rattle.number.specs.Modulo.{wrap-+}

@@ -5,3 +5,10 @@ pub enum Held {
     Nothing,
     Figure(i64),
 }
+
+// The three numbers of a run, as they are stored.
+pub struct Run {
+    pub first: i64,
+    pub second: i64,
+    pub third: i64,
+}

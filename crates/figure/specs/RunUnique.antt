@@ -1,0 +1,224 @@
+-- The numbers of each mode's run are the only ones that document 01's sentence "The run of a join .." allows. Assumes nothing.
+use mathlib.Core.Path.{_≡_, refl, sym, ap, ap₂, _∙_, subst}
+use mathlib.Core.List.{List, [], _∷_}
+use Prim.Native.Nat.{ℕ, _+_, _*_, _%_, _^_, _<_}
+use native.Mathlib.Omega.{arith}
+use lib.IntN.{ℤ, pos, _+ℤ_, _-ℤ_, negℤ, natAbs, -ℤ-+ℤ-cancel, +ℤ-assoc, +ℤ-idl, +ℤ-idr}
+use lib.Signed.{_≤ℤ_, _<ℤ_}
+use Rattle.algebra.specs.Algebra.{Algebra}
+use Rattle.algebra.specs.Run.{Level, through, Context, AllSound, run, runOn, run-is, run-fine}
+use Rattle.number.specs.Integer.{maxZ, clamp}
+use Rattle.number.specs.IntegerLaws.{zed, add-law, neg-law, abs-law, max-law, min-law, ≤-antisym, clamp-in}
+use Rattle.figure.specs.FourModes.{Amounts, InRange, net, heaviest, eaten, stamp, lift, Stamp, stampOf}
+use Rattle.figure.specs.ModeLaws.{stamp-≡}
+use Rattle.figure.specs.Run.{IsNetRun, Line, atLeast, along, IsHeaviestRun, Between, between, total, IsEatenRun, Affine, affine, IsStampRun}
+use Rattle.figure.specs.Runs.{netContext, heaviestContext, eatenContext, stampContext, moved, lineLevel, lineAfter, betweenLevel, betweenAfter, between-ends, between-low, between-high}
+use Rattle.figure.specs.declared.Held.{Held}
+use Rattle.figure.specs.declared.Held.the-variants.{Nothing, Figure}
+
+-- What it is to be the run of levels, that a mode's numbers are, and that no others are.
+pub record Pinned {𝒜 : Algebra Amounts} (C : Context 𝒜 InRange) : Type 1 where
+  pub Is : List (Level 𝒜) → C .K → Type 0
+  pub is : (l : Level 𝒜) (ls : List (Level 𝒜)) → AllSound InRange (l ∷ ls) → Is (l ∷ ls) (run C l ls)
+  pub only : (ls : List (Level 𝒜)) (j k : C .K) → Is ls j → Is ls k → j ≡ k
+
+-- ---- mode 1: x + a for one x determines a
+
+pub net-only : (ls : List (Level net)) (a b : ℤ) → IsNetRun ls a → IsNetRun ls b → a ≡ b
+net-only ls a b p q = sym (+ℤ-idl a) ∙ p (pos 0) ∙ sym (q (pos 0)) ∙ +ℤ-idl b
+
+abbrev pub netPinned : Pinned netContext
+netPinned = record { Is = IsNetRun; is = run-is netContext; only = net-only }
+
+-- ---- mode 2: far below, x shows A; far above, it shows B; where there is no A, x shows that too
+
+-- a number as far up as four others reach
+far : ℤ → ℤ → ℤ → ℤ → ℕ
+far a b c d = natAbs a + natAbs b + (natAbs c + natAbs d)
+
+abbrev Same : Held → Held → ℤ → ℤ → Type 0
+Same A A′ B B′ = (x : ℤ) → atLeast A (x +ℤ B) ≡ atLeast A′ (x +ℤ B′)
+
+no-floor : (c B B′ : ℤ) → Same Nothing (Figure c) B B′ → ⊥
+unfolding atLeast
+no-floor c B B′ e =
+    let x : ℤ = (c -ℤ pos 1) -ℤ B in
+    let p : c -ℤ pos 1 ≡ maxZ c (x +ℤ B′) = sym (-ℤ-+ℤ-cancel (c -ℤ pos 1) B) ∙ e x in
+    let q : (c -ℤ pos 1) +ℤ pos 1 ≡ c = -ℤ-+ℤ-cancel c (pos 1) in
+    omega (zed, max-law c (x +ℤ B′), add-law (c -ℤ pos 1) (pos 1))
+
+both-shown : (a c B B′ : ℤ) → Same (Figure a) (Figure c) B B′ → (a ≡ c) × (B ≡ B′)
+unfolding atLeast far
+both-shown a c B B′ e =
+    let n : ℕ = far a c B B′ in
+    let p : maxZ a (pos n +ℤ B) ≡ maxZ c (pos n +ℤ B′) = e (pos n) in
+    let q : maxZ a (negℤ (pos n) +ℤ B) ≡ maxZ c (negℤ (pos n) +ℤ B′) = e (negℤ (pos n)) in (
+      omega (zed, max-law a (negℤ (pos n) +ℤ B), max-law c (negℤ (pos n) +ℤ B′), add-law (negℤ (pos n)) B, add-law (negℤ (pos n)) B′, neg-law (pos n), abs-law a, abs-law c, abs-law B, abs-law B′),
+      omega (zed, max-law a (pos n +ℤ B), max-law c (pos n +ℤ B′), add-law (pos n) B, add-law (pos n) B′, abs-law a, abs-law c, abs-law B, abs-law B′),
+    )
+
+shown : (A A′ : Held) (B B′ : ℤ) → Same A A′ B B′ → (A ≡ A′) × (B ≡ B′)
+unfolding atLeast
+shown Nothing Nothing B B′ e = (refl, sym (+ℤ-idl B) ∙ e (pos 0) ∙ +ℤ-idl B′)
+shown Nothing (Figure c) B B′ e = absurd (no-floor c B B′ e)
+shown (Figure a) Nothing B B′ e = absurd (no-floor a B′ B (λ x. sym (e x)))
+shown (Figure a) (Figure c) B B′ e = let r = both-shown a c B B′ e in (ap Figure (r .0), r .1)
+
+pub line-≡ : (j k : Line) → ((x : Held) → along j x ≡ along k x) → j ≡ k
+unfolding along
+line-≡ j k e =
+    let r = shown (j .other) (k .other) (j .add) (k .add) (λ x. e (Figure x)) in
+    λ i. record { empty = e Nothing i; other = r .0 i; add = r .1 i }
+
+abbrev numberOf : Held → ℤ
+numberOf Nothing = pos 0
+numberOf (Figure z) = z
+
+pub heaviest-only : (ls : List (Level heaviest)) (j k : Line) → IsHeaviestRun ls j → IsHeaviestRun ls k → j ≡ k
+heaviest-only ls j k p q = line-≡ j k (λ x. ap numberOf (p x ∙ sym (q x)))
+
+abbrev pub heaviestPinned : Pinned heaviestContext
+heaviestPinned = record { Is = IsHeaviestRun; is = run-is heaviestContext; only = heaviest-only }
+
+-- A is nothing exactly where no other figure is on the way.
+
+abbrev pub NoOther : List (Level heaviest) → Type 0
+NoOther [] = Unit {0}
+NoOther (l ∷ ls) = ((l .before ≡ Nothing) × (l .after ≡ Nothing)) × NoOther ls
+
+lift-nothing : (f : ℤ → ℤ → ℤ) (a b : Held) → lift f a b ≡ Nothing → (a ≡ Nothing) × (b ≡ Nothing)
+unfolding lift
+lift-nothing f Nothing b e = (refl, e)
+lift-nothing f (Figure a) Nothing e = (e, refl)
+lift-nothing f (Figure a) (Figure b) e = (cc e, cc e)
+
+moved-nothing : (a : Held) (v : ℤ) → moved a v ≡ Nothing → a ≡ Nothing
+unfolding moved
+moved-nothing Nothing v e = refl
+moved-nothing (Figure a) v e = cc e
+
+none-moved : {a b : Held} (v : ℤ) → a ≡ Nothing → b ≡ Nothing → moved (lift maxZ a b) v ≡ Nothing
+unfolding moved lift
+none-moved v p q = ap₂ (λ a b. moved (lift maxZ a b) v) p q
+
+after-none : (a b : Held) (v : ℤ) → a ≡ Nothing → b ≡ Nothing → lift maxZ a (moved b v) ≡ Nothing
+unfolding moved lift
+after-none a b v p q = ap₂ (λ a b. lift maxZ a (moved b v)) p q
+
+other-none : (k : Line) (ls : List (Level heaviest)) → k .other ≡ Nothing → NoOther ls → runOn heaviestContext k ls .other ≡ Nothing
+unfolding runOn
+other-none k [] e n = e
+other-none k (l ∷ ls) e n = other-none (lineAfter (lineLevel l) k) ls (after-none _ (k .other) (l .carried .value) (none-moved (l .carried .value) (n .0 .0) (n .0 .1)) e) (n .1)
+
+none-other : (k : Line) (ls : List (Level heaviest)) → runOn heaviestContext k ls .other ≡ Nothing → (k .other ≡ Nothing) × NoOther ls
+unfolding runOn
+none-other k [] e = (e, tt)
+none-other k (l ∷ ls) e =
+    let r = none-other (lineAfter (lineLevel l) k) ls e in
+    let s = lift-nothing maxZ (moved (lift maxZ (l .before) (l .after)) (l .carried .value)) (moved (k .other) (l .carried .value)) (r .0) in
+    (moved-nothing (k .other) (l .carried .value) (s .1), (lift-nothing maxZ (l .before) (l .after) (moved-nothing (lift maxZ (l .before) (l .after)) (l .carried .value) (s .0)), r .1))
+
+pub other-exactly : (l : Level heaviest) (ls : List (Level heaviest)) → (run heaviestContext l ls .other ≡ Nothing → NoOther (l ∷ ls)) × (NoOther (l ∷ ls) → run heaviestContext l ls .other ≡ Nothing)
+other-exactly l ls = (
+  (λ e.
+      let r = none-other (lineLevel l) ls e in
+      (lift-nothing maxZ (l .before) (l .after) (moved-nothing (lift maxZ (l .before) (l .after)) (l .carried .value) (r .0)), r .1)),
+  λ n. other-none (lineLevel l) ls (none-moved (l .carried .value) (n .0 .0) (n .0 .1)) (n .1),
+)
+
+-- ---- mode 3: the ends are the least and the greatest outcome, and a is the sum on the way
+
+total-run : (k : Between) (ls : List (Level eaten)) → runOn eatenContext k ls .add ≡ k .add +ℤ total ls
+unfolding runOn total
+total-run k [] = sym (+ℤ-idr (k .add))
+total-run k (l ∷ ls) =
+    total-run (betweenAfter (betweenLevel (l .carried) (l .before) (l .after)) k) ls
+    ∙ +ℤ-assoc (k .add) (l .carried .value +ℤ (l .before +ℤ l .after)) (total ls)
+
+pub eaten-is : (l : Level eaten) (ls : List (Level eaten)) → AllSound InRange (l ∷ ls) → IsEatenRun (l ∷ ls) (run eatenContext l ls)
+unfolding total
+eaten-is l ls s =
+    let k : Between = run eatenContext l ls in
+    let e : (x : ℤ) → between k x ≡ through eaten (l ∷ ls) x = run-is eatenContext l ls s in
+    let f : k .low ≤ℤ k .high = run-fine eatenContext (betweenLevel (l .carried) (l .before) (l .after)) ls (s .0 .ordered) (s .1) in
+    record {
+      gives = e;
+      adds = total-run (betweenLevel (l .carried) (l .before) (l .after)) ls;
+      not-below = λ x. subst (λ y. k .low ≤ℤ y) (e x) (between-ends k f x .0);
+      gives-low = (k .low -ℤ k .add, sym (e (k .low -ℤ k .add)) ∙ between-low k f);
+      not-above = λ x. subst (λ y. y ≤ℤ k .high) (e x) (between-ends k f x .1);
+      gives-high = (k .high -ℤ k .add, sym (e (k .high -ℤ k .add)) ∙ between-high k f);
+    }
+
+pub eaten-only : (ls : List (Level eaten)) (j k : Between) → IsEatenRun ls j → IsEatenRun ls k → j ≡ k
+eaten-only ls j k p q =
+    let a : j .add ≡ k .add = p .adds ∙ sym (q .adds) in
+    let l : j .low ≡ k .low =
+    ≤-antisym (subst (λ y. j .low ≤ℤ y) (q .gives-low .1) (p .not-below (q .gives-low .0))) (subst (λ y. k .low ≤ℤ y) (p .gives-low .1) (q .not-below (p .gives-low .0))) in
+    let h : j .high ≡ k .high =
+    ≤-antisym (subst (λ y. y ≤ℤ k .high) (p .gives-high .1) (q .not-above (p .gives-high .0))) (subst (λ y. y ≤ℤ j .high) (q .gives-high .1) (p .not-above (q .gives-high .0))) in
+    λ i. record { add = a i; low = l i; high = h i }
+
+abbrev pub eatenPinned : Pinned eatenContext
+eatenPinned = record { Is = IsEatenRun; is = eaten-is; only = eaten-only }
+
+-- Where low is below high, what a run does determines a as well.
+
+at-low : (y l h : ℤ) → l <ℤ h → clamp y l h ≡ l → y ≤ℤ l
+unfolding clamp
+at-low y l h p e = omega (zed, max-law y l, min-law (maxZ y l) h)
+
+above-low : (y l h m : ℤ) → l <ℤ m → clamp y l h ≡ m → m ≤ℤ y
+unfolding clamp
+above-low y l h m p e = omega (zed, max-law y l, min-law (maxZ y l) h)
+
+pinch : (x l a b : ℤ) → x +ℤ a ≡ l → (x +ℤ b) ≤ℤ l → (l +ℤ pos 1) ≤ℤ ((x +ℤ pos 1) +ℤ b) → a ≡ b
+pinch x l a b e p q = omega (zed, add-law x a, add-law x b, add-law l (pos 1), add-law x (pos 1), add-law (x +ℤ pos 1) b)
+
+next : (x l a : ℤ) → x +ℤ a ≡ l → (x +ℤ pos 1) +ℤ a ≡ l +ℤ pos 1
+next x l a e = omega (zed, add-law x a, add-law x (pos 1), add-law (x +ℤ pos 1) a, add-law l (pos 1))
+
+pub between-≡ : (j k : Between) → j .low <ℤ j .high → k .low ≤ℤ k .high → ((x : ℤ) → between j x ≡ between k x) → j ≡ k
+between-≡ j k s t e =
+    let f : j .low ≤ℤ j .high = omega zed in
+    let xl : ℤ = j .low -ℤ j .add in
+    let yl : ℤ = k .low -ℤ k .add in
+    let xh : ℤ = j .high -ℤ j .add in
+    let yh : ℤ = k .high -ℤ k .add in
+    let l : k .low ≡ j .low =
+    ≤-antisym (subst (λ y. k .low ≤ℤ y) (sym (e xl) ∙ between-low j f) (between-ends k t xl .0)) (subst (λ y. j .low ≤ℤ y) (e yl ∙ between-low k t) (between-ends j f yl .0)) in
+    let h : k .high ≡ j .high =
+    ≤-antisym (subst (λ y. y ≤ℤ j .high) (e yh ∙ between-high k t) (between-ends j f yh .1)) (subst (λ y. y ≤ℤ k .high) (sym (e xh) ∙ between-high j f) (between-ends k t xh .1)) in
+    let same : (x : ℤ) → clamp (x +ℤ k .add) (j .low) (j .high) ≡ between j x = λ x. ap₂ (λ a b. clamp (x +ℤ k .add) a b) (sym l) (sym h) ∙ sym (e x) in
+    let at : xl +ℤ j .add ≡ j .low = -ℤ-+ℤ-cancel (j .low) (j .add) in
+    let up1 : between j (xl +ℤ pos 1) ≡ j .low +ℤ pos 1 =
+    ap (λ y. clamp y (j .low) (j .high)) (next xl (j .low) (j .add) at) ∙ clamp-in (j .low +ℤ pos 1) (j .low) (j .high) (omega (zed, add-law (j .low) (pos 1))) (omega (zed, add-law (j .low) (pos 1))) in
+    let a : j .add ≡ k .add =
+    pinch xl (j .low) (j .add) (k .add) at (at-low (xl +ℤ k .add) (j .low) (j .high) s (same xl ∙ between-low j f))
+    (above-low ((xl +ℤ pos 1) +ℤ k .add) (j .low) (j .high) (j .low +ℤ pos 1) (omega (zed, add-law (j .low) (pos 1))) (same (xl +ℤ pos 1) ∙ up1)) in
+    λ i. record { add = a i; low = sym l i; high = sym h i }
+
+-- ---- mode 4: 0 gives q, and 1 gives m + q
+
+affine-zero : (k : Affine) → affine k (stampOf 0) ≡ k .plus
+affine-zero k = stamp-≡ (omega (arith, k .plus .small))
+
+cancel : (a b q : ℕ) → a < 2 ^ 32 → b < 2 ^ 32 → q < 2 ^ 32 → (a * 1 + q) % 2 ^ 32 ≡ (b * 1 + q) % 2 ^ 32 → a ≡ b
+cancel a b q h k l e = omega arith
+
+affine-one : (j k : Affine) → j .plus ≡ k .plus → affine j (stampOf 1) ≡ affine k (stampOf 1) → j .times ≡ k .times
+affine-one j k p e =
+    stamp-≡ (cancel (j .times .num) (k .times .num) (k .plus .num) (j .times .small) (k .times .small) (k .plus .small)
+    (ap (λ (s : Stamp). (j .times .num * 1 + s .num) % 2 ^ 32) (sym p) ∙ ap (λ (s : Stamp). s .num) e))
+
+pub affine-≡ : (j k : Affine) → ((x : Stamp) → affine j x ≡ affine k x) → j ≡ k
+affine-≡ j k e =
+    let p : j .plus ≡ k .plus = sym (affine-zero j) ∙ e (stampOf 0) ∙ affine-zero k in
+    let t : j .times ≡ k .times = affine-one j k p (e (stampOf 1)) in
+    λ i. record { times = t i; plus = p i }
+
+pub stamp-only : (ls : List (Level stamp)) (j k : Affine) → IsStampRun ls j → IsStampRun ls k → j ≡ k
+stamp-only ls j k p q = affine-≡ j k (λ x. p x ∙ sym (q x))
+
+abbrev pub stampPinned : Pinned stampContext
+stampPinned = record { Is = IsStampRun; is = run-is stampContext; only = stamp-only }

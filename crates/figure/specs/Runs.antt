@@ -1,0 +1,187 @@
+-- The contexts of the four modes: the numbers of one level, and of one run after another, so that `run-is` holds of each. Assumes nothing.
+use mathlib.Core.Path.{_≡_, refl, sym, ap, _∙_}
+use Prim.Native.Nat.{ℕ, _+_, _*_, _%_, _^_}
+use native.Mathlib.Omega.{arith}
+use lib.IntN.{ℤ, _+ℤ_, _-ℤ_, -ℤ-+ℤ-cancel, +ℤ-assoc, +ℤ-comm}
+use lib.Signed.{_≤ℤ_, ≤ℤ-refl}
+use Rattle.algebra.specs.Run.{Level, step, Context}
+use Rattle.number.specs.Integer.{maxZ, clamp}
+use Rattle.number.specs.IntegerLaws.{zed, add-law, view, diffs, diff-≡, +-mono, max-comm, max-assoc, max-+, clamp-+, clamp-clamp, clamp-mono, clamp-low, clamp-high, clamp-in}
+use Rattle.number.specs.Modulo.{mods}
+use Rattle.figure.specs.FourModes.{Amounts, InRange, net, heaviest, eaten, stamp, lift, lineOf, Stamp, stampOf}
+use Rattle.figure.specs.ModeLaws.{stamp-≡, stamp-node}
+use Rattle.figure.specs.Run.{Line, atLeast, along, Between, between, Affine, affine}
+use Rattle.figure.specs.declared.Held.{Held}
+use Rattle.figure.specs.declared.Held.the-variants.{Nothing, Figure}
+
++-left : (a b c : ℤ) → a +ℤ (b +ℤ c) ≡ b +ℤ (a +ℤ c)
++-left a b c = omega (zed, add-law b c, add-law a (b +ℤ c), add-law a c, add-law b (a +ℤ c))
+
+ruleset sums = (+ℤ-assoc, +ℤ-comm, +-left)
+
+-- ---- mode 1: x + a
+
+net-level : (v b c x : ℤ) → x +ℤ (v +ℤ (b +ℤ c)) ≡ v +ℤ ((b +ℤ x) +ℤ c)
+net-level v b c x = simp sums
+
+pub net-app : (l : Level net) (x : ℤ) → x +ℤ (l .carried .value +ℤ (l .before +ℤ l .after)) ≡ step net l x
+unfolding step
+net-app l x = net-level (l .carried .value) (l .before) (l .after) x
+
+pub net-after : (f g : ℤ) → Unit {0} → (x : ℤ) → x +ℤ (g +ℤ f) ≡ (x +ℤ g) +ℤ f
+net-after f g _ x = simp sums
+
+abbrev pub netContext : Context net InRange
+netContext = record {
+  K = ℤ;
+  apply = λ a x. x +ℤ a;
+  level = λ l. l .carried .value +ℤ (l .before +ℤ l .after);
+  compose = λ f g. g +ℤ f;
+  Fine = λ _. Unit {0};
+  level-fine = λ _ _. tt;
+  compose-fine = λ _ _ _ _. tt;
+  apply-level = net-app;
+  apply-compose = net-after;
+}
+
+-- ---- mode 2: z for nothing, else the greater of A and x + B
+
+unfoldable pub moved : Held → ℤ → Held
+moved Nothing v = Nothing
+moved (Figure a) v = Figure (a +ℤ v)
+
+abbrev pub lineLevel : Level heaviest → Line
+lineLevel l =
+    let s : Held = lift maxZ (l .before) (l .after) in
+    record { empty = lineOf (l .carried .value) s; other = moved s (l .carried .value); add = l .carried .value }
+
+abbrev pub lineAfter : Line → Line → Line
+lineAfter f g =
+    record {
+      empty = atLeast (f .other) (g .empty +ℤ f .add);
+      other = lift maxZ (f .other) (moved (g .other) (f .add));
+      add = g .add +ℤ f .add;
+    }
+
+at-least-twice : (A B : Held) (y b : ℤ) → atLeast (lift maxZ A (moved B b)) (y +ℤ b) ≡ atLeast A (atLeast B y +ℤ b)
+unfolding lift atLeast moved
+at-least-twice Nothing Nothing y b = refl
+at-least-twice Nothing (Figure c) y b = sym (max-+ c y b)
+at-least-twice (Figure a) Nothing y b = refl
+at-least-twice (Figure a) (Figure c) y b = max-assoc a (c +ℤ b) (y +ℤ b) ∙ ap (maxZ a) (sym (max-+ c y b))
+
+pub line-after : (f g : Line) → Unit {0} → (x : Held) → Figure (along (lineAfter f g) x) ≡ Figure (along f (Figure (along g x)))
+unfolding along
+line-after f g _ Nothing = refl
+line-after f g _ (Figure x) = ap Figure (ap (atLeast (lift maxZ (f .other) (moved (g .other) (f .add)))) (sym (+ℤ-assoc x (g .add) (f .add))) ∙ at-least-twice (f .other) (g .other) (x +ℤ g .add) (f .add))
+
+line-two : (v c x : ℤ) → maxZ (c +ℤ v) (x +ℤ v) ≡ v +ℤ maxZ x c
+line-two v c x = rw (view v, view c, view x) (simp diffs (diff-≡ _ _ _ _ (omega arith)))
+
+line-three : (v b c x : ℤ) → maxZ (maxZ b c +ℤ v) (x +ℤ v) ≡ v +ℤ maxZ (maxZ b x) c
+line-three v b c x = rw (view v, view b, view c, view x) (simp diffs (diff-≡ _ _ _ _ (omega arith)))
+
+line-at : (b c x : Held) (r : Amounts) → along (record { empty = lineOf (r .value) (lift maxZ b c); other = moved (lift maxZ b c) (r .value); add = r .value }) x ≡ lineOf (r .value) (lift maxZ (lift maxZ b x) c)
+unfolding lift atLeast moved along lineOf
+line-at Nothing c Nothing r = refl
+line-at (Figure b) c Nothing r = refl
+line-at Nothing Nothing (Figure x) r = +ℤ-comm x (r .value)
+line-at Nothing (Figure c) (Figure x) r = line-two (r .value) c x
+line-at (Figure b) Nothing (Figure x) r = line-two (r .value) b x ∙ ap (λ (m : ℤ). r .value +ℤ m) (max-comm x b)
+line-at (Figure b) (Figure c) (Figure x) r = line-three (r .value) b c x
+
+pub line-app : (l : Level heaviest) (x : Held) → Figure (along (lineLevel l) x) ≡ step heaviest l x
+unfolding step
+line-app l x = ap Figure (line-at (l .before) (l .after) x (l .carried))
+
+abbrev pub heaviestContext : Context heaviest InRange
+heaviestContext = record {
+  K = Line;
+  apply = λ k x. Figure (along k x);
+  level = lineLevel;
+  compose = lineAfter;
+  Fine = λ _. Unit {0};
+  level-fine = λ _ _. tt;
+  compose-fine = λ _ _ _ _. tt;
+  apply-level = line-app;
+  apply-compose = line-after;
+}
+
+-- ---- mode 3: x + a held between l and h
+
+abbrev pub betweenAfter : Between → Between → Between
+betweenAfter f g = record { add = g .add +ℤ f .add; low = between f (g .low); high = between f (g .high) }
+
+pub between-after : (f g : Between) → g .low ≤ℤ g .high → (x : ℤ) → between (betweenAfter f g) x ≡ between f (between g x)
+between-after f g p x = sym
+    (ap (λ (y : ℤ). clamp y (f .low) (f .high)) (clamp-+ (x +ℤ g .add) (g .low) (g .high) (f .add))
+    ∙ clamp-clamp ((x +ℤ g .add) +ℤ f .add) (g .low +ℤ f .add) (g .high +ℤ f .add) (f .low) (f .high) (+-mono p (omega zed))
+    ∙ ap (λ (y : ℤ). clamp y (between f (g .low)) (between f (g .high))) (+ℤ-assoc x (g .add) (f .add)))
+
+pub between-fine : (f g : Between) → f .low ≤ℤ f .high → g .low ≤ℤ g .high → between f (g .low) ≤ℤ between f (g .high)
+between-fine f g _ p = clamp-mono _ _ _ _ (+-mono p (omega zed))
+
+pub eaten-app : (l : Level eaten) (x : ℤ) → clamp (x +ℤ (l .carried .value +ℤ (l .before +ℤ l .after))) (l .carried .floor) (l .carried .ceiling) ≡ step eaten l x
+unfolding step
+eaten-app l x = ap (λ (y : ℤ). clamp y (l .carried .floor) (l .carried .ceiling)) (net-level (l .carried .value) (l .before) (l .after) x)
+
+-- low and high are the ends of what a run of mode 3 can give: it gives nothing beyond them, and it gives both
+pub between-ends : (k : Between) → k .low ≤ℤ k .high → (x : ℤ) → (k .low ≤ℤ between k x) × (between k x ≤ℤ k .high)
+between-ends k p x = (clamp-low (x +ℤ k .add) (k .low) (k .high) p, clamp-high (x +ℤ k .add) (k .low) (k .high))
+
+pub between-low : (k : Between) → k .low ≤ℤ k .high → between k (k .low -ℤ k .add) ≡ k .low
+between-low k p = ap (λ (y : ℤ). clamp y (k .low) (k .high)) (-ℤ-+ℤ-cancel (k .low) (k .add)) ∙ clamp-in (k .low) (k .low) (k .high) (≤ℤ-refl (k .low)) p
+
+pub between-high : (k : Between) → k .low ≤ℤ k .high → between k (k .high -ℤ k .add) ≡ k .high
+between-high k p = ap (λ (y : ℤ). clamp y (k .low) (k .high)) (-ℤ-+ℤ-cancel (k .high) (k .add)) ∙ clamp-in (k .high) (k .low) (k .high) p (≤ℤ-refl (k .high))
+
+abbrev pub betweenLevel : Amounts → ℤ → ℤ → Between
+betweenLevel r b c = record { add = r .value +ℤ (b +ℤ c); low = r .floor; high = r .ceiling }
+
+abbrev pub eatenContext : Context eaten InRange
+eatenContext = record {
+  K = Between;
+  apply = between;
+  level = λ l. betweenLevel (l .carried) (l .before) (l .after);
+  compose = betweenAfter;
+  Fine = λ k. k .low ≤ℤ k .high;
+  level-fine = λ l s. s .ordered;
+  compose-fine = between-fine;
+  apply-level = eaten-app;
+  apply-compose = between-after;
+}
+
+-- ---- mode 4: m x + q modulo 2^32
+
+abbrev pub affineLevel : Level stamp → Affine
+affineLevel l = record { times = stampOf 31; plus = stamp .node (l .carried) (stamp ._⊗_ (l .before) (l .after)) }
+
+abbrev pub affineAfter : Affine → Affine → Affine
+affineAfter f g =
+    record {
+      times = stampOf (f .times .num * g .times .num);
+      plus = stampOf (f .times .num * g .plus .num + f .plus .num);
+    }
+
+pub affine-after : (f g : Affine) → Unit {0} → (x : Stamp) → affine (affineAfter f g) x ≡ affine f (affine g x)
+affine-after f g _ x = stamp-≡ (simp mods (ap (λ (y : ℕ). y % 2 ^ 32) (omega arith)))
+
+pub affine-app : (l : Level stamp) (x : Stamp) → affine (affineLevel l) x ≡ step stamp l x
+unfolding step
+affine-app l x =
+    ap (λ q. affine (record { times = stampOf 31; plus = q }) x) (stamp-node (l .carried) (stamp ._⊗_ (l .before) (l .after)))
+    ∙ stamp-≡ (simp mods (ap (λ (y : ℕ). y % 2 ^ 32) (omega arith)))
+    ∙ sym (stamp-node (l .carried) (stamp ._⊗_ (stamp ._⊗_ (l .before) x) (l .after)))
+
+abbrev pub stampContext : Context stamp InRange
+stampContext = record {
+  K = Affine;
+  apply = affine;
+  level = affineLevel;
+  compose = affineAfter;
+  Fine = λ _. Unit {0};
+  level-fine = λ _ _. tt;
+  compose-fine = λ _ _ _ _. tt;
+  apply-level = affine-app;
+  apply-compose = affine-after;
+}

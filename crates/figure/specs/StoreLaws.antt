@@ -1,0 +1,92 @@
+-- What is stored is read back, and fits 64 bits: figures, and the numbers of a run. Assumes nothing.
+use mathlib.Core.Path.{_≡_, refl, sym, ap}
+use mathlib.Core.Bool.{Bool, true, false}
+use Prim.Native.Nat.{ℕ, _^_, _≤_, _<_}
+use native.Mathlib.Nat.{mod-eq-of-lt}
+use native.Mathlib.Omega.{arith}
+use lib.Dec.{T, eqb, eqb→eq, lit<}
+use borrow.Author.Tests.{ne-eqb}
+use lib.IntN.{ℤ, pos, negsuc, natAbs}
+use mir.Syntax.{w64}
+use mir.Val.{SFits}
+use Rattle.number.specs.IntegerLaws.{sfits-abs}
+use Rattle.figure.specs.FourModes.{Stamp, nothing, storeHeld, readHeld, heldIf, storeStamp, readStamp}
+use Rattle.figure.specs.ModeLaws.{stamp-≡}
+use Rattle.figure.specs.Run.{netRun, Line, heaviestRun, Between, eatenRun, Affine, stampRun}
+use Rattle.figure.specs.Bound.{sizeHeld, LineIn, BetweenIn}
+use Rattle.figure.specs.declared.Held.{Held}
+use Rattle.figure.specs.declared.Held.the-variants.{Nothing, Figure}
+use Rattle.figure.specs.declared.Run.{Run}
+
+-- ---- figures
+
+pub read-figure : (z : ℤ) → (z ≡ nothing → ⊥) → readHeld z ≡ Figure z
+unfolding readHeld
+read-figure (pos n) h = refl
+read-figure (negsuc n) h = ap (λ (t : Bool). heldIf t (negsuc n)) (ne-eqb n 9223372036854775807 (λ e. h (ap negsuc e)))
+
+-- every number is what it stores
+pub held-stored : (z : ℤ) → storeHeld (readHeld z) ≡ z
+unfolding storeHeld readHeld
+held-stored (pos n) = refl
+held-stored (negsuc n) = go (eqb n 9223372036854775807) (λ t. eqb→eq n 9223372036854775807 t)
+  where
+    go : (t : Bool) → (T t → n ≡ 9223372036854775807) → storeHeld (heldIf t (negsuc n)) ≡ negsuc n
+    go true h = ap negsuc (sym (h tt))
+    go false h = refl
+
+pub held-back : (h : Held) → sizeHeld h < 2 ^ 63 → readHeld (storeHeld h) ≡ h
+unfolding sizeHeld readHeld storeHeld
+held-back Nothing p = refl
+held-back (Figure z) p = read-figure z (λ e. omega (arith, ap natAbs e))
+
+pub held-fits : (h : Held) → sizeHeld h < 2 ^ 63 → SFits w64 (storeHeld h)
+unfolding sizeHeld storeHeld
+held-fits Nothing p = record { sfits = lit< tt }
+held-fits (Figure z) p = sfits-abs w64 z p
+
+pub stamp-back : (s : Stamp) → readStamp (storeStamp s) ≡ s
+stamp-back s = stamp-≡ (mod-eq-of-lt (s .small))
+
+pub stamp-fits : (s : Stamp) → SFits w64 (storeStamp s)
+stamp-fits s = record { sfits = omega (arith, s .small) }
+
+-- ---- runs
+
+abbrev pub readNetRun : Run → ℤ
+readNetRun k = k .first
+
+abbrev pub readHeaviestRun : Run → Line
+readHeaviestRun k = record { empty = k .first; other = readHeld (k .second); add = k .third }
+
+abbrev pub readEatenRun : Run → Between
+readEatenRun k = record { add = k .first; low = k .second; high = k .third }
+
+abbrev pub readStampRun : Run → Affine
+readStampRun k = record { times = readStamp (k .first); plus = readStamp (k .second) }
+
+pub record RunFits (k : Run) : Type 0 where
+  pub first-fits : SFits w64 (k .first)
+  pub second-fits : SFits w64 (k .second)
+  pub third-fits : SFits w64 (k .third)
+
+zero-fits : SFits w64 (pos 0)
+zero-fits = record { sfits = lit< tt }
+
+pub net-run-fits : (a : ℤ) (n : ℕ) → natAbs a ≤ n → n < 2 ^ 63 → RunFits (netRun a)
+net-run-fits a n h l = record { first-fits = sfits-abs w64 a (omega arith); second-fits = zero-fits; third-fits = zero-fits }
+
+pub line-back : (k : Line) (n : ℕ) → LineIn k n → n < 2 ^ 63 → readHeaviestRun (heaviestRun k) ≡ k
+line-back k n h l = λ i. record { empty = k .empty; other = held-back (k .other) (omega arith) i; add = k .add }
+
+pub line-run-fits : (k : Line) (n : ℕ) → LineIn k n → n < 2 ^ 63 → RunFits (heaviestRun k)
+line-run-fits k n h l = record { first-fits = sfits-abs w64 (k .empty) (omega arith); second-fits = held-fits (k .other) (omega arith); third-fits = sfits-abs w64 (k .add) (omega arith) }
+
+pub between-run-fits : (k : Between) (n : ℕ) → BetweenIn k n → n < 2 ^ 63 → RunFits (eatenRun k)
+between-run-fits k n h l = record { first-fits = sfits-abs w64 (k .add) (omega arith); second-fits = sfits-abs w64 (k .low) (omega arith); third-fits = sfits-abs w64 (k .high) (omega arith) }
+
+pub affine-back : (k : Affine) → readStampRun (stampRun k) ≡ k
+affine-back k = λ i. record { times = stamp-back (k .times) i; plus = stamp-back (k .plus) i }
+
+pub affine-run-fits : (k : Affine) → RunFits (stampRun k)
+affine-run-fits k = record { first-fits = stamp-fits (k .times); second-fits = stamp-fits (k .plus); third-fits = zero-fits }

@@ -1,0 +1,200 @@
+-- The operations on stored numbers, and their laws, the same for each mode. Assumes nothing.
+use mathlib.Core.Path.{_≡_, sym, ap, _∙_, subst}
+use Prim.Native.Nat.{ℕ, _+_, _^_, _≤_, _<_}
+use native.Mathlib.Omega.{arith}
+use lib.IntN.{ℤ, natAbs}
+use mir.Syntax.{w64}
+use mir.Val.{SFits}
+use Rattle.algebra.specs.Run.{Level}
+use Rattle.algebra.specs.Sizes.{cost}
+use Rattle.figure.specs.FourModes.{Amounts, limit, InRange}
+use Rattle.figure.specs.StoreLaws.{RunFits}
+use Rattle.figure.specs.Mode.{Mode}
+use Rattle.figure.specs.declared.Run.{Run}
+
+-- ---- definitions
+
+-- a number that stands for a figure: any in modes 1 to 3, 0 to 2^32 - 1 in mode 4
+unfoldable pub IsStored : Mode → ℤ → Type 0
+IsStored M z = M .store (M .read z) ≡ z
+
+-- what it counts in document 01's bound
+unfoldable pub sizeOf : Mode → ℤ → ℕ
+sizeOf M z = M .sizes .size (M .read z)
+
+-- nothing held; two figures combined; a figure through a record
+unfoldable pub none : Mode → ℤ
+none M = M .store (M .algebra .ι)
+
+unfoldable pub combined : Mode → ℤ → ℤ → ℤ
+combined M a b = M .store (M .algebra ._⊗_ (M .read a) (M .read b))
+
+unfoldable pub passed : Mode → Amounts → ℤ → ℤ
+passed M r h = M .store (M .algebra .node r (M .read h))
+
+abbrev pub amounts : ℤ → ℤ → ℤ → Amounts
+amounts v f c = record { value = v; floor = f; ceiling = c }
+
+-- the run of one level: a record, with the figures that it holds before the inner part and after it
+abbrev pub levelOf : (M : Mode) → Amounts → ℤ → ℤ → Level (M .algebra)
+levelOf M r b a = record { carried = r; before = M .read b; after = M .read a }
+
+unfoldable pub levelRun : Mode → Amounts → ℤ → ℤ → Run
+levelRun M r b a = M .storeRun (M .context .level (levelOf M r b a))
+
+-- the run f around the run g
+unfoldable pub runAfter : Mode → Run → Run → Run
+runAfter M f g = M .storeRun (M .context .compose (M .readRun f) (M .readRun g))
+
+unfoldable pub IsRun : Mode → Run → Type 0
+IsRun M k = M .storeRun (M .readRun k) ≡ k
+
+-- each number of the run is at most n, nothing counting 0
+unfoldable pub RunWithin : Mode → Run → ℕ → Type 0
+RunWithin M k n = M .runSizes .Within (M .readRun k) n
+
+-- ---- what the functions ask
+
+pub record Combines (M : Mode) (a b : ℤ) : Type 0 where
+  pub first : IsStored M a
+  pub second : IsStored M b
+  pub room : sizeOf M a + sizeOf M b < 2 ^ 63
+
+pub record Passes (M : Mode) (v h : ℤ) : Type 0 where
+  pub stored : IsStored M h
+  pub room : natAbs v + sizeOf M h < 2 ^ 63
+
+pub record Levels (M : Mode) (v b a : ℤ) : Type 0 where
+  pub first : IsStored M b
+  pub second : IsStored M a
+  pub room : natAbs v + (sizeOf M b + sizeOf M a) < 2 ^ 63
+
+pub record Composes (M : Mode) (f g : Run) : Type 0 where
+  pub outer : ℕ
+  pub inner : ℕ
+  pub outer-run : IsRun M f
+  pub inner-run : IsRun M g
+  pub outer-within : RunWithin M f outer
+  pub inner-within : RunWithin M g inner
+  pub room : outer + inner < 2 ^ 63
+
+-- ---- nothing held
+
+module _ (M : Mode) where
+  none-small : M .sizes .size (M .algebra .ι) < 2 ^ 63
+  none-small = omega (arith, M .sizes .size-ι)
+
+  pub none-read : M .read (none M) ≡ M .algebra .ι
+  unfolding none
+  none-read = M .read-back (M .algebra .ι) none-small
+
+  pub none-size : sizeOf M (none M) ≡ 0
+  unfolding sizeOf
+  none-size = ap (M .sizes .size) none-read ∙ M .sizes .size-ι
+
+  pub none-stored : IsStored M (none M)
+  unfolding IsStored none
+  none-stored = ap (M .store) (M .read-back (M .algebra .ι) none-small)
+
+  pub none-fits : SFits w64 (none M)
+  unfolding none
+  none-fits = M .store-fits (M .algebra .ι) none-small
+
+-- ---- two figures combined
+
+module _ (M : Mode) (a b : ℤ) (room : sizeOf M a + sizeOf M b < 2 ^ 63) where
+  combined-small : M .sizes .size (M .algebra ._⊗_ (M .read a) (M .read b)) < 2 ^ 63
+  unfolding sizeOf
+  combined-small = omega (arith, M .sizes .size-⊗ (M .read a) (M .read b), room)
+
+  -- read back, it is the two figures combined
+  pub combined-read : M .read (combined M a b) ≡ M .algebra ._⊗_ (M .read a) (M .read b)
+  unfolding combined
+  combined-read = M .read-back _ combined-small
+
+  pub combined-size : sizeOf M (combined M a b) ≤ sizeOf M a + sizeOf M b
+  unfolding sizeOf
+  combined-size = subst (λ v. M .sizes .size v ≤ sizeOf M a + sizeOf M b) (sym combined-read) (M .sizes .size-⊗ (M .read a) (M .read b))
+
+  pub combined-stored : IsStored M (combined M a b)
+  unfolding IsStored combined
+  combined-stored = ap (M .store) (M .read-back _ combined-small)
+
+  pub combined-fits : SFits w64 (combined M a b)
+  unfolding combined
+  combined-fits = M .store-fits _ combined-small
+
+-- ---- a figure through a record
+
+module _ (M : Mode) (r : Amounts) (h : ℤ) (in-range : InRange r) (room : limit + sizeOf M h < 2 ^ 63) where
+  passed-small : M .sizes .size (M .algebra .node r (M .read h)) < 2 ^ 63
+  unfolding sizeOf
+  passed-small = omega (arith, M .sizes .size-node r (M .read h) in-range, M .unit-small, room)
+
+  pub passed-read : M .read (passed M r h) ≡ M .algebra .node r (M .read h)
+  unfolding passed
+  passed-read = M .read-back _ passed-small
+
+  pub passed-size : sizeOf M (passed M r h) ≤ M .sizes .unit + sizeOf M h
+  unfolding sizeOf
+  passed-size = subst (λ v. M .sizes .size v ≤ M .sizes .unit + sizeOf M h) (sym passed-read) (M .sizes .size-node r (M .read h) in-range)
+
+  pub passed-stored : IsStored M (passed M r h)
+  unfolding IsStored passed
+  passed-stored = ap (M .store) (M .read-back _ passed-small)
+
+  pub passed-fits : SFits w64 (passed M r h)
+  unfolding passed
+  passed-fits = M .store-fits _ passed-small
+
+  pub passes : IsStored M h → Passes M (r .value) h
+  passes s = record { stored = s; room = omega (arith, in-range .value-in) }
+
+-- ---- the run of one level
+
+module _ (M : Mode) (r : Amounts) (b a : ℤ) (in-range : InRange r) (room : limit + (sizeOf M b + sizeOf M a) < 2 ^ 63) where
+  level-small : cost (M .sizes) (levelOf M r b a) < 2 ^ 63
+  unfolding sizeOf
+  level-small = omega (arith, M .unit-small, room)
+
+  pub levelRun-read : M .readRun (levelRun M r b a) ≡ M .context .level (levelOf M r b a)
+  unfolding levelRun
+  levelRun-read = M .run-back _ _ (M .runSizes .within-level (levelOf M r b a) in-range) level-small
+
+  pub levelRun-within : RunWithin M (levelRun M r b a) (M .sizes .unit + (sizeOf M b + sizeOf M a))
+  unfolding RunWithin sizeOf
+  levelRun-within = subst (λ k. M .runSizes .Within k (cost (M .sizes) (levelOf M r b a))) (sym levelRun-read) (M .runSizes .within-level (levelOf M r b a) in-range)
+
+  pub levelRun-is : IsRun M (levelRun M r b a)
+  unfolding IsRun levelRun
+  levelRun-is = ap (M .storeRun) (M .run-back _ _ (M .runSizes .within-level (levelOf M r b a) in-range) level-small)
+
+  pub levelRun-fits : RunFits (levelRun M r b a)
+  unfolding levelRun
+  levelRun-fits = M .run-fits _ _ (M .runSizes .within-level (levelOf M r b a) in-range) level-small
+
+  pub levels : IsStored M b → IsStored M a → Levels M (r .value) b a
+  levels s t = record { first = s; second = t; room = omega (arith, in-range .value-in) }
+
+-- ---- one run around another
+
+module _ (M : Mode) (f g : Run) (c : Composes M f g) where
+  both-within : M .runSizes .Within (M .context .compose (M .readRun f) (M .readRun g)) (c .outer + c .inner)
+  unfolding RunWithin
+  both-within = M .runSizes .within-compose _ _ (c .outer) (c .inner) (c .outer-within) (c .inner-within)
+
+  pub runAfter-read : M .readRun (runAfter M f g) ≡ M .context .compose (M .readRun f) (M .readRun g)
+  unfolding runAfter
+  runAfter-read = M .run-back _ _ both-within (c .room)
+
+  pub runAfter-within : RunWithin M (runAfter M f g) (c .outer + c .inner)
+  unfolding RunWithin
+  runAfter-within = subst (λ k. M .runSizes .Within k (c .outer + c .inner)) (sym runAfter-read) both-within
+
+  pub runAfter-is : IsRun M (runAfter M f g)
+  unfolding IsRun runAfter
+  runAfter-is = ap (M .storeRun) (M .run-back _ _ both-within (c .room))
+
+  pub runAfter-fits : RunFits (runAfter M f g)
+  unfolding runAfter
+  runAfter-fits = M .run-fits _ _ both-within (c .room)
