@@ -2,7 +2,9 @@
 use mathlib.Core.Path.{_≡_, refl, ap, sym, _∙_}
 use mathlib.Core.List.{List, [], _∷_, _++_}
 use Rattle.algebra.specs.Algebra.{Algebra}
-use Rattle.hill.specs.Hill.{Item, enter, leave, Hill, hill, push, empty, join, close, step, run, hillOf, closes, merge}
+use Rattle.hill.specs.Log.{Record, opening, closing}
+use Rattle.hill.specs.Summary.{Hill, hill}
+use Rattle.hill.specs.Building.{push, empty, join, close, step, run, hillOf, closes, merge}
 
 pub record Hom {R : Type 0} (𝒜 ℬ : Algebra R) : Type 0 where
   pub φ : 𝒜 .Fig → ℬ .Fig
@@ -41,17 +43,17 @@ module _ {R : Type 0} (𝒜 ℬ : Algebra R) (ℋ : Hom 𝒜 ℬ) where
   map-close (hill u m []) = rw φ-ι
   map-close (hill u m (e ∷ d)) = map-join (𝒜 .node (e .0) (e .1)) (hill u m d) ∙ rw (φ-node (e .0) (e .1))
 
-  map-step : (a : Hill (𝒜 .Fig) R) (i : Item R) → mapHill φ (step 𝒜 a i) ≡ step ℬ (mapHill φ a) i
-  map-step (hill u m d) (enter r) = rw φ-ι
-  map-step a leave = map-close a
+  map-step : (a : Hill (𝒜 .Fig) R) (x : Record R) → mapHill φ (step 𝒜 a x) ≡ step ℬ (mapHill φ a) x
+  map-step (hill u m d) (opening c r) = rw φ-ι
+  map-step a (closing c) = map-close a
 
-  pub map-run : (a : Hill (𝒜 .Fig) R) (is : List (Item R)) → mapHill φ (run 𝒜 a is) ≡ run ℬ (mapHill φ a) is
+  pub map-run : (a : Hill (𝒜 .Fig) R) (xs : List (Record R)) → mapHill φ (run 𝒜 a xs) ≡ run ℬ (mapHill φ a) xs
   map-run a [] = refl
-  map-run a (i ∷ is) = map-run (step 𝒜 a i) is ∙ rw (map-step a i)
+  map-run a (x ∷ xs) = map-run (step 𝒜 a x) xs ∙ rw (map-step a x)
 
   -- The hill of a chunk.
-  pub map-hillOf : (is : List (Item R)) → mapHill φ (hillOf 𝒜 is) ≡ hillOf ℬ is
-  map-hillOf is = map-run (empty 𝒜) is ∙ rw φ-ι
+  pub map-hillOf : (xs : List (Record R)) → mapHill φ (hillOf 𝒜 xs) ≡ hillOf ℬ xs
+  map-hillOf xs = map-run (empty 𝒜) xs ∙ rw φ-ι
 
   map-closes : (a : Hill (𝒜 .Fig) R) (u : List (𝒜 .Fig)) → mapHill φ (closes 𝒜 a u) ≡ closes ℬ (mapHill φ a) (mapUp φ u)
   map-closes a [] = refl

@@ -5,10 +5,14 @@ use Prim.Native.Nat.{ℕ, suc, _+_, _≤_, min}
 use native.Mathlib.Nat.{add-zero, add-suc}
 use native.Mathlib.Omega.{arith}
 use lib.ListN.{length}
-use Rattle.hill.specs.Hill.{Item, Hill, hill, push, empty, join, close, step, run, hillOf}
-use Rattle.hill.specs.Log.{Record, opening, closing, depth, startLevel, endLevel, itemOf, items, endOf}
-use Rattle.hill.specs.Summary.{rise, fall, middle, fall-join, rise-join}
-use Rattle.hill.specs.Tree.{Forest, nil, tree, beside, write, write-beside, free, free-laws, hillOf-write, value-free}
+use Rattle.hill.specs.Verdict.{pass, low, between}
+use Rattle.hill.specs.VerdictLaws.{low-fst, low-snd, between-pass}
+use Rattle.hill.specs.Log.{Record, opening, closing, depth, startLevel, endLevel, endOf, peakOf, joints}
+use Rattle.hill.specs.Tree.{Forest, nil, tree, write}
+use Rattle.hill.specs.Summary.{Hill, hill, rise, fall, middle}
+use Rattle.hill.specs.Building.{push, empty, join, close, step, run, hillOf}
+use Rattle.hill.specs.Slopes.{fall-join, rise-join}
+use Rattle.hill.specs.TreeLaws.{beside, write-beside, free, free-laws, hillOf-write, value-free}
 
 module _ {R : Type 0} where
   -- The records of the left slope over peak p, and of the right slope.
@@ -28,7 +32,7 @@ module _ {R : Type 0} where
   spell-join p w (hill u m (e ∷ d)) = simp (write-beside, append-assoc, add-suc)
 
   -- One record more.
-  spell-step : (p : ℕ) (a : Hill (Forest R) R) (x : Record R) → p + fall a ≡ startLevel x → spell (min p (depth x)) (step (free R) a (itemOf x)) ≡ spell p a ++ (x ∷ [])
+  spell-step : (p : ℕ) (a : Hill (Forest R) R) (x : Record R) → p + fall a ≡ startLevel x → spell (min p (depth x)) (step (free R) a x) ≡ spell p a ++ (x ∷ [])
   spell-step p (hill u m d) (opening c r) l =
       let q : min p c ≡ p = omega arith in
       let k : c ≡ p + length d = omega arith in
@@ -42,12 +46,12 @@ module _ {R : Type 0} where
       let k : c ≡ p + length d = omega arith in
       rw (q, k) (spell-join p (tree (e .0) (e .1) nil) (hill u m d) ∙ simp append-assoc)
 
-  rise-step : (p : ℕ) (a : Hill (Forest R) R) (x : Record R) → p + fall a ≡ startLevel x → min p (depth x) + rise (step (free R) a (itemOf x)) ≡ p + rise a
+  rise-step : (p : ℕ) (a : Hill (Forest R) R) (x : Record R) → p + fall a ≡ startLevel x → min p (depth x) + rise (step (free R) a x) ≡ p + rise a
   rise-step p (hill u m d) (opening c r) l = omega arith
   rise-step p (hill u m []) (closing c) l = omega arith
   rise-step p (hill u m (e ∷ d)) (closing c) l = rw (rise-join (free R) (tree (e .0) (e .1) nil) (hill u m d)) (omega arith)
 
-  fall-step : (p : ℕ) (a : Hill (Forest R) R) (x : Record R) → p + fall a ≡ startLevel x → min p (depth x) + fall (step (free R) a (itemOf x)) ≡ endLevel x
+  fall-step : (p : ℕ) (a : Hill (Forest R) R) (x : Record R) → p + fall a ≡ startLevel x → min p (depth x) + fall (step (free R) a x) ≡ endLevel x
   fall-step p (hill u m d) (opening c r) l = omega arith
   fall-step p (hill u m []) (closing c) l = omega arith
   fall-step p (hill u m (e ∷ d)) (closing c) l = rw (fall-join (free R) (tree (e .0) (e .1) nil) (hill u m d)) (omega arith)
@@ -67,17 +71,17 @@ module _ {R : Type 0} where
 
   -- A hill grows by just the records that it is run on.
   pub spell-run : (p : ℕ) (a : Hill (Forest R) R) (xs : List (Record R)) → Meets (p + fall a) xs →
-      (spell (peakFrom p xs) (run (free R) a (items xs)) ≡ spell p a ++ xs) ×
-      (peakFrom p xs + rise (run (free R) a (items xs)) ≡ p + rise a) ×
-      (peakFrom p xs + fall (run (free R) a (items xs)) ≡ endFrom (p + fall a) xs)
+      (spell (peakFrom p xs) (run (free R) a xs) ≡ spell p a ++ xs) ×
+      (peakFrom p xs + rise (run (free R) a xs) ≡ p + rise a) ×
+      (peakFrom p xs + fall (run (free R) a xs) ≡ endFrom (p + fall a) xs)
   spell-run p a [] k = (sym (append-nil (spell p a)), refl, refl)
   spell-run p a (x ∷ xs) k =
-      let ih = spell-run (min p (depth x)) (step (free R) a (itemOf x)) xs (rw (fall-step p a x (k .0)) (k .1)) in
+      let ih = spell-run (min p (depth x)) (step (free R) a x) xs (rw (fall-step p a x (k .0)) (k .1)) in
       (ih .0 ∙ rw (spell-step p a x (k .0)) (append-assoc (spell p a) (x ∷ []) xs), ih .1 ∙ rise-step p a x (k .0), ih .2 ∙ rw (fall-step p a x (k .0)))
 
   -- The forest of a log.
   abbrev pub treeOf : List (Record R) → Forest R
-  treeOf log = middle (hillOf (free R) (items log))
+  treeOf log = middle (hillOf (free R) log)
 
   -- A hill with no slopes, over level 0.
   flat : (p : ℕ) (a : Hill (Forest R) R) (log : List (Record R)) → spell p a ≡ log → p + rise a ≡ 0 → p + fall a ≡ 0 → write 0 (middle a) ≡ log
@@ -91,8 +95,43 @@ module _ {R : Type 0} where
   pub write-treeOf : (log : List (Record R)) → Meets 0 log → endFrom 0 log ≡ 0 → write 0 (treeOf log) ≡ log
   write-treeOf log k e =
       let t = spell-run 0 (empty (free R)) log k in
-      flat (peakFrom 0 log) (hillOf (free R) (items log)) log (t .0) (t .1) (t .2 ∙ e)
+      flat (peakFrom 0 log) (hillOf (free R) log) log (t .0) (t .1) (t .2 ∙ e)
 
   -- .. and of no other.
   pub treeOf-write : (d : ℕ) (f : Forest R) → treeOf (write d f) ≡ f
   treeOf-write d f = rw (hillOf-write (free R) (free-laws R) d f) (value-free f)
+
+  -- Records between which nothing is at fault meet in level.
+  pub joints-meet : (x : Record R) (xs : List (Record R)) → joints x xs ≡ pass → Meets (endLevel x) xs
+  joints-meet x [] v = tt
+  joints-meet x (y ∷ ys) v = (
+    between-pass (endLevel x) (startLevel y) (low-fst (between (endLevel x) (startLevel y)) (joints y ys) v),
+    joints-meet y ys (low-snd (between (endLevel x) (startLevel y)) (joints y ys) v),
+  )
+
+  pub end-from : (x : Record R) (xs : List (Record R)) → endFrom (endLevel x) xs ≡ endOf x xs
+  end-from x [] = refl
+  end-from x (y ∷ ys) = end-from y ys
+
+  peak-from : (p : ℕ) (x : Record R) (xs : List (Record R)) → peakFrom p (x ∷ xs) ≡ min p (peakOf x xs)
+  peak-from p x [] = refl
+  peak-from p x (y ∷ ys) = peak-from (min p (depth x)) y ys ∙ omega arith
+
+  depth-start : (x : Record R) → depth x ≤ startLevel x
+  depth-start (opening d r) = omega arith
+  depth-start (closing d) = omega arith
+
+  peak-depth : (x : Record R) (xs : List (Record R)) → peakOf x xs ≤ depth x
+  peak-depth x [] = omega arith
+  peak-depth x (y ∷ ys) = omega arith
+
+  -- A chunk whose records meet is spelt by its hill in the algebra of forests, over the lowest level it reaches, between its start and its end level.
+  pub chunk-spelt : (x : Record R) (xs : List (Record R)) → joints x xs ≡ pass →
+      (spell (peakOf x xs) (hillOf (free R) (x ∷ xs)) ≡ x ∷ xs) ×
+      (peakOf x xs + rise (hillOf (free R) (x ∷ xs)) ≡ startLevel x) ×
+      (peakOf x xs + fall (hillOf (free R) (x ∷ xs)) ≡ endOf x xs)
+  chunk-spelt x xs v =
+      let t = spell-run (startLevel x) (empty (free R)) (x ∷ xs) (add-zero (startLevel x), joints-meet x xs v) in
+      let k : peakOf x xs ≡ peakFrom (startLevel x) (x ∷ xs) = sym (peak-from (startLevel x) x xs ∙ omega (arith, depth-start x, peak-depth x xs)) in
+      let h : Hill (Forest R) R = hillOf (free R) (x ∷ xs) in
+      (ap (λ (p : ℕ). spell p h) k ∙ t .0, ap (λ (p : ℕ). p + rise h) k ∙ t .1 ∙ add-zero (startLevel x), ap (λ (p : ℕ). p + fall h) k ∙ t .2 ∙ end-from x xs)

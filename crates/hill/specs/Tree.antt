@@ -1,77 +1,24 @@
--- Trees, their figure by an algebra, and the log that a traversal writes. Assumes nothing.
-use mathlib.Core.Path.{_≡_, refl, ap, sym, _∙_}
-use mathlib.Core.List.{List, [], _∷_, _++_, append-assoc, append-nil}
-use Prim.Native.Nat.{ℕ, suc, _+_}
-use Rattle.algebra.specs.Algebra.{Algebra, Laws}
-use Rattle.hill.specs.Hill.{Item, Hill, hill, push, empty, join, close, step, run, hillOf, run-append, join-unit, join-join}
-use Rattle.hill.specs.Map.{Hom, mapHill, map-hillOf}
-use Rattle.hill.specs.Log.{Record, opening, closing, items, items-append}
+-- The recursion of METR 2006-64: rose trees, their traversal and their figure. Definitions only.
+use mathlib.Core.List.{List, [], _∷_, _++_}
+use Prim.Native.Nat.{ℕ, suc}
+use Rattle.algebra.specs.Algebra.{Algebra}
+use Rattle.hill.specs.Log.{Record, opening, closing}
 
--- Trees side by side: none, or a first one, with what it holds, and the rest.
+-- "RTree α = Node α [RTree α]". Trees side by side: none, or a first one (its root r, its subtrees k) and the rest.
 pub data Forest (R : Type 0) : Type 0 where
   nil : Forest R
   tree : R → Forest R → Forest R → Forest R
 
-module _ {R : Type 0} where
-  abbrev pub beside : Forest R → Forest R → Forest R
-  beside nil g = g
-  beside (tree r k f) g = tree r k (beside f g)
-
-  pub beside-nil : (f : Forest R) → beside f nil ≡ f
-  beside-nil nil = refl
-  beside-nil (tree r k f) = rw (beside-nil f)
-
-  pub beside-assoc : (f g h : Forest R) → beside (beside f g) h ≡ beside f (beside g h)
-  beside-assoc nil g h = refl
-  beside-assoc (tree r k f) g h = rw (beside-assoc f g h)
-
-  -- The log of a forest whose trees stand at depth d.
-  abbrev pub write : ℕ → Forest R → List (Record R)
-  write d nil = []
-  write d (tree r k f) = opening d r ∷ (write (suc d) k ++ (closing d ∷ write d f))
-
-  pub write-beside : (d : ℕ) (f g : Forest R) → write d (beside f g) ≡ write d f ++ write d g
-  write-beside d nil g = refl
-  write-beside d (tree r k f) g = rw (write-beside d f g, append-assoc (write (suc d) k) (closing d ∷ write d f) (write d g))
-
--- The algebra of forests, in which every chunk's hill keeps all of the chunk.
-abbrev pub free : (R : Type 0) → Algebra R
-free R = record { Fig = Forest R; ι = nil; _⊗_ = beside; node = λ r k. tree r k nil }
-
-abbrev pub free-laws : (R : Type 0) → Laws (free R)
-free-laws R = record { assoc = beside-assoc; unit-l = λ f. refl; unit-r = beside-nil }
+-- The traversal of trees whose roots stand at depth d: the open, the subtrees at depth d+1, the close.
+abbrev pub write : {R : Type 0} → ℕ → Forest R → List (Record R)
+write d nil = []
+write d (tree r k f) = opening d r ∷ (write (suc d) k ++ (closing d ∷ write d f))
 
 module _ {R : Type 0} (𝒜 : Algebra R) where
   open Algebra 𝒜 using (Fig, ι, _⊗_, node)
 
   infixl 70 _⊗_
-  -- The recursion: the figures of neighbours combined, each record's by what it holds.
+  -- Definition 2, "h (Node a [t1, .., tn]) = a ⊕ (h t1 ⊗ .. ⊗ h tn)": the figures of trees side by side, combined.
   abbrev pub value : Forest R → Fig
   value nil = ι
   value (tree r k f) = node r (value k) ⊗ value f
-
-  module _ (ℒ : Laws 𝒜) where
-    open Laws ℒ using (assoc, unit-l, unit-r)
-
-    pub value-beside : (f g : Forest R) → value (beside f g) ≡ value f ⊗ value g
-    value-beside nil g = sym (unit-l (value g))
-    value-beside (tree r k f) g = rw (value-beside f g, assoc (node r (value k)) (value f) (value g))
-
-    abbrev pub value-hom : Hom (free R) 𝒜
-    value-hom = record { φ = value; φ-ι = refl; φ-⊗ = value-beside; φ-node = λ r h. unit-r (node r (value h)) }
-
-    -- A traversal joins the forest's figure to the level where it stands.
-    pub run-write : (a : Hill Fig R) (d : ℕ) (f : Forest R) → run 𝒜 a (items (write d f)) ≡ join 𝒜 (value f) a
-    run-write a d nil = sym (join-unit 𝒜 ℒ a)
-    run-write (hill u m s) d (tree r k f) =
-        rw (items-append (write (suc d) k) (closing d ∷ write d f), run-append 𝒜 (hill u m ((r, ι) ∷ s)) (items (write (suc d) k)) (items (closing d ∷ write d f)))
-        (rw (run-write (hill u m ((r, ι) ∷ s)) (suc d) k, unit-l (value k))
-        (run-write (join 𝒜 (node r (value k)) (hill u m s)) d f ∙ join-join 𝒜 ℒ (node r (value k)) (value f) (hill u m s)))
-
-    -- The hill of a traversal is the forest's figure, with no slopes.
-    pub hillOf-write : (d : ℕ) (f : Forest R) → hillOf 𝒜 (items (write d f)) ≡ hill [] (value f) []
-    hillOf-write d f = run-write (empty 𝒜) d f ∙ rw (unit-l (value f))
-
-pub value-free : {R : Type 0} (f : Forest R) → value (free R) f ≡ f
-value-free nil = refl
-value-free (tree r k f) = rw (value-free k, value-free f)

@@ -1,18 +1,23 @@
 -- Which summaries are accepted, and that merging accepted ones gives an accepted one. Generic over a size of figures. Assumes nothing.
 use mathlib.Core.Path.{_≡_, refl, ap, sym, subst, _∙_}
+use mathlib.Core.Bool.{Bool, true, false}
 use mathlib.Core.List.{List, [], _∷_, _++_}
 use Prim.Native.Nat.{ℕ, zero, suc, _+_, _-_, _*_, _≤_, _<_, min}
 use native.Mathlib.Nat.{mul-le-mul-left}
 use native.Mathlib.Omega.{arith}
-use mathlib.Core.Bool.{Bool, true, false}
 use lib.Dec.{leb, ltb, eqb}
 use lib.ListN.{length}
 use borrow.Author.Tests.{leb-false}
 use Rattle.algebra.specs.Algebra.{Algebra, Laws}
-use Rattle.hill.specs.Hill.{Hill, hill, push, join, close, closes, merge}
-use Rattle.hill.specs.Verdict.{Verdict, pass, refuse, low, between, count, cut, ask, low-fst, low-snd, between-pass, between-high, count-pass, cut-few, refuse-pass}
+use Rattle.hill.specs.Verdict.{Verdict, pass, refuse, low, ask, between, count, cut}
+use Rattle.hill.specs.VerdictLaws.{low-fst, low-snd, between-pass, between-high, count-pass, refuse-pass}
 use Rattle.hill.specs.Log.{Record, opening, closing}
-use Rattle.hill.specs.Summary.{single, summaryOf, summaryOf-cons, Part, Summary, blank, part, spoilt, whole, rise, fall, middle, start, end, opened, verdict, make, peak, slopes, mergeVerdict, mergePart, mergeSummary, fall-join, fall-closes, fall-merge, rise-merge}
+use Rattle.hill.specs.Summary.{Hill, hill, Part, spoilt, whole, Summary, blank, part, rise, fall, middle, start, end, opened, verdict, judged, summaryOf}
+use Rattle.hill.specs.Merge.{mergeHills, peak, slopes, mergeVerdict, mergePart, mergeSummary}
+use Rattle.hill.specs.Building.{push, join, close, closes, merge}
+use Rattle.hill.specs.Slopes.{fall-join, fall-closes, fall-merge, rise-merge}
+use Rattle.hill.specs.MergeLaws.{mergeHills-merge}
+use Rattle.hill.specs.SummaryLaws.{single, summaryOf-cons}
 
 -- A size of figures that merging does not raise by more than `unit` for each record. In modes 1 to 3: the absolute value, and 10^9 for a record
 -- whose numbers are in range (`Fine`). In mode 4: 0, and 1.
@@ -265,10 +270,9 @@ module _ {R : Type 0} (𝒜 : Algebra R) (𝒮 : Sizes 𝒜) where
       (range-low t (verdict b) (low (between (end a) (start b)) (count t)) (range-verdict b t w (omega arith))
       (range-low t (between (end a) (start b)) (count t) (range-between t (end a) (start b)) (range-count t)))
 
-  valid-build : (v : Verdict) (s e t p : ℕ) (h : Hill Fig R) → Range t v → s ≤ 64 → e ≤ 64 → (v ≡ pass → ValidHill p (cut t) h) →
-      ValidPart (make v (record { fault = v; first = s; last = e; total = cut t; lowest = p; sides = h }))
-  valid-build pass s e t p h r k l f = f refl
-  valid-build (refuse n) s e t p h r k l f = valid-spoilt n s e t r k l
+  valid-judged : (v : Verdict) (s e t p : ℕ) (h : Hill Fig R) → Range t v → s ≤ 64 → e ≤ 64 → (v ≡ pass → ValidHill p t h) → ValidPart (judged v s e t p h)
+  valid-judged pass s e t p h r k l f = f refl
+  valid-judged (refuse n) s e t p h r k l f = valid-spoilt n s e t r k l
 
   -- Records as they are read: depth to 63, numbers in range.
   abbrev pub Readable : Record R → Type 0
@@ -302,18 +306,18 @@ module _ {R : Type 0} (𝒜 : Algebra R) (𝒮 : Sizes 𝒜) where
   }
 
   module _ (ℒ : Laws 𝒜) where
-    valid-pass : (a b : Part Fig R) → ValidPart a → ValidPart b → mergeVerdict 𝒜 a b ≡ pass → ValidHill (min (peak 𝒜 a) (peak 𝒜 b)) (cut (opened a + opened b)) (merge 𝒜 (slopes 𝒜 a) (slopes 𝒜 b))
+    valid-pass : (a b : Part Fig R) → ValidPart a → ValidPart b → mergeVerdict 𝒜 a b ≡ pass → ValidHill (min (peak 𝒜 a) (peak 𝒜 b)) (opened a + opened b) (mergeHills 𝒜 (slopes 𝒜 a) (slopes 𝒜 b))
     valid-pass (spoilt f s e o) b v w m = absurd (refuse-pass m)
     valid-pass (whole p o g) (spoilt f s e n) v w m = absurd (refuse-pass m)
     valid-pass (whole p o g) (whole q n h) v w m =
         let j = low-fst (between (p + fall g) (q + rise h)) (count (o + n)) m in
         let c = count-pass (o + n) (low-snd (between (p + fall g) (q + rise h)) (count (o + n)) m) in
-        rw (cut-few (o + n) c) (valid-hill ℒ p q o n g h v w (between-pass (p + fall g) (q + rise h) j) (between-high (p + fall g) (q + rise h) j) c)
+        rw (mergeHills-merge 𝒜 ℒ g h) (valid-hill ℒ p q o n g h v w (between-pass (p + fall g) (q + rise h) j) (between-high (p + fall g) (q + rise h) j) c)
 
     -- Merging accepted summaries gives an accepted one.
     pub valid-merge : (a b : Part Fig R) → ValidPart a → ValidPart b → ValidPart (mergePart 𝒜 a b)
     valid-merge a b v w =
-        valid-build (mergeVerdict 𝒜 a b) (start a) (end b) (opened a + opened b) (min (peak 𝒜 a) (peak 𝒜 b)) (merge 𝒜 (slopes 𝒜 a) (slopes 𝒜 b))
+        valid-judged (mergeVerdict 𝒜 a b) (start a) (end b) (opened a + opened b) (min (peak 𝒜 a) (peak 𝒜 b)) (mergeHills 𝒜 (slopes 𝒜 a) (slopes 𝒜 b))
         (range-merge a b v w) (start-64 a v) (end-64 b w) (valid-pass a b v w)
 
     pub valid-mergeSummary : (a b : Summary Fig R) → ValidSummary a → ValidSummary b → ValidSummary (mergeSummary 𝒜 a b)

@@ -1,59 +1,23 @@
--- The values of a chunk's hill in document 01's own words, read off the chunk; and that they are those of the hill. Assumes nothing.
+-- The values of a chunk's hill in the paper's words are those of the hill built record by record. Assumes nothing.
 use mathlib.Core.Path.{_≡_, refl, ap, sym, _∙_}
 use mathlib.Core.Bool.{Bool, true, false, _&&_, _||_, not}
 use mathlib.Core.List.{List, [], _∷_, _++_, append-assoc, append-nil}
-use Prim.Native.Nat.{ℕ, zero, suc, _+_, _-_, _<_, _≤_, min}
+use Prim.Native.Nat.{ℕ, zero, suc, _+_, _-_, _<_, _≤_}
 use native.Mathlib.Nat.{add-zero, add-suc}
 use native.Mathlib.Omega.{arith}
 use lib.Dec.{eqb}
 use lib.ListN.{length}
 use borrow.Author.Tests.{eq-eqb, ne-eqb, eqb-true}
 use Rattle.algebra.specs.Algebra.{Algebra, Laws}
-use Rattle.hill.specs.Hill.{Hill, hill, empty, hillOf}
-use Rattle.hill.specs.Map.{mapUp, mapDown, mapHill, map-hillOf}
-use Rattle.hill.specs.Log.{Record, opening, closing, depth, startLevel, endOf, peakOf, joints, items}
-use Rattle.hill.specs.Summary.{rise, fall}
-use Rattle.hill.specs.Tree.{Forest, nil, tree, write, free, value, value-hom}
-use Rattle.hill.specs.Spell.{left, right, spell, peakFrom, spell-run}
 use Rattle.hill.specs.Verdict.{pass}
-use Rattle.hill.specs.Finish.{joints-meet, end-from}
-use Rattle.hill.specs.Figure.{when}
-
-module _ {R : Type 0} where
-  -- A close at depth d is among the records.
-  abbrev pub closedIn : ℕ → List (Record R) → Bool
-  closedIn d [] = false
-  closedIn d (opening c r ∷ xs) = closedIn d xs
-  closedIn d (closing c ∷ xs) = eqb c d || closedIn d xs
-
-module _ {R : Type 0} (𝒜 : Algebra R) where
-  open Algebra 𝒜 using (Fig, ι, _⊗_, node)
-
-  infixl 70 _⊗_
-  -- The figures, combined, of the records of depth d that are opened and closed here, before the first close at depth d - 1 if there is one.
-  abbrev pub done : ℕ → List (Record R) → Fig
-  done d [] = ι
-  done d (opening c r ∷ xs) = when (eqb c d && closedIn d xs) (node r (done (suc d) xs) ⊗ done d xs) (done d xs)
-  done d (closing c ∷ xs) = when (eqb (suc c) d) ι (done d xs)
-
-  -- The record of depth c that is opened here and not closed, with its held figures so far; none, or one.
-  abbrev pub pending : ℕ → List (Record R) → List (R × Fig)
-  pending c [] = []
-  pending c (opening d r ∷ xs) = when (eqb d c && not (closedIn c xs)) ((r, done (suc c) xs) ∷ []) (pending c xs)
-  pending c (closing d ∷ xs) = pending c xs
-
-  -- The left values from level p + 1 to p + n, and the unclosed records of depth p + n - 1 down to p.
-  abbrev pub lefts : ℕ → ℕ → List (Record R) → List Fig
-  lefts p zero xs = []
-  lefts p (suc n) xs = done (suc p) xs ∷ lefts (suc p) n xs
-
-  abbrev pub rights : ℕ → ℕ → List (Record R) → List (R × Fig)
-  rights p zero xs = []
-  rights p (suc n) xs = pending (p + n) xs ++ rights p n xs
-
-  -- The hill of a chunk that goes from level p + m down to p and up to p + n.
-  abbrev pub literalHill : ℕ → ℕ → ℕ → List (Record R) → Hill Fig R
-  literalHill p m n xs = hill (lefts p m xs) (done p xs) (rights p n xs)
+use Rattle.hill.specs.Log.{Record, opening, closing, startLevel, endOf, peakOf, joints}
+use Rattle.hill.specs.Tree.{Forest, nil, tree, write, value}
+use Rattle.hill.specs.Summary.{Hill, hill, rise, fall, closedIn, done, pending, leftsOf, rightsOf, valuesOf}
+use Rattle.hill.specs.Building.{hillOf}
+use Rattle.hill.specs.Map.{mapUp, mapDown, mapHill, map-hillOf}
+use Rattle.hill.specs.TreeLaws.{free, value-hom}
+use Rattle.hill.specs.Spell.{left, right, spell, chunk-spelt}
+use Rattle.hill.specs.FigureLaws.{held-write}
 
 and-false : (b : Bool) → b && false ≡ false
 and-false true = refl
@@ -146,11 +110,11 @@ module _ {R : Type 0} (𝒜 : Algebra R) where
         pending-write c (suc (p + length d)) (e .1) ys,
       )
 
-  rights-left : (p n q : ℕ) (u : List (Forest R)) (ys : List (Record R)) → rights 𝒜 p n (left q u ++ ys) ≡ rights 𝒜 p n ys
+  rights-left : (p n q : ℕ) (u : List (Forest R)) (ys : List (Record R)) → rightsOf 𝒜 p n (left q u ++ ys) ≡ rightsOf 𝒜 p n ys
   rights-left p zero q u ys = refl
   rights-left p (suc n) q u ys = rw (pending-left (p + n) q u ys, rights-left p n q u ys)
 
-  rights-write : (p n e : ℕ) (f : Forest R) (ys : List (Record R)) → rights 𝒜 p n (write e f ++ ys) ≡ rights 𝒜 p n ys
+  rights-write : (p n e : ℕ) (f : Forest R) (ys : List (Record R)) → rightsOf 𝒜 p n (write e f ++ ys) ≡ rightsOf 𝒜 p n ys
   rights-write p zero e f ys = refl
   rights-write p (suc n) e f ys = rw (pending-write (p + n) e f ys, rights-write p n e f ys)
 
@@ -167,9 +131,9 @@ module _ {R : Type 0} (𝒜 : Algebra R) where
           done-deeper d (suc d) k (closing d ∷ (write d f ++ ys)) (omega arith),
           ne-eqb (suc d) d (omega arith),
         )
-        (rw (done-write (suc d) k (closing d ∷ (write d f ++ ys)), eq-eqb (suc d) (suc d) refl, unit-r (value 𝒜 k), done-write d f ys) (sym (assoc (node r (value 𝒜 k)) (value 𝒜 f) (done 𝒜 d ys))))
+        (rw (held-write 𝒜 ℒ (suc d) k (closing d ∷ (write d f ++ ys)), eq-eqb (suc d) (suc d) refl, unit-r (value 𝒜 k), done-write d f ys) (sym (assoc (node r (value 𝒜 k)) (value 𝒜 f) (done 𝒜 d ys))))
 
-    lefts-left : (p : ℕ) (u : List (Forest R)) (ys : List (Record R)) → lefts 𝒜 p (length u) (left p u ++ ys) ≡ mapUp (value 𝒜) u
+    lefts-left : (p : ℕ) (u : List (Forest R)) (ys : List (Record R)) → leftsOf 𝒜 p (length u) (left p u ++ ys) ≡ mapUp (value 𝒜) u
     lefts-left p [] ys = refl
     lefts-left p (f ∷ u) ys =
         rw (
@@ -182,7 +146,7 @@ module _ {R : Type 0} (𝒜 : Algebra R) where
           lefts-left (suc p) u (write (suc p) f ++ (closing p ∷ ys)),
         )
 
-    rights-right : (p : ℕ) (d : List (R × Forest R)) (ys : List (Record R)) → Quiet (p + length d) ys → rights 𝒜 p (length d) (right p d ++ ys) ≡ mapDown (value 𝒜) d
+    rights-right : (p : ℕ) (d : List (R × Forest R)) (ys : List (Record R)) → Quiet (p + length d) ys → rightsOf 𝒜 p (length d) (right p d ++ ys) ≡ mapDown (value 𝒜) d
     rights-right p [] ys q = refl
     rights-right p (e ∷ d) ys q =
         let t : ℕ = p + length d in
@@ -206,11 +170,11 @@ module _ {R : Type 0} (𝒜 : Algebra R) where
         rw (append-assoc (right p d) (opening t (e .0) ∷ write (suc t) (e .1)) ys)
         (quiet-right p d (opening t (e .0) ∷ (write (suc t) (e .1) ++ ys)) (quiet-open t (e .0) (e .1) ys (rw add-suc at q)))
 
-    literal-spell : (p : ℕ) (a : Hill (Forest R) R) → literalHill 𝒜 p (rise a) (fall a) (spell p a) ≡ mapHill (value 𝒜) a
-    literal-spell p (hill u m d) =
+    values-spell : (p : ℕ) (a : Hill (Forest R) R) → valuesOf 𝒜 p (rise a) (fall a) (spell p a) ≡ mapHill (value 𝒜) a
+    values-spell p (hill u m d) =
         let q : Quiet (p + length d) [] = (λ c l. refl, λ l g. refl) in
         let none : done 𝒜 p (right p d) ≡ ι = rw (append-nil (right p d)) at (quiet-right p d [] q .1 p (omega arith)) in
-        let some : rights 𝒜 p (length d) (right p d) ≡ mapDown (value 𝒜) d = rw (append-nil (right p d)) at (rights-right p d [] q) in
+        let some : rightsOf 𝒜 p (length d) (right p d) ≡ mapDown (value 𝒜) d = rw (append-nil (right p d)) at (rights-right p d [] q) in
         rw (
           lefts-left p u (write p m ++ right p d),
           done-left p p u (write p m ++ right p d) (omega arith),
@@ -222,37 +186,13 @@ module _ {R : Type 0} (𝒜 : Algebra R) where
           some,
         )
 
-module _ {R : Type 0} where
-  peak-from : (p : ℕ) (x : Record R) (xs : List (Record R)) → peakFrom p (x ∷ xs) ≡ min p (peakOf x xs)
-  peak-from p x [] = refl
-  peak-from p x (y ∷ ys) = peak-from (min p (depth x)) y ys ∙ omega arith
-
-  depth-start : (x : Record R) → depth x ≤ startLevel x
-  depth-start (opening d r) = omega arith
-  depth-start (closing d) = omega arith
-
-  peak-depth : (x : Record R) (xs : List (Record R)) → peakOf x xs ≤ depth x
-  peak-depth x [] = omega arith
-  peak-depth x (y ∷ ys) = omega arith
-
-  -- A chunk whose records meet is spelt by its hill in the algebra of forests, over the lowest level it reaches, between its start and its end level.
-  pub chunk-spelt : (x : Record R) (xs : List (Record R)) → joints x xs ≡ pass →
-      (spell (peakOf x xs) (hillOf (free R) (items (x ∷ xs))) ≡ x ∷ xs) ×
-      (peakOf x xs + rise (hillOf (free R) (items (x ∷ xs))) ≡ startLevel x) ×
-      (peakOf x xs + fall (hillOf (free R) (items (x ∷ xs))) ≡ endOf x xs)
-  chunk-spelt x xs v =
-      let t = spell-run (startLevel x) (empty (free R)) (x ∷ xs) (add-zero (startLevel x), joints-meet x xs v) in
-      let k : peakOf x xs ≡ peakFrom (startLevel x) (x ∷ xs) = sym (peak-from (startLevel x) x xs ∙ omega (arith, depth-start x, peak-depth x xs)) in
-      let h : Hill (Forest R) R = hillOf (free R) (items (x ∷ xs)) in
-      (ap (λ (p : ℕ). spell p h) k ∙ t .0, ap (λ (p : ℕ). p + rise h) k ∙ t .1 ∙ add-zero (startLevel x), ap (λ (p : ℕ). p + fall h) k ∙ t .2 ∙ end-from x xs)
-
 module _ {R : Type 0} (𝒜 : Algebra R) (ℒ : Laws 𝒜) where
   -- The hill of a chunk has just the values that document 01 says.
-  pub hillOf-literal : (x : Record R) (xs : List (Record R)) → joints x xs ≡ pass →
-      hillOf 𝒜 (items (x ∷ xs)) ≡ literalHill 𝒜 (peakOf x xs) (startLevel x - peakOf x xs) (endOf x xs - peakOf x xs) (x ∷ xs)
-  hillOf-literal x xs v =
-      let h : Hill (Forest R) R = hillOf (free R) (items (x ∷ xs)) in
+  pub hillOf-values : (x : Record R) (xs : List (Record R)) → joints x xs ≡ pass →
+      hillOf 𝒜 (x ∷ xs) ≡ valuesOf 𝒜 (peakOf x xs) (startLevel x - peakOf x xs) (endOf x xs - peakOf x xs) (x ∷ xs)
+  hillOf-values x xs v =
+      let h : Hill (Forest R) R = hillOf (free R) (x ∷ xs) in
       let t = chunk-spelt x xs v in
       let i : rise h ≡ startLevel x - peakOf x xs = omega (arith, t .1) in
       let j : fall h ≡ endOf x xs - peakOf x xs = omega (arith, t .2) in
-      sym (map-hillOf (free R) 𝒜 (value-hom 𝒜 ℒ) (items (x ∷ xs))) ∙ sym (literal-spell 𝒜 ℒ (peakOf x xs) h) ∙ rw (t .0, i, j)
+      sym (map-hillOf (free R) 𝒜 (value-hom 𝒜 ℒ) (x ∷ xs)) ∙ sym (values-spell 𝒜 ℒ (peakOf x xs) h) ∙ rw (t .0, i, j)

@@ -1,18 +1,10 @@
--- The hill of a chunk, and merging. Merging is a homomorphism for every cut, associative on all hills, and the empty hill is its unit.
--- Assumes nothing.
+-- The hill of a chunk record by record, and merging as actions on the left hill: the form that proofs and code go by.
+-- Merging is a homomorphism for every cut, associative on all hills, and the empty hill is its unit. Assumes nothing.
 use mathlib.Core.Path.{_≡_, refl, ap, sym, _∙_}
 use mathlib.Core.List.{List, [], _∷_, _++_, append-assoc, append-nil}
 use Rattle.algebra.specs.Algebra.{Algebra, Laws}
-
--- One record of a chunk, its depth left aside: an open with its payload, or a close.
-pub data Item (R : Type 0) : Type 0 where
-  enter : R → Item R
-  leave : Item R
-
--- A hill is a zipper. `up`: the left values, the head at level peak + 1, the last at the start level. `mid`: the middle value.
--- `down`: the unclosed records, each with its combined held figures so far, the deepest first.
-pub data Hill (Fig R : Type 0) : Type 0 where
-  hill : List Fig → Fig → List (R × Fig) → Hill Fig R
+use Rattle.hill.specs.Log.{Record, opening, closing}
+use Rattle.hill.specs.Summary.{Hill, hill}
 
 -- More unclosed records on top of the right slope.
 abbrev pub push : {Fig R : Type 0} → List (R × Fig) → Hill Fig R → Hill Fig R
@@ -35,16 +27,16 @@ module _ {R : Type 0} (𝒜 : Algebra R) where
   close (hill u m []) = hill (m ∷ u) ι []
   close (hill u m (e ∷ d)) = join (node (e .0) (e .1)) (hill u m d)
 
-  abbrev pub step : Hill Fig R → Item R → Hill Fig R
-  step a (enter r) = push ((r, ι) ∷ []) a
-  step a leave = close a
+  abbrev pub step : Hill Fig R → Record R → Hill Fig R
+  step a (opening c r) = push ((r, ι) ∷ []) a
+  step a (closing c) = close a
 
-  abbrev pub run : Hill Fig R → List (Item R) → Hill Fig R
+  abbrev pub run : Hill Fig R → List (Record R) → Hill Fig R
   run a [] = a
-  run a (i ∷ is) = run (step a i) is
+  run a (x ∷ xs) = run (step a x) xs
 
-  abbrev pub hillOf : List (Item R) → Hill Fig R
-  hillOf is = run empty is
+  abbrev pub hillOf : List (Record R) → Hill Fig R
+  hillOf xs = run empty xs
 
   -- The left side goes through the right side's left values: each joins its level, which is then closed.
   abbrev pub closes : Hill Fig R → List Fig → Hill Fig R
@@ -74,9 +66,9 @@ module _ {R : Type 0} (𝒜 : Algebra R) where
   pub carry-over : (x l : Fig) (u : List Fig) (m : Fig) → close (join l (join x (hill u m []))) ≡ hill (m ⊗ x ⊗ l ∷ u) ι []
   carry-over x l u m = refl
 
-  pub run-append : (a : Hill Fig R) (x y : List (Item R)) → run a (x ++ y) ≡ run (run a x) y
-  run-append a [] y = refl
-  run-append a (i ∷ x) y = run-append (step a i) x y
+  pub run-append : (a : Hill Fig R) (xs ys : List (Record R)) → run a (xs ++ ys) ≡ run (run a xs) ys
+  run-append a [] ys = refl
+  run-append a (x ∷ xs) ys = run-append (step a x) xs ys
 
   module _ (ℒ : Laws 𝒜) where
     open Laws ℒ using (assoc, unit-l, unit-r)
@@ -101,13 +93,13 @@ module _ {R : Type 0} (𝒜 : Algebra R) where
     merge-close a (hill u m []) = simp (push-nil, join-unit)
     merge-close a (hill u m (e ∷ d)) = simp (close-push, merge-join)
 
-    merge-step : (a b : Hill Fig R) (i : Item R) → merge a (step b i) ≡ step (merge a b) i
-    merge-step a b (enter r) = merge-push a ((r, ι) ∷ []) b
-    merge-step a b leave = merge-close a b
+    merge-step : (a b : Hill Fig R) (x : Record R) → merge a (step b x) ≡ step (merge a b) x
+    merge-step a b (opening c r) = merge-push a ((r, ι) ∷ []) b
+    merge-step a b (closing c) = merge-close a b
 
-    merge-run : (a b : Hill Fig R) (is : List (Item R)) → merge a (run b is) ≡ run (merge a b) is
+    merge-run : (a b : Hill Fig R) (xs : List (Record R)) → merge a (run b xs) ≡ run (merge a b) xs
     merge-run a b [] = refl
-    merge-run a b (i ∷ is) = merge-run a (step b i) is ∙ rw (merge-step a b i)
+    merge-run a b (x ∷ xs) = merge-run a (step b x) xs ∙ rw (merge-step a b x)
 
     -- The empty hill is the unit.
     pub merge-empty : (a : Hill Fig R) → merge a empty ≡ a
@@ -121,8 +113,8 @@ module _ {R : Type 0} (𝒜 : Algebra R) where
     empty-merge (hill u m d) = rw (closes-empty u, unit-l m, append-nil d)
 
     -- Merging the hills of two chunks gives the hill of the joined chunks.
-    pub hillOf-append : (x y : List (Item R)) → hillOf (x ++ y) ≡ merge (hillOf x) (hillOf y)
-    hillOf-append x y = run-append empty x y ∙ rw (merge-run (hillOf x) empty y, merge-empty (hillOf x))
+    pub hillOf-append : (xs ys : List (Record R)) → hillOf (xs ++ ys) ≡ merge (hillOf xs) (hillOf ys)
+    hillOf-append xs ys = run-append empty xs ys ∙ rw (merge-run (hillOf xs) empty ys, merge-empty (hillOf xs))
 
     -- Merging is associative on all hills, also on those that no chunk makes.
     merge-closes : (a b : Hill Fig R) (u : List Fig) → merge a (closes b u) ≡ closes (merge a b) u

@@ -1,0 +1,32 @@
+-- Who closes whom, and who holds whom, by places in the log. Definitions only.
+use mathlib.Core.Path.{_≡_}
+use mathlib.Core.Logic.{_≢_}
+use mathlib.Core.List.{List}
+use Prim.Native.Nat.{ℕ, suc, _<_}
+use lib.ListN.{length, getD}
+use Rattle.hill.specs.Log.{Record, opening, closing}
+
+module _ {R : Type 0} where
+  -- The record at place k of a log, counted from 0 (past the end: any).
+  abbrev pub at : List (Record R) → ℕ → Record R
+  at log k = getD log k (closing 0)
+
+  -- An open at depth d stands at place p.
+  abbrev pub OpensAt : List (Record R) → (p d : ℕ) → Type 0
+  OpensAt log p d = (r : R) × (at log p ≡ opening d r)
+
+-- "The first close at depth d after an open at depth d closes it": the one at q closes the one at p.
+pub record ClosedBy {R : Type 0} (log : List (Record R)) (p q d : ℕ) : Type 0 where
+  pub order : p < q
+  pub inside : q < length log
+  pub opened : OpensAt log p d
+  pub closed : at log q ≡ closing d
+  pub first : (k : ℕ) → p < k → k < q → at log k ≢ closing d
+
+-- "The record directly holds those opened at depth d+1 between the two, or, if no such close follows, after the open":
+-- the one opened at p, of depth d, holds the one opened at q.
+pub record Holds {R : Type 0} (log : List (Record R)) (p q d : ℕ) : Type 0 where
+  pub holder : OpensAt log p d
+  pub held : OpensAt log q (suc d)
+  pub after : p < q
+  pub before : (c : ℕ) → ClosedBy log p c d → q < c
