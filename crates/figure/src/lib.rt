@@ -1,4 +1,14 @@
-// Figures in the four modes, on the numbers as they are stored.
+// Figures in the four modes and the runs of a join, on the numbers as they are stored. Each caller shows that a sum fits.
+ghost use mathlib.Core.Path.{_≡_};
+ghost use Prim.Native.Nat.{_+_, _*_, _^_, _<_};
+ghost use lib.IntN.{pos, _+ℤ_, natAbs};
+ghost use Rattle.number.specs.Integer.{maxZ, clamp, wrap};
+ghost use Rattle.figure.specs.FourModes.{lift, lineOf, readHeld, storeHeld};
+ghost use Rattle.figure.specs.Run.{atLeast};
+ghost use Rattle.figure.specs.Runs.{moved};
+ghost use Rattle.figure.specs.Bound.{sizeHeld};
+ghost use Rattle.figure.specs.Mode.{modeOf};
+ghost use Rattle.figure.specs.Stored.{none, combined, passed, amounts, levelRun, runAfter, Combines, Passes, Levels, Composes};
 
 // What a record holds, in a mode where "nothing held" is no number.
 pub enum Held {
@@ -11,4 +21,165 @@ pub struct Run {
     pub first: i64,
     pub second: i64,
     pub third: i64,
+}
+
+// ---- what a record holds
+
+// -2^63 stands for nothing held.
+pub fn read_held(x: i64) -> Held
+    ensures { λ r. ⌜ r ≡ readHeld x ⌝ }
+{
+    if x == -9223372036854775808 {
+        Held::Nothing
+    } else {
+        Held::Figure(x)
+    }
+}
+
+pub fn store_held(h: Held) -> i64
+    ensures { λ r. ⌜ r ≡ storeHeld h ⌝ }
+{
+    match h {
+        Held::Nothing => -9223372036854775808,
+        Held::Figure(x) => x,
+    }
+}
+
+fn max_held(a: Held, b: Held) -> Held
+    ensures { λ r. ⌜ r ≡ lift maxZ a b ⌝ }
+{
+    match a {
+        Held::Nothing => b,
+        Held::Figure(x) => match b {
+            Held::Nothing => Held::Figure(x),
+            Held::Figure(y) => Held::Figure(number::max(x, y)),
+        },
+    }
+}
+
+fn line(value: i64, h: Held) -> i64
+    requires { ⌜ natAbs value + sizeHeld h < 2 ^ 63 ⌝ }
+    ensures { λ r. ⌜ r ≡ lineOf value h ⌝ }
+{
+    match h {
+        Held::Nothing => value,
+        Held::Figure(x) => number::sum(value, x),
+    }
+}
+
+// The greater of the two, or y where there is no other.
+fn at_least(other: Held, y: i64) -> i64
+    ensures { λ r. ⌜ r ≡ atLeast other y ⌝ }
+{
+    match other {
+        Held::Nothing => y,
+        Held::Figure(a) => number::max(a, y),
+    }
+}
+
+fn moved_by(h: Held, v: i64) -> Held
+    requires { ⌜ sizeHeld h + natAbs v < 2 ^ 63 ⌝ }
+    ensures { λ r. ⌜ r ≡ moved h v ⌝ }
+{
+    match h {
+        Held::Nothing => Held::Nothing,
+        Held::Figure(a) => Held::Figure(number::sum(a, v)),
+    }
+}
+
+// ---- figures combined
+
+// Nothing held, as it is stored.
+pub fn nothing(mode: u16) -> i64
+    ensures { λ r. ⌜ r ≡ none (modeOf mode) ⌝ }
+{
+    match mode {
+        2 => -9223372036854775808,
+        _ => 0,
+    }
+}
+
+fn combine_heaviest(a: i64, b: i64) -> i64
+    ensures { λ r. ⌜ r ≡ combined (modeOf 2) a b ⌝ }
+{
+    store_held(max_held(read_held(a), read_held(b)))
+}
+
+fn combine_stamps(a: i64, b: i64) -> i64
+    requires { ⌜ Combines (modeOf 4) a b ⌝ }
+    ensures { λ r. ⌜ r ≡ combined (modeOf 4) a b ⌝ }
+{
+    number::from_u32(std::num::wrapping_add_u32(number::to_u32(a), number::to_u32(b)))
+}
+
+pub fn combine(mode: u16, a: i64, b: i64) -> i64
+    requires { ⌜ Combines (modeOf mode) a b ⌝ }
+    ensures { λ r. ⌜ r ≡ combined (modeOf mode) a b ⌝ }
+{
+    match mode {
+        2 => combine_heaviest(a, b),
+        4 => combine_stamps(a, b),
+        _ => number::sum(a, b),
+    }
+}
+
+// ---- a record's figure
+
+fn clamped_sum(a: i64, b: i64, low: i64, high: i64) -> i64
+    requires { ⌜ natAbs a + natAbs b < 2 ^ 63 ⌝ }
+    ensures { λ r. ⌜ r ≡ clamp (a +ℤ b) low high ⌝ }
+{
+    number::clamp(number::sum(a, b), low, high)
+}
+
+fn stamp(value: i32, held: u32) -> u32
+    ensures { λ r. ⌜ r ≡ wrap (value +ℤ pos (31 * held)) ⌝ }
+{
+    std::num::wrapping_add_u32(number::bits_32(value), number::wrapping_mul(31, held))
+}
+
+fn through_net(value: i32, held: i64) -> i64
+    requires { ⌜ Passes (modeOf 1) value held ⌝ }
+    ensures { λ r. ⌜ r ≡ value +ℤ held ⌝ }
+{
+    number::sum(number::widen(value), held)
+}
+
+fn through_heaviest(value: i32, held: i64) -> i64
+    requires { ⌜ Passes (modeOf 2) value held ⌝ }
+    ensures { λ r. ⌜ r ≡ lineOf value (readHeld held) ⌝ }
+{
+    line(number::widen(value), read_held(held))
+}
+
+fn through_eaten(value: i32, floor: i32, ceiling: i32, held: i64) -> i64
+    requires { ⌜ Passes (modeOf 3) value held ⌝ }
+    ensures { λ r. ⌜ r ≡ clamp (value +ℤ held) floor ceiling ⌝ }
+{
+    clamped_sum(
+        number::widen(value),
+        held,
+        number::widen(floor),
+        number::widen(ceiling),
+    )
+}
+
+fn through_stamp(value: i32, floor: i32, ceiling: i32, held: i64) -> i64
+    requires { ⌜ Passes (modeOf 4) value held ⌝ }
+    ensures { λ r. ⌜ r ≡ passed (modeOf 4) (amounts value floor ceiling) held ⌝ }
+{
+    number::from_u32(stamp(value, number::to_u32(held)))
+}
+
+// The figure of a record that holds `held`.
+pub fn through(mode: u16, value: i32, floor: i32, ceiling: i32, held: i64) -> i64
+    requires { ⌜ Passes (modeOf mode) value held ⌝ }
+    ensures { λ r. ⌜ r ≡ passed (modeOf mode) (amounts value floor ceiling) held ⌝ }
+{
+    match mode {
+        2 => through_heaviest(value, held),
+        3 => through_eaten(value, floor, ceiling, held),
+        4 => through_stamp(value, floor, ceiling, held),
+        _ => through_net(value, held),
+    }
 }

@@ -1,0 +1,2 @@
+mod Helds
+mod Modes

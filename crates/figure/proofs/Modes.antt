@@ -1,0 +1,56 @@
+-- The modes as a match on the number leaves them, and the ranges of stored stamps. Assumes nothing.
+use mathlib.Core.Path.{_≡_, refl, sym, ap}
+use Prim.Native.Nat.{ℕ, zero, suc, _%_, _^_}
+use lib.IntN.{ℤ, pos, _+ℤ_, natAbs}
+use lib.Signed.{_≤ℤ_, _<ℤ_}
+use Rattle.number.specs.IntegerLaws.{up, zed}
+use Rattle.figure.specs.Mode.{Mode, modeOf}
+use Rattle.figure.specs.Stored.{IsStored, sizeOf, none, combined}
+
+-- a stored stamp is 0 to 2^32 - 1
+pub stamp-range : (z : ℤ) → IsStored (modeOf 4) z → (pos 0 ≤ℤ z) × (z <ℤ pos 4294967296)
+unfolding IsStored modeOf
+stamp-range z e = omega zed
+
+pub stamp-number : (z : ℤ) → IsStored (modeOf 4) z → up z ≡ up z % 2 ^ 32
+unfolding IsStored modeOf
+stamp-number z e = sym (ap up e)
+
+-- a number other than 2, 3 and 4 stands for mode 1
+pub other-mode : (m : ℕ) → (m ≡ 2 → ⊥) → (m ≡ 3 → ⊥) → (m ≡ 4 → ⊥) → modeOf m ≡ modeOf 1
+unfolding modeOf
+other-mode zero n2 n3 n4 = refl
+other-mode (suc zero) n2 n3 n4 = refl
+other-mode (suc (suc zero)) n2 n3 n4 = absurd (n2 refl)
+other-mode (suc (suc (suc zero))) n2 n3 n4 = absurd (n3 refl)
+other-mode (suc (suc (suc (suc zero)))) n2 n3 n4 = absurd (n4 refl)
+other-mode (suc (suc (suc (suc (suc n))))) n2 n3 n4 = refl
+
+-- a mode other than 2 and 4 is mode 1 or 3, whose figures are plain numbers
+plain : (P : Mode → Type 0) (m : ℕ) → (m ≡ 2 → ⊥) → (m ≡ 4 → ⊥) → P (modeOf 1) → P (modeOf 3) → P (modeOf m)
+unfolding modeOf
+plain P zero n2 n4 p q = p
+plain P (suc zero) n2 n4 p q = p
+plain P (suc (suc zero)) n2 n4 p q = absurd (n2 refl)
+plain P (suc (suc (suc zero))) n2 n4 p q = q
+plain P (suc (suc (suc (suc zero)))) n2 n4 p q = absurd (n4 refl)
+plain P (suc (suc (suc (suc (suc n))))) n2 n4 p q = p
+
+module _ (m : ℕ) (not-2 : m ≡ 2 → ⊥) (not-4 : m ≡ 4 → ⊥) where
+  pub plain-size : (z : ℤ) → sizeOf (modeOf m) z ≡ natAbs z
+  unfolding sizeOf modeOf
+  plain-size z = plain (λ M. M .sizes .size (M .read z) ≡ natAbs z) m not-2 not-4 refl refl
+
+  pub plain-combined : (a b : ℤ) → combined (modeOf m) a b ≡ a +ℤ b
+  unfolding combined modeOf
+  plain-combined a b = plain (λ M. combined M a b ≡ a +ℤ b) m not-2 not-4 refl refl
+
+-- nothing held is 0, but in mode 2
+pub plain-none : (m : ℕ) → (m ≡ 2 → ⊥) → none (modeOf m) ≡ pos 0
+unfolding none modeOf
+plain-none zero n2 = refl
+plain-none (suc zero) n2 = refl
+plain-none (suc (suc zero)) n2 = absurd (n2 refl)
+plain-none (suc (suc (suc zero))) n2 = refl
+plain-none (suc (suc (suc (suc zero)))) n2 = refl
+plain-none (suc (suc (suc (suc (suc n))))) n2 = refl
