@@ -8,12 +8,13 @@ use lib.IntN.{ℤ, pos}
 use lib.ListN.{length, set, length-set}
 use borrow.Author.Count.{below-more}
 use lib.Seq.{getD-set-same, getD-set-other}
+use Rattle.hill.specs.Log.{opening}
 use Rattle.hill.specs.Summary.{Hill, hill, rise, fall}
 use Rattle.hill.specs.Building.{push, join, close, step, empty}
 use Rattle.hill.specs.Valid.{weight-join, weight-close, fine-join, fine-close}
 use Rattle.figure.specs.FourModes.{Amounts, limit, InRange}
 use Rattle.figure.specs.Mode.{Mode}
-use Rattle.figure.specs.Stored.{IsStored, sizeOf, none, combined, passed, amounts, Combines, Passes, none-read, none-stored, combined-read, combined-stored, passed-read, passed-size, passed-stored, passes}
+use Rattle.figure.specs.Stored.{IsStored, sizeOf, none, combined, passed, amounts, Combines, Passes, none-read, none-size, none-stored, combined-read, combined-stored, passed-read, passed-size, passed-stored, passes}
 use Rattle.slopes.specs.declared.Counts.{Counts}
 use Rattle.slopes.specs.Arrays.{Arrays, arrays, at, amountsAt, Fig, ups, downs, slopesOf, hillSizes, weightOf, Fine, Sound, Stored, Able, StandsFor}
 use Rattle.slopes.specs.Actions.{Pushed, current, Adds, midAfter, heldAfter, Added, Falls, Joins, Room, entry, cost}
@@ -228,12 +229,12 @@ withRecords A vs fs cs hs = arrays (A .left) vs fs cs hs
 
 module _ {M : Mode} {A : Arrays} {c : Counts} (a : Able M A c) where
   -- a record with what it holds so far is put on top
-  pub pushed : (r : Amounts) (h : ℤ) {vs′ fs′ cs′ hs′ : List ℤ} {n′ : ℕ} → c .n < 64 → InRange r → IsStored M h → n′ ≡ suc (c .n)
+  pub pushed : (r : Amounts) (h : ℤ) {vs′ fs′ cs′ hs′ : List ℤ} {n′ : ℕ} {mid′ : ℤ} → c .n < 64 → InRange r → IsStored M h → n′ ≡ suc (c .n) → mid′ ≡ c .mid
       → Pushed (c .n) (r .value) (r .floor) (r .ceiling) h (A .values) (A .floors) (A .ceilings) (A .held) vs′ fs′ cs′ hs′
-      → StandsFor M (withRecords A vs′ fs′ cs′ hs′) (counts (c .nl) n′ (c .mid)) (push ((r, M .read h) ∷ []) (slopesOf M A c)) (weightOf M (slopesOf M A c) + (M .sizes .unit + sizeOf M h))
+      → StandsFor M (withRecords A vs′ fs′ cs′ hs′) (counts (c .nl) n′ mid′) (push ((r, M .read h) ∷ []) (slopesOf M A c)) (weightOf M (slopesOf M A c) + (M .sizes .unit + sizeOf M h))
   unfolding sizeOf
-  pushed r h lt g s en p =
-      rw (en, p .values, p .floors, p .ceilings, p .held) record {
+  pushed r h lt g s en em p =
+      rw (en, em, p .values, p .floors, p .ceilings, p .held) record {
         sound = record {
           left = a .sound .left;
           values = length-set (A .values) (c .n) (r .value) ∙ a .sound .values;
@@ -256,6 +257,22 @@ module _ {M : Mode} {A : Arrays} {c : Counts} (a : Able M A c) where
         fine = (g, a .fine);
         light = omega arith;
       }
+
+  -- a chunk's open: nothing is held yet
+  pub opened : (d : ℕ) (r : Amounts) {z : ℤ} {vs′ fs′ cs′ hs′ : List ℤ} {n′ : ℕ} {mid′ : ℤ} → c .n < 64 → InRange r → z ≡ none M → n′ ≡ suc (c .n) → mid′ ≡ c .mid
+      → Pushed (c .n) (r .value) (r .floor) (r .ceiling) z (A .values) (A .floors) (A .ceilings) (A .held) vs′ fs′ cs′ hs′
+      → StandsFor M (withRecords A vs′ fs′ cs′ hs′) (counts (c .nl) n′ mid′) (step (M .algebra) (slopesOf M A c) (opening d r)) (weightOf M (slopesOf M A c) + M .sizes .unit)
+  opened d r {z} lt g ez en em p =
+      let e : M .read z ≡ M .algebra .ι = ap (M .read) ez ∙ none-read M in
+      restate (pushed r z lt g (rw ez (none-stored M)) en em p) (weightOf M (slopesOf M A c) + M .sizes .unit) (ap (λ f. push ((r, f) ∷ []) (slopesOf M A c)) e)
+      (rw (ez, none-size M) (omega arith))
+
+-- ---- one action after another
+
+-- an action that adds no weight, on arrays that stand for h
+pub after : {M : Mode} {A A′ : Arrays} {c c′ : Counts} {h : Hill (Fig M) Amounts} {b : ℕ} (f : Hill (Fig M) Amounts → Hill (Fig M) Amounts)
+    → StandsFor M A c h b → StandsFor M A′ c′ (f (slopesOf M A c)) (weightOf M (slopesOf M A c)) → StandsFor M A′ c′ (f h) b
+after {M} {A} {c = c} {b = b} f s t = restate t b (ap f (s .is)) (subst (λ (g : Hill (Fig M) Amounts). weightOf M g ≤ b) (sym (s .is)) (s .light))
 
 -- ---- no record yet
 
