@@ -1,6 +1,6 @@
 -- The hill of a chunk record by record, and merging as actions on the left hill: the form that proofs and code go by.
 -- Merging is a homomorphism for every cut, associative on all hills, and the empty hill is its unit. Assumes nothing.
-use mathlib.Core.Path.{_≡_, refl, ap, sym, _∙_}
+use mathlib.Core.Path.{_≡_, refl, sym, _∙_}
 use mathlib.Core.List.{List, [], _∷_, _++_, append-assoc, append-nil}
 use Rattle.algebra.specs.Algebra.{Algebra, Laws}
 use Rattle.hill.specs.Log.{Record, opening, closing}

@@ -1,7 +1,7 @@
 -- Who closes whom, and who holds whom, by places in the log. Definitions only.
 use mathlib.Core.Path.{_≡_}
 use mathlib.Core.Logic.{_≢_}
-use mathlib.Core.List.{List}
+use mathlib.Core.List.{List, [], _∷_, List·Memᴰ}
 use Prim.Native.Nat.{ℕ, suc, _<_}
 use lib.ListN.{length, getD}
 use Rattle.hill.specs.Log.{Record, opening, closing}
@@ -30,3 +30,18 @@ pub record Holds {R : Type 0} (log : List (Record R)) (p q d : ℕ) : Type 0 whe
   pub held : OpensAt log q (suc d)
   pub after : p < q
   pub before : (c : ℕ) → ClosedBy log p c d → q < c
+
+-- The record opened at p, of depth d, is closed in the log.
+abbrev pub Closed : {R : Type 0} → List (Record R) → (p d : ℕ) → Type 0
+Closed log p d = (q : ℕ) × ClosedBy log p q d
+
+-- Places in log order.
+abbrev pub Rising : List ℕ → Type 0
+Rising [] = Unit {0}
+Rising (p ∷ ps) = ((q : ℕ) → List·Memᴰ q ps → p < q) × Rising ps
+
+-- The places with P are exactly ps, in log order.
+pub record Places (P : ℕ → Type 0) (ps : List ℕ) : Type 0 where
+  pub rising : Rising ps
+  pub all : (p : ℕ) → P p → List·Memᴰ p ps
+  pub only : (p : ℕ) → List·Memᴰ p ps → P p

@@ -27,3 +27,8 @@ module _ {R : Type 0} (𝒜 : Algebra R) where
   -- The figure of the record opened at place p of a log.
   abbrev pub figureAt : List (Record R) → ℕ → Fig
   figureAt log p = figureOf (drop p log)
+
+  -- Figures in log order, combined.
+  abbrev pub combined : List Fig → Fig
+  combined [] = ι
+  combined (a ∷ rest) = a ⊗ combined rest

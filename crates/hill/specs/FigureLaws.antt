@@ -6,7 +6,7 @@ use native.Mathlib.Omega.{arith}
 use borrow.Author.Tests.{eq-eqb, ne-eqb}
 use Rattle.algebra.specs.Algebra.{Algebra, Laws}
 use Rattle.hill.specs.Verdict.{pass}
-use Rattle.hill.specs.Log.{Record, opening, closing, logFault}
+use Rattle.hill.specs.Log.{Record, closing, logFault}
 use Rattle.hill.specs.Tree.{Forest, nil, tree, write, value}
 use Rattle.hill.specs.Figure.{held, figureOf}
 use Rattle.hill.specs.Spell.{treeOf}

@@ -2,8 +2,7 @@
 use Rattle.algebra.specs.Algebra.{Algebra}
 use Rattle.gate.specs.Outcome.{Outcome, refused, result}
 use Rattle.hill.specs.Verdict.{Verdict, pass, refuse, low, ends}
-use Rattle.hill.specs.Summary.{Summary, blank, part, start, end, verdict, middle}
-use Rattle.hill.specs.Merge.{slopes}
+use Rattle.hill.specs.Summary.{Summary, blank, part, start, end, verdict, middle, slopes}
 
 abbrev pub outcome : {A : Type 0} → Verdict → A → Outcome A
 outcome pass a = result a

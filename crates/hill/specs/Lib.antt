@@ -1,24 +1,37 @@
+-- Definitions that a reader must believe, in reading order: the questions and "the lowest"; records, levels and faults; who closes and who holds whom;
+-- the questions by places; trees and the recursion; a record's figure; a chunk's summary; merging; finishing; rows; accepted summaries.
 pub mod Verdict
 pub mod Log
 pub mod Closing
+pub mod Questions
 pub mod Tree
 pub mod Figure
 pub mod Summary
 pub mod Merge
 pub mod Finish
 pub mod Row
+pub mod Valid
+-- The lowest fault.
 pub mod VerdictLaws
-pub mod LogLaws
 pub mod Building
+pub mod Growth
+pub mod Faults
+-- Hills built record by record, and merging by levels.
 pub mod Slopes
 pub mod MergeLaws
 pub mod Map
+-- A log without fault is one tree, and its figure is the tree's.
 pub mod TreeLaws
 pub mod Spell
 pub mod WellFormed
 pub mod FigureLaws
+-- The words of "Summaries" by places.
+pub mod Places
+pub mod HeldPlaces
+pub mod ChunkPlaces
+-- Summaries: the words and the building form, the homomorphism, associativity.
 pub mod Values
 pub mod SummaryLaws
 pub mod FinishLaws
-pub mod Valid
 pub mod RowLaws
+pub mod ValidLaws

@@ -1,5 +1,5 @@
 -- A map between algebras that keeps the operations carries hills to hills. No law is needed. Assumes nothing.
-use mathlib.Core.Path.{_≡_, refl, ap, sym, _∙_}
+use mathlib.Core.Path.{_≡_, refl, _∙_}
 use mathlib.Core.List.{List, [], _∷_, _++_}
 use Rattle.algebra.specs.Algebra.{Algebra}
 use Rattle.hill.specs.Log.{Record, opening, closing}

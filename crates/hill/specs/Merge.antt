@@ -1,9 +1,9 @@
 -- Merging two summaries, in the words of "Summaries". Definitions only.
 use mathlib.Core.List.{List, [], _∷_, _++_, reverse}
-use Prim.Native.Nat.{ℕ, _+_, min}
+use Prim.Native.Nat.{_+_, min}
 use Rattle.algebra.specs.Algebra.{Algebra}
 use Rattle.hill.specs.Verdict.{Verdict, low, between, count}
-use Rattle.hill.specs.Summary.{Hill, hill, lefts, middle, rights, Part, spoilt, whole, Summary, blank, part, start, end, opened, verdict, judged}
+use Rattle.hill.specs.Summary.{Hill, hill, lefts, middle, rights, Part, Summary, blank, part, start, end, opened, verdict, peak, slopes, judged}
 
 module _ {R : Type 0} (𝒜 : Algebra R) where
   open Algebra 𝒜 using (Fig, ι, _⊗_, node)
@@ -22,22 +22,13 @@ module _ {R : Type 0} (𝒜 : Algebra R) where
   abbrev pub mergeHills : Hill Fig R → Hill Fig R → Hill Fig R
   mergeHills a b = fillValley a b (rights a) (reverse (lefts b)) ι
 
-  -- A spoilt part has no peak and no values: these stand in for them, and no result depends on them.
-  abbrev pub peak : Part Fig R → ℕ
-  peak (spoilt f s e o) = 0
-  peak (whole p o h) = p
-
-  abbrev pub slopes : Part Fig R → Hill Fig R
-  slopes (spoilt f s e o) = hill [] ι []
-  slopes (whole p o h) = h
-
   -- "If one is spoilt or the join has fault 7, 8 or 9, the result is spoilt: the lowest of these faults, the left's start, the right's end,
   -- opened added and cut to 100,001."
   abbrev pub mergeVerdict : Part Fig R → Part Fig R → Verdict
   mergeVerdict a b = low (verdict a) (low (verdict b) (low (between (end a) (start b)) (count (opened a + opened b))))
 
   abbrev pub mergePart : Part Fig R → Part Fig R → Part Fig R
-  mergePart a b = judged (mergeVerdict a b) (start a) (end b) (opened a + opened b) (min (peak a) (peak b)) (mergeHills (slopes a) (slopes b))
+  mergePart a b = judged (mergeVerdict a b) (start a) (end b) (opened a + opened b) (min (peak 𝒜 a) (peak 𝒜 b)) (mergeHills (slopes 𝒜 a) (slopes 𝒜 b))
 
   -- "A blank adds nothing."
   abbrev pub mergeSummary : Summary Fig R → Summary Fig R → Summary Fig R

@@ -1,6 +1,6 @@
 -- Merging by levels, as the paper says it, comes to the same as the actions on the left hill, on all hills. Assumes nothing.
-use mathlib.Core.Path.{_≡_, refl, sym, _∙_}
-use mathlib.Core.List.{List, [], _∷_, _++_, append-assoc, append-nil, reverse, reverse-cons, reverse-reverse}
+use mathlib.Core.Path.{_≡_, refl, _∙_}
+use mathlib.Core.List.{List, [], _∷_, _++_, append-nil, reverse, reverse-cons, reverse-reverse}
 use Rattle.algebra.specs.Algebra.{Algebra, Laws}
 use Rattle.hill.specs.Summary.{Hill, hill}
 use Rattle.hill.specs.Merge.{fillValley, mergeHills}
@@ -11,7 +11,7 @@ module _ {R : Type 0} (𝒜 : Algebra R) where
 
   infixl 70 _⊗_
   -- The deepest value is the last of the list, and goes first.
-  closes-deepest : (a : Hill Fig R) (u : List Fig) (v : Fig) → closes 𝒜 a (u ++ (v ∷ [])) ≡ closes 𝒜 (close 𝒜 (join 𝒜 v a)) u
+  pub closes-deepest : (a : Hill Fig R) (u : List Fig) (v : Fig) → closes 𝒜 a (u ++ (v ∷ [])) ≡ closes 𝒜 (close 𝒜 (join 𝒜 v a)) u
   closes-deepest a [] v = refl
   closes-deepest a (l ∷ u) v = rw (closes-deepest a u v)
 
@@ -24,7 +24,7 @@ module _ {R : Type 0} (𝒜 : Algebra R) where
     closes-flat (l ∷ t) u = rw (closes-flat t u, unit-l l)
 
     -- The state of the loop: the left hill, what came from deeper joined to its deepest level.
-    valley : (u : List Fig) (m : Fig) (d : List (R × Fig)) (t : List Fig) (n : Fig) (c : List (R × Fig)) (es : List (R × Fig)) (vs : List Fig) (x : Fig) →
+    pub valley : (u : List Fig) (m : Fig) (d : List (R × Fig)) (t : List Fig) (n : Fig) (c : List (R × Fig)) (es : List (R × Fig)) (vs : List Fig) (x : Fig) →
         fillValley 𝒜 (hill u m d) (hill t n c) es vs x ≡ push c (join 𝒜 n (closes 𝒜 (join 𝒜 x (hill u m es)) (reverse vs)))
     valley u m d t n c (e ∷ es) (v ∷ vs) x =
         rw (reverse-cons v vs, closes-deepest (join 𝒜 x (hill u m (e ∷ es))) (reverse vs) v) (valley u m d t n c es vs (node (e .0) (e .1 ⊗ x ⊗ v)))

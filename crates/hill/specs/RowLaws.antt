@@ -1,5 +1,5 @@
 -- Every way of cutting a log and of merging the pieces comes to the summary of the joined chunks. Assumes nothing.
-use mathlib.Core.Path.{_≡_, refl, ap, sym, _∙_}
+use mathlib.Core.Path.{_≡_, refl, sym, _∙_}
 use mathlib.Core.Bool.{Bool, true, false, cond}
 use mathlib.Core.List.{List, [], _∷_, _++_, map, map-append, append-assoc, append-nil}
 use mathlib.Core.Option.{Option, none, some, Option·map}
@@ -100,6 +100,10 @@ module _ {R : Type 0} (𝒜 : Algebra R) (ℒ : Laws 𝒜) where
   -- Half with half on a row of summaries comes to merging in order.
   pub mergeRow-inOrder : (row : List (Summary Fig R)) → mergeRow 𝒜 row ≡ inOrder (mergeSummary 𝒜) blank row
   mergeRow-inOrder row = halves-inOrder (mergeSummary 𝒜) blank (mergeSummary-assoc 𝒜 ℒ) (λ a. refl) (merge-blank 𝒜) (length row) row (omega arith)
+
+  -- A row of two is merged by one merge.
+  pub mergeRow-two : (a b : Summary Fig R) → mergeRow 𝒜 (a ∷ (b ∷ [])) ≡ mergeSummary 𝒜 a b
+  mergeRow-two a b = refl
 
   inOrder-summaries : (xs : List (List (Record R))) → inOrder (mergeSummary 𝒜) blank (map (summaryOf 𝒜) xs) ≡ summaryOf 𝒜 (joined xs)
   inOrder-summaries [] = refl

@@ -5,14 +5,14 @@ use Prim.Native.Nat.{ℕ, suc, _+_, _≤_, min}
 use native.Mathlib.Nat.{add-zero, add-suc}
 use native.Mathlib.Omega.{arith}
 use lib.ListN.{length}
-use Rattle.hill.specs.Verdict.{pass, low, between}
+use Rattle.hill.specs.Verdict.{pass, between}
 use Rattle.hill.specs.VerdictLaws.{low-fst, low-snd, between-pass}
 use Rattle.hill.specs.Log.{Record, opening, closing, depth, startLevel, endLevel, endOf, peakOf, joints}
 use Rattle.hill.specs.Tree.{Forest, nil, tree, write}
 use Rattle.hill.specs.Summary.{Hill, hill, rise, fall, middle}
-use Rattle.hill.specs.Building.{push, empty, join, close, step, run, hillOf}
+use Rattle.hill.specs.Building.{empty, join, step, run, hillOf}
 use Rattle.hill.specs.Slopes.{fall-join, rise-join}
-use Rattle.hill.specs.TreeLaws.{beside, write-beside, free, free-laws, hillOf-write, value-free}
+use Rattle.hill.specs.TreeLaws.{write-beside, free, free-laws, hillOf-write, value-free}
 
 module _ {R : Type 0} where
   -- The records of the left slope over peak p, and of the right slope.

@@ -71,6 +71,15 @@ module _ {R : Type 0} (𝒜 : Algebra R) where
   open Algebra 𝒜 using (Fig, ι, _⊗_, node)
 
   infixl 70 _⊗_
+  -- A spoilt part has no peak and no values: these stand in for them where no result depends on them.
+  abbrev pub peak : Part Fig R → ℕ
+  peak (spoilt f s e o) = 0
+  peak (whole p o h) = p
+
+  abbrev pub slopes : Part Fig R → Hill Fig R
+  slopes (spoilt f s e o) = hill [] ι []
+  slopes (whole p o h) = h
+
   -- "A left or middle value combines the records at its level that are both opened and closed in the chunk and held by none that the chunk opens":
   -- those of depth d that are closed further on, and opened before the first close at depth d - 1.
   abbrev pub done : ℕ → List (Record R) → Fig

@@ -1,15 +1,15 @@
 -- Merging summaries is a homomorphism for every cut, and associative on all summaries with blank as unit. Assumes nothing.
 use mathlib.Core.Path.{_≡_, refl, ap, sym, _∙_}
 use mathlib.Core.List.{List, [], _∷_, _++_}
-use Prim.Native.Nat.{ℕ, suc, _+_, _-_, _≤_, min}
+use Prim.Native.Nat.{ℕ, _+_, _-_, _≤_, min}
 use native.Mathlib.Nat.{add-assoc}
 use native.Mathlib.Omega.{arith}
 use Rattle.algebra.specs.Algebra.{Algebra, Laws}
 use Rattle.hill.specs.Verdict.{Verdict, pass, refuse, low, between, count, cut}
 use Rattle.hill.specs.VerdictLaws.{low-assoc, low-left, low-fst, low-snd, between-pass, count-pass, count-cut-l, count-cut-r, count-absorb, cut-few}
 use Rattle.hill.specs.Log.{Record, opening, closing, depth, startLevel, endLevel, endOf, peakOf, opens, openedOf, joints, faultOf}
-use Rattle.hill.specs.Summary.{Hill, hill, Part, spoilt, whole, Summary, blank, part, rise, fall, start, end, opened, verdict, judged, valuesOf, partOf, summaryOf}
-use Rattle.hill.specs.Merge.{mergeHills, peak, slopes, mergeVerdict, mergePart, mergeSummary}
+use Rattle.hill.specs.Summary.{Hill, Part, spoilt, whole, Summary, blank, part, rise, fall, start, end, opened, verdict, judged, valuesOf, partOf, summaryOf, peak, slopes}
+use Rattle.hill.specs.Merge.{mergeHills, mergeVerdict, mergePart, mergeSummary}
 use Rattle.hill.specs.Building.{merge, hillOf, hillOf-append, merge-assoc}
 use Rattle.hill.specs.Slopes.{fall-merge, rise-merge}
 use Rattle.hill.specs.MergeLaws.{mergeHills-merge}

@@ -1,13 +1,13 @@
 -- The algebra of forests, and the hill of a traversal: the forest's figure, with no slopes. Assumes nothing.
-use mathlib.Core.Path.{_≡_, refl, ap, sym, _∙_}
-use mathlib.Core.List.{List, [], _∷_, _++_, append-assoc, append-nil}
-use Prim.Native.Nat.{ℕ, suc, _+_}
+use mathlib.Core.Path.{_≡_, refl, sym, _∙_}
+use mathlib.Core.List.{[], _∷_, _++_, append-assoc}
+use Prim.Native.Nat.{ℕ, suc}
 use Rattle.algebra.specs.Algebra.{Algebra, Laws}
-use Rattle.hill.specs.Log.{Record, opening, closing}
+use Rattle.hill.specs.Log.{closing}
 use Rattle.hill.specs.Tree.{Forest, nil, tree, write, value}
 use Rattle.hill.specs.Summary.{Hill, hill}
-use Rattle.hill.specs.Building.{push, empty, join, close, step, run, hillOf, run-append, join-unit, join-join}
-use Rattle.hill.specs.Map.{Hom, mapHill, map-hillOf}
+use Rattle.hill.specs.Building.{empty, join, run, hillOf, run-append, join-unit, join-join}
+use Rattle.hill.specs.Map.{Hom}
 
 module _ {R : Type 0} where
   abbrev pub beside : Forest R → Forest R → Forest R

@@ -1,5 +1,5 @@
 -- The values of a chunk's hill in the paper's words are those of the hill built record by record. Assumes nothing.
-use mathlib.Core.Path.{_≡_, refl, ap, sym, _∙_}
+use mathlib.Core.Path.{_≡_, refl, ap, ap₂, sym, _∙_}
 use mathlib.Core.Bool.{Bool, true, false, _&&_, _||_, not}
 use mathlib.Core.List.{List, [], _∷_, _++_, append-assoc, append-nil}
 use Prim.Native.Nat.{ℕ, zero, suc, _+_, _-_, _<_, _≤_}
@@ -133,18 +133,23 @@ module _ {R : Type 0} (𝒜 : Algebra R) where
         )
         (rw (held-write 𝒜 ℒ (suc d) k (closing d ∷ (write d f ++ ys)), eq-eqb (suc d) (suc d) refl, unit-r (value 𝒜 k), done-write d f ys) (sym (assoc (node r (value 𝒜 k)) (value 𝒜 f) (done 𝒜 d ys))))
 
-    lefts-left : (p : ℕ) (u : List (Forest R)) (ys : List (Record R)) → leftsOf 𝒜 p (length u) (left p u ++ ys) ≡ mapUp (value 𝒜) u
-    lefts-left p [] ys = refl
-    lefts-left p (f ∷ u) ys =
+    left-split : (p : ℕ) (f : Forest R) (u : List (Forest R)) (ys : List (Record R)) → left p (f ∷ u) ++ ys ≡ left (suc p) u ++ (write (suc p) f ++ (closing p ∷ ys))
+    left-split p f u ys = simp append-assoc
+
+    left-value : (p : ℕ) (f : Forest R) (u : List (Forest R)) (ys : List (Record R)) → done 𝒜 (suc p) (left p (f ∷ u) ++ ys) ≡ value 𝒜 f
+    left-value p f u ys =
         rw (
-          append-assoc (left (suc p) u) (write (suc p) f ++ (closing p ∷ [])) ys,
-          append-assoc (write (suc p) f) (closing p ∷ []) ys,
+          left-split p f u ys,
           done-left (suc p) (suc p) u (write (suc p) f ++ (closing p ∷ ys)) (omega arith),
           done-write (suc p) f (closing p ∷ ys),
           eq-eqb (suc p) (suc p) refl,
           unit-r (value 𝒜 f),
-          lefts-left (suc p) u (write (suc p) f ++ (closing p ∷ ys)),
         )
+
+    lefts-left : (p : ℕ) (u : List (Forest R)) (ys : List (Record R)) → leftsOf 𝒜 p (length u) (left p u ++ ys) ≡ mapUp (value 𝒜) u
+    lefts-left p [] ys = refl
+    lefts-left p (f ∷ u) ys =
+        ap₂ _∷_ (left-value p f u ys) (ap (leftsOf 𝒜 (suc p) (length u)) (left-split p f u ys) ∙ lefts-left (suc p) u (write (suc p) f ++ (closing p ∷ ys)))
 
     rights-right : (p : ℕ) (d : List (R × Forest R)) (ys : List (Record R)) → Quiet (p + length d) ys → rightsOf 𝒜 p (length d) (right p d ++ ys) ≡ mapDown (value 𝒜) d
     rights-right p [] ys q = refl

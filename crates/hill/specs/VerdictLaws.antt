@@ -1,8 +1,7 @@
 -- Laws of the lowest fault, and what a passed question says. Assumes nothing.
 use mathlib.Core.Path.{_≡_, refl, ap, sym, _∙_}
 use mathlib.Core.Bool.{Bool, true, false}
-use Prim.Native.Nat.{ℕ, suc, _+_, _≤_, _<_, min}
-use native.Mathlib.Nat.{min-comm}
+use Prim.Native.Nat.{ℕ, suc, _+_, _≤_, _<_}
 use native.Mathlib.Omega.{arith}
 use lib.Dec.{leb, ltb, eqb}
 use borrow.Author.Tests.{le-leb, leb-true, eqb-true, eq-eqb, lt-ltb, ltb-true}
@@ -15,7 +14,7 @@ low-pass (refuse m) = refl
 pub low-comm : (v w : Verdict) → low v w ≡ low w v
 low-comm pass w = sym (low-pass w)
 low-comm (refuse m) pass = refl
-low-comm (refuse m) (refuse n) = rw (min-comm m n)
+low-comm (refuse m) (refuse n) = ap refuse (omega arith)
 
 pub low-assoc : (u v w : Verdict) → low (low u v) w ≡ low u (low v w)
 low-assoc pass v w = refl

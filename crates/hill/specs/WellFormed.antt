@@ -2,11 +2,11 @@
 use mathlib.Core.Path.{_≡_, refl, sym, _∙_}
 use mathlib.Core.List.{List, [], _∷_, _++_, append-assoc}
 use Prim.Native.Nat.{ℕ, suc}
-use Rattle.hill.specs.Verdict.{Verdict, pass, refuse, low, between, count, ends}
+use Rattle.hill.specs.Verdict.{Verdict, pass, low, between, count, ends}
 use Rattle.hill.specs.VerdictLaws.{low-pass, low-fst, low-snd, between-same, ends-pass, refuse-pass}
 use Rattle.hill.specs.Log.{Record, opening, closing, startLevel, endLevel, endOf, joints, openedOf, faultOf, logFault}
 use Rattle.hill.specs.Tree.{Forest, nil, tree, write}
-use Rattle.hill.specs.LogLaws.{end-last}
+use Rattle.hill.specs.Growth.{end-last}
 use Rattle.hill.specs.Spell.{treeOf, write-treeOf, joints-meet, end-from}
 
 module _ {R : Type 0} where
