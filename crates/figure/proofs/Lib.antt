@@ -1,2 +1,3 @@
 mod Helds
 mod Modes
+mod Rooms

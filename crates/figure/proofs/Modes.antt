@@ -1,5 +1,6 @@
 -- The modes as a match on the number leaves them, and the ranges of stored stamps. Assumes nothing.
 use mathlib.Core.Path.{_≡_, refl, sym, ap}
+use mathlib.Core.Bool.{true}
 use Prim.Native.Nat.{ℕ, zero, suc, _%_, _^_}
 use lib.IntN.{ℤ, pos, _+ℤ_, natAbs}
 use lib.Signed.{_≤ℤ_, _<ℤ_}
@@ -44,6 +45,16 @@ module _ (m : ℕ) (not-2 : m ≡ 2 → ⊥) (not-4 : m ≡ 4 → ⊥) where
   pub plain-combined : (a b : ℤ) → combined (modeOf m) a b ≡ a +ℤ b
   unfolding combined modeOf
   plain-combined a b = plain (λ M. combined M a b ≡ a +ℤ b) m not-2 not-4 refl refl
+
+-- every number stands for a figure, but in mode 4
+pub any-figure : (m : ℕ) → (m ≡ 4 → ⊥) → (z : ℤ) → modeOf m .isFigure z ≡ true
+unfolding modeOf
+any-figure zero n4 z = refl
+any-figure (suc zero) n4 z = refl
+any-figure (suc (suc zero)) n4 z = refl
+any-figure (suc (suc (suc zero))) n4 z = refl
+any-figure (suc (suc (suc (suc zero)))) n4 z = absurd (n4 refl)
+any-figure (suc (suc (suc (suc (suc n))))) n4 z = refl
 
 -- nothing held is 0, but in mode 2
 pub plain-none : (m : ℕ) → (m ≡ 2 → ⊥) → none (modeOf m) ≡ pos 0

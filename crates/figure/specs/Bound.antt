@@ -2,8 +2,7 @@
 -- Document 01's bound is one formula: unit × unclosed + the sizes of the values ≤ unit × opened. In modes 1 to 3 the unit is 10^9 and a size
 -- is an absolute value, "-2^63 in mode 2 counts 0"; in mode 4 the unit is 1 and every size 0: "opened is at least the unclosed records".
 use mathlib.Core.Path.{_≡_, refl}
-use Prim.Native.Nat.{ℕ, _+_, _*_, _≤_, max}
-use native.Mathlib.Nat.{mul-le-mul}
+use Prim.Native.Nat.{ℕ, _+_, _≤_, max}
 use native.Mathlib.Omega.{arith}
 use lib.Dec.{lit<}
 use lib.IntN.{ℤ, _+ℤ_, natAbs}
@@ -145,8 +144,3 @@ stampSizes = record { unit = 1; size = λ _. 0; unit-pos = lit< tt; size-ι = re
 
 abbrev pub stampRunSizes : RunSizes stampContext stampSizes
 stampRunSizes = record { Within = λ _ _. Unit {0}; within-level = λ _ _. tt; within-compose = λ _ _ _ _ _ _. tt }
-
--- ---- what the bound leaves fits 64 bits
-
-pub bound-fits : (unit opened n : ℕ) → unit ≤ limit → opened ≤ 100000 → n ≤ unit * opened → n ≤ 100000000000000
-bound-fits unit opened n u o h = omega (arith, mul-le-mul {n₁ = unit} {m₁ = opened} {n₂ = limit} {m₂ = 100000} u o)

@@ -1,10 +1,10 @@
 -- The four modes of document 01, "Four modes", and how their figures are stored in 64 bits.
-use mathlib.Core.Bool.{Bool, true, false}
+use mathlib.Core.Bool.{Bool, true, false, _&&_}
 use Prim.Native.Nat.{ℕ, _+_, _*_, _%_, _^_, _≤_, _<_}
 use native.Mathlib.Nat.{mod-lt}
 use lib.Dec.{eqb, lit<}
 use lib.IntN.{ℤ, pos, negsuc, _+ℤ_, natAbs}
-use lib.Signed.{_≤ℤ_}
+use lib.Signed.{leZ, ltZ, _≤ℤ_}
 use Rattle.algebra.specs.Algebra.{Algebra}
 use Rattle.number.specs.Integer.{maxZ, clamp, wrap}
 use Rattle.number.specs.IntegerLaws.{up}
@@ -91,3 +91,7 @@ storeStamp s = pos (s .num)
 
 abbrev pub readStamp : ℤ → Stamp
 readStamp z = stampOf (up z)
+
+-- "In mode 4, 64-bit values are 0 to 2^32 - 1."
+unfoldable pub isStamp : ℤ → Bool
+isStamp z = leZ (pos 0) z && ltZ z (pos 4294967296)

@@ -1,6 +1,6 @@
 -- A mode with all that belongs to it, and the modes by their numbers. Each later theorem takes a `Mode`.
 use mathlib.Core.Path.{_≡_, refl}
-use mathlib.Core.Bool.{Bool, _&&_}
+use mathlib.Core.Bool.{Bool, true, _&&_}
 use Prim.Native.Nat.{ℕ, zero, suc, _^_, _≤_, _<_}
 use lib.Dec.{leb, lit≤}
 use lib.IntN.{ℤ, +ℤ-comm}
@@ -10,13 +10,13 @@ use Rattle.algebra.specs.Algebra.{Algebra, Laws, Commutative}
 use Rattle.algebra.specs.Run.{Context}
 use Rattle.algebra.specs.Sizes.{Sizes, RunSizes}
 use Rattle.number.specs.IntegerLaws.{sfits-abs}
-use Rattle.figure.specs.FourModes.{Amounts, limit, InRange, net, heaviest, eaten, stamp, storeHeld, readHeld, storeStamp, readStamp}
+use Rattle.figure.specs.FourModes.{Amounts, limit, InRange, net, heaviest, eaten, stamp, storeHeld, readHeld, storeStamp, readStamp, isStamp}
 use Rattle.figure.specs.ModeLaws.{netLaws, eatenLaws, heaviestLaws, heaviest-comm, stampLaws, stamp-comm}
 use Rattle.figure.specs.Run.{netRun, heaviestRun, eatenRun, stampRun}
 use Rattle.figure.specs.Runs.{netContext, heaviestContext, eatenContext, stampContext}
 use Rattle.figure.specs.RunUnique.{Pinned, netPinned, heaviestPinned, eatenPinned, stampPinned}
 use Rattle.figure.specs.Bound.{netSizes, netRunSizes, heaviestSizes, heaviestRunSizes, eatenSizes, eatenRunSizes, stampSizes, stampRunSizes}
-use Rattle.figure.specs.StoreLaws.{held-back, held-fits, stamp-back, stamp-fits, readNetRun, readHeaviestRun, readEatenRun, readStampRun, RunFits, net-run-fits, line-back, line-run-fits, between-run-fits, affine-back, affine-run-fits}
+use Rattle.figure.specs.StoreLaws.{held-stored, is-stamp, stamp-is, held-back, held-fits, stamp-back, stamp-fits, readNetRun, readHeaviestRun, readEatenRun, readStampRun, RunFits, net-run-fits, line-back, line-run-fits, between-run-fits, affine-back, affine-run-fits}
 use Rattle.figure.specs.declared.Run.{Run}
 
 pub record Mode : Type 1 where
@@ -30,6 +30,10 @@ pub record Mode : Type 1 where
   pub store : algebra .Fig → ℤ
   pub read : ℤ → algebra .Fig
   pub read-back : (v : algebra .Fig) → sizes .size v < 2 ^ 63 → read (store v) ≡ v
+  -- whether a number stands for a figure, decided
+  pub isFigure : ℤ → Bool
+  pub is-figure : (z : ℤ) → isFigure z ≡ true → store (read z) ≡ z
+  pub figure-is : (z : ℤ) → store (read z) ≡ z → isFigure z ≡ true
   pub store-fits : (v : algebra .Fig) → sizes .size v < 2 ^ 63 → SFits w64 (store v)
   -- runs, that their numbers are the only ones, and the numbers as they are stored
   pub context : Context algebra InRange
@@ -50,6 +54,9 @@ mode1 = record {
   store = λ z. z;
   read = λ z. z;
   read-back = λ _ _. refl;
+  isFigure = λ _. true;
+  is-figure = λ _ _. refl;
+  figure-is = λ _ _. refl;
   store-fits = sfits-abs w64;
   context = netContext;
   pinned = netPinned;
@@ -70,6 +77,9 @@ mode2 = record {
   store = storeHeld;
   read = readHeld;
   read-back = held-back;
+  isFigure = λ _. true;
+  is-figure = λ z _. held-stored z;
+  figure-is = λ _ _. refl;
   store-fits = held-fits;
   context = heaviestContext;
   pinned = heaviestPinned;
@@ -90,6 +100,9 @@ mode3 = record {
   store = λ z. z;
   read = λ z. z;
   read-back = λ _ _. refl;
+  isFigure = λ _. true;
+  is-figure = λ _ _. refl;
+  figure-is = λ _ _. refl;
   store-fits = sfits-abs w64;
   context = eatenContext;
   pinned = eatenPinned;
@@ -110,6 +123,9 @@ mode4 = record {
   store = storeStamp;
   read = readStamp;
   read-back = λ s _. stamp-back s;
+  isFigure = isStamp;
+  is-figure = is-stamp;
+  figure-is = stamp-is;
   store-fits = λ s _. stamp-fits s;
   context = stampContext;
   pinned = stampPinned;

@@ -1,16 +1,16 @@
 -- What is stored is read back, and fits 64 bits: figures, and the numbers of a run. Assumes nothing.
-use mathlib.Core.Path.{_≡_, refl, sym, ap}
-use mathlib.Core.Bool.{Bool, true, false}
+use mathlib.Core.Path.{_≡_, refl, sym, ap, _∙_, subst}
+use mathlib.Core.Bool.{Bool, true, false, _&&_}
 use Prim.Native.Nat.{ℕ, _^_, _≤_, _<_}
 use native.Mathlib.Nat.{mod-eq-of-lt}
 use native.Mathlib.Omega.{arith}
-use lib.Dec.{T, eqb, eqb→eq, lit<}
-use borrow.Author.Tests.{ne-eqb}
+use lib.Dec.{T, ltb, leb·zero, eqb, eqb→eq, lit<}
+use borrow.Author.Tests.{ltb-true, lt-ltb, ne-eqb}
 use lib.IntN.{ℤ, pos, negsuc, natAbs}
 use mir.Syntax.{w64}
 use mir.Val.{SFits}
-use Rattle.number.specs.IntegerLaws.{sfits-abs}
-use Rattle.figure.specs.FourModes.{Stamp, nothing, storeHeld, readHeld, heldIf, storeStamp, readStamp}
+use Rattle.number.specs.IntegerLaws.{zed, sfits-abs}
+use Rattle.figure.specs.FourModes.{Stamp, nothing, storeHeld, readHeld, heldIf, storeStamp, readStamp, isStamp}
 use Rattle.figure.specs.ModeLaws.{stamp-≡}
 use Rattle.figure.specs.Run.{netRun, Line, heaviestRun, Between, eatenRun, Affine, stampRun}
 use Rattle.figure.specs.Bound.{sizeHeld, LineIn, BetweenIn}
@@ -50,6 +50,20 @@ stamp-back s = stamp-≡ (mod-eq-of-lt (s .small))
 
 pub stamp-fits : (s : Stamp) → SFits w64 (storeStamp s)
 stamp-fits s = record { sfits = omega (arith, s .small) }
+
+-- a number that stands for a stamp, decided
+is-stamp-pos : (n : ℕ) → isStamp (pos n) ≡ ltb n 4294967296
+unfolding isStamp
+is-stamp-pos n = ap (λ (b : Bool). b && ltb n 4294967296) (leb·zero n)
+
+pub is-stamp : (z : ℤ) → isStamp z ≡ true → storeStamp (readStamp z) ≡ z
+unfolding isStamp
+is-stamp (pos n) e = ap pos (mod-eq-of-lt (ltb-true n 4294967296 (sym (is-stamp-pos n) ∙ e)))
+is-stamp (negsuc n) e = absurd (subst T (sym e) tt)
+
+pub stamp-is : (z : ℤ) → storeStamp (readStamp z) ≡ z → isStamp z ≡ true
+stamp-is (pos n) e = is-stamp-pos n ∙ lt-ltb n 4294967296 (omega (zed, e))
+stamp-is (negsuc n) e = absurd (omega (zed, e))
 
 -- ---- runs
 

@@ -1,6 +1,7 @@
 -- The operations on stored numbers, and their laws, the same for each mode. Assumes nothing.
 use mathlib.Core.Path.{_≡_, sym, ap, _∙_, subst}
-use Prim.Native.Nat.{ℕ, _+_, _^_, _≤_, _<_}
+use Prim.Native.Nat.{ℕ, _+_, _*_, _^_, _≤_, _<_}
+use native.Mathlib.Nat.{mul-le-mul}
 use native.Mathlib.Omega.{arith}
 use lib.IntN.{ℤ, natAbs}
 use mir.Syntax.{w64}
@@ -77,6 +78,10 @@ pub record Composes (M : Mode) (f g : Run) : Type 0 where
   pub outer-within : RunWithin M f outer
   pub inner-within : RunWithin M g inner
   pub room : outer + inner < 2 ^ 63
+
+-- What document 01's bound leaves for the sizes of a summary's values is at most 10^14.
+pub bound-small : (M : Mode) (opened n : ℕ) → opened ≤ 100000 → n ≤ M .sizes .unit * opened → n ≤ 100000000000000
+bound-small M opened n o h = omega (arith, mul-le-mul {n₁ = M .sizes .unit} {m₁ = opened} {n₂ = limit} {m₂ = 100000} (M .unit-small) o)
 
 -- ---- nothing held
 

@@ -157,6 +157,17 @@ pub fn sum(a: i64, b: i64) -> i64
     a + b
 }
 
+// The absolute value.
+pub fn magnitude(x: i64) -> u64
+    ensures { λ r. ⌜ r ≡ natAbs x ⌝ }
+{
+    if 0 <= x {
+        x as u64
+    } else {
+        ((-1 - x) as u64) + 1
+    }
+}
+
 pub fn widen(x: i32) -> i64
     ensures { λ r. ⌜ r ≡ x ⌝ }
 {

@@ -1,0 +1,83 @@
+-- `figure::level_heaviest` meets its contract. Assumes nothing.
+use borrow.Author.Needs.{needs}
+use mathlib.Core.Path.{_≡_, _∙_, ap, ap₂}
+use Prim.Native.Nat.{_+_, _^_, _≤_, _<_}
+use native.Mathlib.Omega.{arith}
+use lib.IntN.{natAbs}
+use mir.Syntax.{w64}
+use mir.Val.{toZ, ofZ}
+use mir.Facts.{toZ-ofZ}
+use Rattle.number.specs.Integer.{maxZ}
+use Rattle.number.specs.Word.{back, widened}
+use Rattle.figure.specs.FourModes.{lift, lineOf, readHeld, storeHeld}
+use Rattle.figure.specs.Runs.{moved}
+use Rattle.figure.specs.Bound.{sizeHeld, size-lift, max-sum}
+use Rattle.figure.specs.Mode.{modeOf}
+use Rattle.figure.specs.Stored.{sizeOf, levelRun}
+use Rattle.figure.proofs.level_heaviest.Statement.{statement}
+use Rattle.figure.proofs.level_heaviest.Tie as tie
+
+value-is : (c : tie.After-widen) → toZ w64 (ofZ w64 (c .widen .result)) ≡ c .before .args .value
+value-is c = widened (c .widen .result) (c .before .args .value) (c .widen .ok) (c .widen .ensures) (c .before .fits .value)
+
+room : (s : tie.Start) → natAbs (s .args .value) + (sizeHeld (readHeld (s .args .before)) + sizeHeld (readHeld (s .args .behind))) < 2 ^ 63
+unfolding sizeOf modeOf
+room s = s .pre .room
+
+size-other : (s : tie.Start) → sizeHeld (lift maxZ (readHeld (s .args .before)) (readHeld (s .args .behind))) ≤ sizeHeld (readHeld (s .args .before)) + sizeHeld (readHeld (s .args .behind))
+size-other s = size-lift maxZ max-sum (readHeld (s .args .before)) (readHeld (s .args .behind))
+
+other-is : (c : tie.After-max-held) → c .max-held .result ≡ lift maxZ (readHeld (c .before .before .before .before .args .before)) (readHeld (c .before .before .before .before .args .behind))
+other-is c =
+    let s = c .before .before .before .before in
+    c .max-held .ensures
+    ∙ ap₂ (lift maxZ) (c .before .before .read-held .ensures ∙ ap readHeld (toZ-ofZ (s .fits .before))) (c .before .read-held2 .ensures ∙ ap readHeld (toZ-ofZ (s .fits .behind)))
+
+widen-requires : tie.Need-widen-requires
+widen-requires c κs = search needs
+
+read-held-requires : tie.Need-read-held-requires
+read-held-requires c κs = search needs
+
+read-held-requires-2 : tie.Need-read-held-requires-2
+read-held-requires-2 c κs = search needs
+
+max-held-requires : tie.Need-max-held-requires
+max-held-requires c κs = search needs
+
+line-requires : tie.Need-line-requires
+line-requires c κs =
+    let s = c .before .before .before .before in
+    simp (value-is (c .before .before .before)) (omega (arith, ap sizeHeld (other-is c), size-other s, room s))
+
+moved-by-requires : tie.Need-moved-by-requires
+moved-by-requires c κs =
+    let s = c .before .before .before .before .before in
+    simp (value-is (c .before .before .before .before)) (omega (arith, ap sizeHeld (other-is (c .before)), size-other s, room s))
+
+store-held-requires : tie.Need-store-held-requires
+store-held-requires c κs = search needs
+
+returns : tie.Need-returns
+unfolding levelRun modeOf
+returns c =
+    let o = c .before .before .before in
+    let w = o .before .before .before in
+    let v = w .before .args .value in
+    let z = back w64 (c .before .before .line .result) (c .before .before .line .ok) ∙ (simp (value-is w) at (c .before .before .line .ensures)) ∙ ap (lineOf v) (other-is o) in
+    let a = back w64 (c .store-held .result) (c .store-held .ok) ∙ c .store-held .ensures
+    ∙ ap storeHeld ((simp (value-is w) at (c .before .moved-by .ensures)) ∙ ap (λ h. moved h v) (other-is o)) in
+    λ i. record { first = z i; second = a i; third = value-is w i }
+
+pub level-heaviest-spec : {M : Type 1} → statement M
+level-heaviest-spec =
+    tie.close
+    (tie.spec
+    widen-requires
+    read-held-requires
+    read-held-requires-2
+    max-held-requires
+    line-requires
+    moved-by-requires
+    store-held-requires
+    returns)
