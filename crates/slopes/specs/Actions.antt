@@ -2,7 +2,7 @@
 use mathlib.Core.Path.{_≡_}
 use mathlib.Core.Bool.{Bool, true, false}
 use mathlib.Core.List.{List}
-use Prim.Native.Nat.{ℕ, zero, suc, _+_, _^_, _≤_, _<_}
+use Prim.Native.Nat.{ℕ, zero, suc, _+_, _-_, _^_, _≤_, _<_}
 use lib.IntN.{ℤ}
 use lib.ListN.{length, set}
 use Rattle.hill.specs.Log.{Record, opening, closing}
@@ -47,8 +47,13 @@ pub record Added (M : Mode) (hs : List ℤ) (n : ℕ) (mid x : ℤ) (hs′ : Lis
 -- ---- `close`, `sink`, `apply`
 
 -- where no record is open, there is room for one more left value
-abbrev pub Falls : Counts → Type 0
-Falls c = c .nl < 64 + c .n
+abbrev pub CanClose : Counts → Type 0
+CanClose c = c .nl < 64 + c .n
+
+-- the counts after a close: one record less, or, where none was open, one left value more
+pub record Fell (c c′ : Counts) : Type 0 where
+  pub left : c′ .nl ≡ c .nl + (1 - c .n)
+  pub records : c′ .n ≡ c .n - 1
 
 -- x can join the current level
 pub record Joins (M : Mode) (A : Arrays) (c : Counts) (x : ℤ) : Type 0 where
@@ -59,7 +64,7 @@ pub record Joins (M : Mode) (A : Arrays) (c : Counts) (x : ℤ) : Type 0 where
 -- there is room for a record: an open puts one more record on top, whose numbers are in range; a close takes one off
 pub record Room (opens : Bool) (r : Amounts) (c : Counts) : Type 0 where
   pub up : opens ≡ true → (c .n < 64) × InRange r
-  pub down : opens ≡ false → Falls c
+  pub down : opens ≡ false → CanClose c
 
 -- a record of depth d
 abbrev pub entry : Bool → ℕ → Amounts → Record Amounts

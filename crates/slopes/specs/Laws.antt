@@ -2,7 +2,8 @@
 use mathlib.Core.Path.{_≡_, refl, sym, ap, ap₂, subst, _∙_}
 use mathlib.Core.Bool.{Bool, true, false}
 use mathlib.Core.List.{List, [], _∷_}
-use Prim.Native.Nat.{ℕ, zero, suc, _+_, _^_, _≤_, _<_}
+use Prim.Native.Nat.{ℕ, zero, suc, _+_, _-_, _*_, _^_, _≤_, _<_}
+use native.Mathlib.Nat.{mul-le-mul-right}
 use native.Mathlib.Omega.{arith}
 use lib.IntN.{ℤ, pos}
 use lib.ListN.{length, set, length-set}
@@ -11,13 +12,14 @@ use lib.Seq.{getD-set-same, getD-set-other}
 use Rattle.hill.specs.Log.{opening}
 use Rattle.hill.specs.Summary.{Hill, hill, rise, fall}
 use Rattle.hill.specs.Building.{push, join, close, step, empty}
-use Rattle.hill.specs.Valid.{weight-join, weight-close, fine-join, fine-close}
+use Rattle.hill.specs.Slopes.{rise-join, fall-join, rise-close, fall-close}
+use Rattle.hill.specs.ValidLaws.{weight-join, fine-join}
 use Rattle.figure.specs.FourModes.{Amounts, limit, InRange}
 use Rattle.figure.specs.Mode.{Mode}
 use Rattle.figure.specs.Stored.{IsStored, sizeOf, none, combined, passed, amounts, Combines, Passes, none-read, none-size, none-stored, combined-read, combined-stored, passed-read, passed-size, passed-stored, passes}
 use Rattle.slopes.specs.declared.Counts.{Counts}
 use Rattle.slopes.specs.Arrays.{Arrays, arrays, at, amountsAt, Fig, ups, downs, slopesOf, hillSizes, weightOf, Fine, Sound, Stored, Able, StandsFor}
-use Rattle.slopes.specs.Actions.{Pushed, current, Adds, midAfter, heldAfter, Added, Falls, Joins, Room, entry, cost}
+use Rattle.slopes.specs.Actions.{Pushed, current, Adds, midAfter, heldAfter, Added, CanClose, Joins, Room, entry, cost, Fell}
 
 abbrev pub counts : (nl n : ℕ) (mid : ℤ) → Counts
 counts nl n mid = record { nl = nl; n = n; mid = mid }
@@ -113,6 +115,10 @@ module _ {M : Mode} {A : Arrays} {c : Counts} {h : Hill (Fig M) Amounts} {b : �
   pub fall-is : c .n ≡ fall h
   fall-is = sym (fall-slopes M A c) ∙ ap fall (s .is)
 
+  -- x can join the current level
+  pub joins : {x : ℤ} → IsStored M x → b + sizeOf M x < 2 ^ 62 → Joins M A c x
+  joins {x} i lt = record { able = able (omega arith); stored = i; light = subst (λ (g : Hill (Fig M) Amounts). weightOf M g + sizeOf M x < 2 ^ 62) (sym (s .is)) (omega (arith, s .light)) }
+
 module _ {M : Mode} {A : Arrays} {c : Counts} {x : ℤ} (j : Joins M A c x) where
   join-room : sizeOf M (current (c .n) (c .mid) (A .held)) + sizeOf M x < 2 ^ 63
   join-room = omega (arith, current-light M A (c .nl) (c .n) (c .mid), j .light)
@@ -154,7 +160,7 @@ withLeft A ls = arrays ls (A .values) (A .floors) (A .ceilings) (A .held)
 
 module _ {M : Mode} {A : Arrays} {c : Counts} (a : Able M A c) where
   -- where no record is open, the level is left
-  pub close-left : {nl′ : ℕ} {mid′ z : ℤ} → c .n ≡ 0 → Falls c → nl′ ≡ suc (c .nl) → mid′ ≡ c .mid → z ≡ none M
+  pub close-left : {nl′ : ℕ} {mid′ z : ℤ} → c .n ≡ 0 → CanClose c → nl′ ≡ suc (c .nl) → mid′ ≡ c .mid → z ≡ none M
       → StandsFor M (withLeft A (set (A .left) (c .nl) mid′)) (counts nl′ (c .n) z) (close (M .algebra) (slopesOf M A c)) (weightOf M (slopesOf M A c))
   unfolding sizeOf
   close-left {nl′} {mid′} {z} e lt en em ez =
@@ -267,12 +273,32 @@ module _ {M : Mode} {A : Arrays} {c : Counts} (a : Able M A c) where
       restate (pushed r z lt g (rw ez (none-stored M)) en em p) (weightOf M (slopesOf M A c) + M .sizes .unit) (ap (λ f. push ((r, f) ∷ []) (slopesOf M A c)) e)
       (rw (ez, none-size M) (omega arith))
 
--- ---- one action after another
+-- ---- one action after another: on arrays that stand for h, an action that adds no weight, and one that adds at most k
 
--- an action that adds no weight, on arrays that stand for h
-pub after : {M : Mode} {A A′ : Arrays} {c c′ : Counts} {h : Hill (Fig M) Amounts} {b : ℕ} (f : Hill (Fig M) Amounts → Hill (Fig M) Amounts)
-    → StandsFor M A c h b → StandsFor M A′ c′ (f (slopesOf M A c)) (weightOf M (slopesOf M A c)) → StandsFor M A′ c′ (f h) b
-after {M} {A} {c = c} {b = b} f s t = restate t b (ap f (s .is)) (subst (λ (g : Hill (Fig M) Amounts). weightOf M g ≤ b) (sym (s .is)) (s .light))
+module _ {M : Mode} {A : Arrays} {c : Counts} {h : Hill (Fig M) Amounts} {b : ℕ} (s : StandsFor M A c h b) (f : Hill (Fig M) Amounts → Hill (Fig M) Amounts) where
+  weight-is : weightOf M (slopesOf M A c) ≤ b
+  weight-is = subst (λ (g : Hill (Fig M) Amounts). weightOf M g ≤ b) (sym (s .is)) (s .light)
+
+  pub after : {A′ : Arrays} {c′ : Counts} → StandsFor M A′ c′ (f (slopesOf M A c)) (weightOf M (slopesOf M A c)) → StandsFor M A′ c′ (f h) b
+  after t = restate t b (ap f (s .is)) weight-is
+
+  pub after-more : {A′ : Arrays} {c′ : Counts} (k : ℕ) → StandsFor M A′ c′ (f (slopesOf M A c)) (weightOf M (slopesOf M A c) + k) → StandsFor M A′ c′ (f h) (b + k)
+  after-more k t = restate t (b + k) (ap f (s .is)) (omega (arith, weight-is))
+
+-- ---- the counts after a close, and after a figure and a close
+
+module _ {M : Mode} (A : Arrays) (c : Counts) {A′ : Arrays} {c′ : Counts} {b : ℕ} where
+  pub closed-counts : StandsFor M A′ c′ (close (M .algebra) (slopesOf M A c)) b → Fell c c′
+  closed-counts s = record {
+    left = rise-is s ∙ rise-close (M .algebra) (slopesOf M A c) ∙ rw (rise-slopes M A c, fall-slopes M A c);
+    records = fall-is s ∙ fall-close (M .algebra) (slopesOf M A c) ∙ rw (fall-slopes M A c);
+  }
+
+  pub sunk-counts : (v : Fig M) → StandsFor M A′ c′ (close (M .algebra) (join (M .algebra) v (slopesOf M A c))) b → Fell c c′
+  sunk-counts v s = record {
+    left = rise-is s ∙ rise-close (M .algebra) (join (M .algebra) v (slopesOf M A c)) ∙ rw (rise-join (M .algebra) v (slopesOf M A c), fall-join (M .algebra) v (slopesOf M A c), rise-slopes M A c, fall-slopes M A c);
+    records = fall-is s ∙ fall-close (M .algebra) (join (M .algebra) v (slopesOf M A c)) ∙ rw (fall-join (M .algebra) v (slopesOf M A c), fall-slopes M A c);
+  }
 
 -- ---- no record yet
 
@@ -285,3 +311,8 @@ emptied M A z s e = rw e record {
   fine = tt;
   light = omega (arith, M .sizes .size-ι);
 }
+
+-- ---- document 01's bound on opened records is far below what the functions ask
+
+pub unit-bound : (M : Mode) (o : ℕ) → o < 2 ^ 32 → M .sizes .unit * o < 2 ^ 62
+unit-bound M o lt = omega (arith, mul-le-mul-right o (M .unit-small))

@@ -6,7 +6,7 @@ ghost use Rattle.hill.specs.Building.{join as joinHill, close as closeHill, ste
 ghost use Rattle.figure.specs.Mode.{modeOf};
 ghost use Rattle.figure.specs.Stored.{amounts, sizeOf};
 ghost use Rattle.slopes.specs.Arrays.{arrays, slopesOf, weightOf, Able, StandsFor};
-ghost use Rattle.slopes.specs.Actions.{Pushed, Adds, Added, Falls, Joins, Room, entry, cost};
+ghost use Rattle.slopes.specs.Actions.{Pushed, Adds, Added, CanClose, Joins, Room, entry, cost};
 
 // How many left values and unclosed records the arrays hold, and the middle value.
 pub struct Counts {
@@ -61,7 +61,7 @@ pub fn close(
     c: Counts,
 ) -> Counts
     requires { ⌜ Able (modeOf mode) (arrays (now left) (now values) (now floors) (now ceilings) (now held)) c ⌝ }
-    requires { ⌜ Falls c ⌝ }
+    requires { ⌜ CanClose c ⌝ }
     ensures { λ r. ⌜ StandsFor (modeOf mode) (arrays (now (left .exit)) (now (values .entry)) (now (floors .entry)) (now (ceilings .entry)) (now (held .exit))) r
         (closeHill (modeOf mode .algebra) (slopesOf (modeOf mode) (arrays (now (left .entry)) (now (values .entry)) (now (floors .entry)) (now (ceilings .entry)) (now (held .entry))) c))
         (weightOf (modeOf mode) (slopesOf (modeOf mode) (arrays (now (left .entry)) (now (values .entry)) (now (floors .entry)) (now (ceilings .entry)) (now (held .entry))) c)) ⌝ }
@@ -95,7 +95,7 @@ pub fn sink(
     c: Counts,
 ) -> Counts
     requires { ⌜ Joins (modeOf mode) (arrays (now left) (now values) (now floors) (now ceilings) (now held)) c x ⌝ }
-    requires { ⌜ Falls c ⌝ }
+    requires { ⌜ CanClose c ⌝ }
     ensures { λ r. ⌜ StandsFor (modeOf mode) (arrays (now (left .exit)) (now (values .entry)) (now (floors .entry)) (now (ceilings .entry)) (now (held .exit))) r
         (closeHill (modeOf mode .algebra) (joinHill (modeOf mode .algebra) (modeOf mode .read x)
         (slopesOf (modeOf mode) (arrays (now (left .entry)) (now (values .entry)) (now (floors .entry)) (now (ceilings .entry)) (now (held .entry))) c)))

@@ -55,7 +55,7 @@ close-requires c κs = let b = c .before .before in (able (added b) (start b .pr
 returns : tie.Need-returns
 returns c =
     let b = c .before .before .before in
-    after (close (M (start b) .algebra)) (added b) (c .close .ensures)
+    after (added b) (close (M (start b) .algebra)) (c .close .ensures)
 
 pub sink-spec : {M : Type 1} → statement M
 sink-spec = tie.close (tie.spec add-requires close-requires returns)
