@@ -3,3 +3,4 @@ pub mod Decimal
 pub mod DecimalLaws
 pub mod Line
 pub mod Examples
+pub mod LineLaws

@@ -24,3 +24,32 @@ lineText (result f) = decimalOf (f .net) ++ ascii " " ++ decimalOf (f .heaviest)
 -- .. "and a newline".
 unfoldable pub dayLine : Outcome Figures → List ℕ
 dayLine o = lineText o ++ ascii "\n"
+
+-- ---- the other way, for the laws
+
+-- x before the first of some pieces
+abbrev pub onFirst : ℕ → List (List ℕ) → List (List ℕ)
+onFirst x [] = (x ∷ []) ∷ []
+onFirst x (p ∷ ps) = (x ∷ p) ∷ ps
+
+-- s cut at every byte b: what stands before, between and after these bytes
+unfoldable pub pieces : ℕ → List ℕ → List (List ℕ)
+pieces b [] = [] ∷ []
+pieces b (x ∷ s) = cond (eqb x b) ([] ∷ pieces b s) (onFirst x (pieces b s))
+
+-- four numbers are figures, a word and a number a refusal; no other line is printed, and any stands for 0 here
+abbrev pub readWords : List (List ℕ) → Outcome Figures
+readWords [] = refused 0
+readWords (a ∷ []) = refused 0
+readWords (a ∷ b ∷ []) = refused (readDigits b)
+readWords (a ∷ b ∷ c ∷ []) = refused 0
+readWords (a ∷ b ∷ c ∷ d ∷ []) = result (record { net = readDecimal a; heaviest = readDecimal b; eaten = readDecimal c; stamp = readDecimal d })
+readWords (a ∷ b ∷ c ∷ d ∷ e ∷ s) = refused 0
+
+-- the words up to the newline
+abbrev pub readPieces : List (List ℕ) → Outcome Figures
+readPieces [] = refused 0
+readPieces (p ∷ ps) = readWords (pieces 32 p)
+
+abbrev pub readLine : List ℕ → Outcome Figures
+readLine s = readPieces (pieces 10 s)

@@ -7,17 +7,17 @@ use Rattle.text.proofs.count_digits.Statement.{statement}
 use Rattle.text.proofs.count_digits.Tie as tie
 
 abbrev Inv-loop : tie.InvT-loop
-Inv-loop n rest₀ count₀ rest count = Counted n rest count
+Inv-loop n left₀ count₀ left count = Counted n left count
 
 abbrev μ-loop : tie.MeasureT-loop
-μ-loop n rest₀ count₀ rest count = rest
+μ-loop n left₀ count₀ left count = left
 
 loop-holds : tie.Need-loop-holds Inv-loop μ-loop
 loop-holds c = record { all = omega arith }
 
 add-count : tie.Need-add-count Inv-loop μ-loop
 add-count c =
-    record { fits = omega (arith, digits-some (c .before .loop .rest), digits-length 19 (c .before .before .args .n) (omega arith)) }
+    record { fits = omega (arith, digits-some (c .before .loop .left), digits-length 19 (c .before .before .args .n) (omega arith)) }
 
 loop-less : tie.Need-loop-less Inv-loop μ-loop
 loop-less c = omega arith
