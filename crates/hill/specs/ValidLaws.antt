@@ -14,7 +14,8 @@ use Rattle.hill.specs.VerdictLaws.{low-fst, low-snd, between-pass, betwe
 use Rattle.hill.specs.Log.{Record, opening, closing}
 use Rattle.hill.specs.Summary.{Hill, hill, Part, spoilt, whole, Summary, blank, part, rise, fall, middle, start, end, opened, verdict, judged, summaryOf, peak, slopes}
 use Rattle.hill.specs.Merge.{mergeHills, mergeVerdict, mergePart, mergeSummary}
-use Rattle.hill.specs.Valid.{Sizes, ValidSpoilt, weightUp, weightDown, weight, AllFine, FineHill, ValidHill, ValidPart, ValidSummary, Readable, AllReadable}
+use Rattle.algebra.specs.Sizes.{Sizes}
+use Rattle.hill.specs.Valid.{ValidSpoilt, weightUp, weightDown, weight, AllFine, FineHill, ValidHill, ValidPart, ValidSummary, Readable, AllReadable}
 use Rattle.hill.specs.Building.{push, join, close, closes, merge}
 use Rattle.hill.specs.Slopes.{fall-join, fall-closes, fall-merge, rise-merge}
 use Rattle.hill.specs.MergeLaws.{mergeHills-merge}
@@ -52,11 +53,11 @@ valid-spoilt : (f s e t : ℕ) → Range t (refuse f) → s ≤ 64 → e ≤ 64 
 unfolding cut
 valid-spoilt f s e t r k l = record { low-fault = r .0; high-fault = r .1; start-high = k; end-high = l; few = omega arith; many = λ x. let y = r .2 x in omega arith }
 
-module _ {R : Type 0} (𝒜 : Algebra R) (𝒮 : Sizes 𝒜) where
+module _ {R : Type 0} (𝒜 : Algebra R) {Fine : R → Type 0} (𝒮 : Sizes 𝒜 Fine) where
   open Algebra 𝒜 using (Fig, ι, _⊗_, node)
 
   infixl 70 _⊗_
-  open Sizes 𝒮 using (Fine, unit, size, unit-pos, size-ι, size-⊗, size-node)
+  open Sizes 𝒮 using (unit, size, unit-pos, size-ι, size-⊗, size-node)
 
   pub weight-join : (w : Fig) (a : Hill Fig R) → weight 𝒜 𝒮 (join 𝒜 w a) ≤ weight 𝒜 𝒮 a + size w
   weight-join w (hill u m []) = omega (arith, size-⊗ m w)

@@ -7,8 +7,8 @@ use lib.IntN.{ℤ, pos}
 use lib.ListN.{length, getD}
 use Rattle.hill.specs.Log.{Record, opening, closing}
 use Rattle.hill.specs.Summary.{Hill, hill}
-use Rattle.hill.specs.Valid.{Sizes, weight, FineHill}
-use Rattle.figure.specs.FourModes.{Amounts, InRange}
+use Rattle.hill.specs.Valid.{weight, FineHill}
+use Rattle.figure.specs.FourModes.{Amounts}
 use Rattle.figure.specs.Mode.{Mode}
 use Rattle.figure.specs.Stored.{IsStored, amounts}
 use Rattle.slopes.specs.declared.Counts.{Counts}
@@ -49,25 +49,13 @@ module _ (M : Mode) where
   abbrev pub slopesOf : Arrays → Counts → Hill Fig Amounts
   slopesOf A c = hill (ups (A .left) (c .nl)) (M .read (c .mid)) (downs (A .values) (A .floors) (A .ceilings) (A .held) (c .n))
 
-  -- The mode's sizes as crate hill takes them.
-  abbrev pub hillSizes : Sizes (M .algebra)
-  hillSizes = record {
-    Fine = InRange;
-    unit = M .sizes .unit;
-    size = M .sizes .size;
-    unit-pos = M .sizes .unit-pos;
-    size-ι = M .sizes .size-ι;
-    size-⊗ = M .sizes .size-⊗;
-    size-node = M .sizes .size-node;
-  }
-
   -- "10^9 × unclosed records + the absolute 64-bit values"
   abbrev pub weightOf : Hill Fig Amounts → ℕ
-  weightOf = weight (M .algebra) hillSizes
+  weightOf = weight (M .algebra) (M .sizes)
 
   -- The unclosed records are in range.
   abbrev pub Fine : Hill Fig Amounts → Type 0
-  Fine = FineHill (M .algebra) hillSizes
+  Fine = FineHill (M .algebra) (M .sizes)
 
 -- The arrays are whole, and the counts within them.
 pub record Sound (A : Arrays) (c : Counts) : Type 0 where

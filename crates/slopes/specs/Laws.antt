@@ -18,7 +18,7 @@ use Rattle.figure.specs.FourModes.{Amounts, limit, InRange}
 use Rattle.figure.specs.Mode.{Mode}
 use Rattle.figure.specs.Stored.{IsStored, sizeOf, none, combined, passed, amounts, Combines, Passes, none-read, none-size, none-stored, combined-read, combined-stored, passed-read, passed-size, passed-stored, passes}
 use Rattle.slopes.specs.declared.Counts.{Counts}
-use Rattle.slopes.specs.Arrays.{Arrays, arrays, at, amountsAt, Fig, ups, downs, slopesOf, hillSizes, weightOf, Fine, Sound, Stored, Able, StandsFor}
+use Rattle.slopes.specs.Arrays.{Arrays, arrays, at, amountsAt, Fig, ups, downs, slopesOf, weightOf, Fine, Sound, Stored, Able, StandsFor}
 use Rattle.slopes.specs.Actions.{Pushed, current, Adds, midAfter, heldAfter, Added, CanClose, Joins, Room, entry, cost, Fell}
 
 abbrev pub counts : (nl n : ℕ) (mid : ℤ) → Counts
@@ -149,8 +149,8 @@ module _ {M : Mode} {A : Arrays} {c : Counts} {x : ℤ} (j : Joins M A c x) wher
         };
         stored = joined-stored M A (c .nl) (c .n) (c .mid) x le join-room (j .able .stored);
         is = joined-is M A (c .nl) (c .n) (c .mid) x le join-room;
-        fine = fine-join (M .algebra) (hillSizes M) (M .read x) (slopesOf M A c) (j .able .fine);
-        light = weight-join (M .algebra) (hillSizes M) (M .read x) (slopesOf M A c);
+        fine = fine-join (M .algebra) (M .sizes) (M .read x) (slopesOf M A c) (j .able .fine);
+        light = weight-join (M .algebra) (M .sizes) (M .read x) (slopesOf M A c);
       }
 
 -- ---- a close
