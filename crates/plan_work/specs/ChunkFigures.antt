@@ -1,5 +1,5 @@
 -- The figure of a record that its chunk closes is the same in the chunk and in the log. Assumes nothing.
-use mathlib.Core.Path.{_≡_, refl, ap, subst, _∙_}
+use mathlib.Core.Path.{_≡_, sym, refl, ap, subst, _∙_}
 use mathlib.Core.Bool.{Bool, true, false, cond}
 use mathlib.Core.List.{List, [], _∷_, _++_}
 use Prim.Native.Nat.{ℕ, zero, suc, _+_, _-_, _<_}
@@ -9,12 +9,13 @@ use borrow.Author.Tests.{eqb-true, eqb-false, eq-eqb}
 use lib.ListN.{length, getD, drop, length-drop}
 use lib.Seq.{drop-cons, drop-drop, drop-append-le, drop-append-add, getD-drop}
 use Rattle.algebra.specs.Algebra.{Algebra}
-use Rattle.hill.specs.Log.{Record, opening, closing, endLevel}
+use Rattle.hill.specs.Log.{Record, opening, closing, startLevel, endLevel}
 use Rattle.hill.specs.Closing.{at, ClosedBy}
 use Rattle.hill.specs.Figure.{held, figureAt}
 use Rattle.hill.specs.Row.{joined}
 use Rattle.hill.specs.HeldPlaces.{opening-closing}
 use Rattle.hill.specs.Spell.{Meets}
+use Rattle.hill.specs.Crossings.{Meeting, falls}
 use Rattle.join_plan.specs.ByRecords.{place}
 
 module _ {R : Type 0} where
@@ -26,21 +27,15 @@ module _ {R : Type 0} where
   meets-after t (x ∷ xs) zero l r m b e = subst (λ (k : ℕ). Meets k xs) (ap endLevel e) (m .1)
   meets-after t (x ∷ xs) (suc q) l r m b e = meets-after (endLevel x) xs q l r (m .1) (omega arith) e
 
-  -- From above level k + 1 down to depth k there is a close at depth k + 1.
-  falls-through : (xs : List (Record R)) (t k n : ℕ) → Meets t xs → suc k < t → n < length xs → at xs n ≡ closing k → (m : ℕ) × (m < length xs) × (at xs m ≡ closing (suc k))
-  falls-through [] t k n m b i e = absurd (omega arith)
-  falls-through (opening c r ∷ xs) t k zero m b i e = absurd (opening-closing (opening c r) c k r refl e)
-  falls-through (opening c r ∷ xs) t k (suc n) m b i e =
-      let w : (j : ℕ) × (j < length xs) × (at xs j ≡ closing (suc k)) = falls-through xs (suc c) k n (m .1) (omega (arith, m .0)) (omega arith) e in (suc (w .0), omega (arith, w .1), w .2)
-  falls-through (closing c ∷ xs) t k zero m b i e = absurd (omega (arith, m .0, closing-same e))
-  falls-through (closing c ∷ xs) t k (suc n) m b i e = go (eqb c (suc k)) refl (λ h. falls-through xs c k n (m .1) h (omega arith) e)
-    where
-      go : (b : Bool) → eqb c (suc k) ≡ b → (suc k < c → (j : ℕ) × (j < length xs) × (at xs j ≡ closing (suc k))) → (j : ℕ) × (j < length (closing c ∷ xs)) × (at (closing c ∷ xs) j ≡ closing (suc k))
-      go true t ih = (0, omega arith, ap closing (eqb-true c (suc k) t))
-      go false t ih =
-          let d : c ≡ suc k → ⊥ = eqb-false c (suc k) t in
-          let w : (j : ℕ) × (j < length xs) × (at xs j ≡ closing (suc k)) = ih (omega (arith, m .0)) in
-          (suc (w .0), omega (arith, w .1), w .2)
+  meets-meeting : (t : ℕ) (xs : List (Record R)) → Meets t xs → Meeting xs
+  meets-meeting t [] m k l = absurd (omega arith)
+  meets-meeting t (x ∷ []) m k l = absurd (omega arith)
+  meets-meeting t (x ∷ (y ∷ xs)) m zero l = m .1 .0
+  meets-meeting t (x ∷ (y ∷ xs)) m (suc k) l = meets-meeting (endLevel x) (y ∷ xs) (m .1) k (omega arith)
+
+  meets-start : (t : ℕ) (xs : List (Record R)) → 0 < length xs → Meets t xs → startLevel (at xs 0) ≡ t
+  meets-start t [] n m = absurd (omega arith)
+  meets-start t (x ∷ xs) n m = sym (m .0)
 
 module _ {R : Type 0} (𝒜 : Algebra R) where
   open Algebra 𝒜 using (Fig, ι, _⊗_, node)
@@ -60,7 +55,8 @@ module _ {R : Type 0} (𝒜 : Algebra R) where
           cond b (node r (held 𝒜 (suc (suc k)) xs) ⊗ held 𝒜 (suc k) xs) (held 𝒜 (suc k) xs)
       go true q ih deeper =
           let c≡ : c ≡ suc k = eqb-true c (suc k) q in
-          rw (ih, deeper (omega arith) (falls-through xs (suc c) k n (m .1) (omega arith) (omega arith) e))
+          let (j, a, b, x) = falls xs (meets-meeting (suc c) xs (m .1)) (suc k) 0 n (omega arith) (omega arith) (omega (arith, meets-start (suc c) xs (omega arith) (m .1))) (omega (arith, ap startLevel e)) in
+          rw (ih, deeper (omega arith) (j, omega arith, x))
       go false q ih deeper = ih
   held-closed (closing c ∷ xs) ys t k zero m b i e = rw (eq-eqb (suc c) (suc k) (ap suc (closing-same e)))
   held-closed (closing c ∷ xs) ys t k (suc n) m b i e = go (eqb (suc c) (suc k)) refl (λ h. held-closed xs ys c k n (m .1) h (omega arith) e)

@@ -1,10 +1,9 @@
 -- The figure of a record that is opened in one chunk and closed in another: its held figures so far, the records apart, and the left value. Assumes nothing.
 use mathlib.Core.Path.{_≡_, refl, ap, sym, subst, _∙_}
-use mathlib.Core.Logic.{⊎-elim, _≢_, dite}
+use mathlib.Core.Logic.{⊎-elim, dite}
 use mathlib.Core.Bool.{false, _&&_, false≢true}
 use mathlib.Core.List.{List, [], _∷_, map, List·Memᴰ}
-use Prim.Native.Nat.{ℕ, zero, suc, _+_, _-_, _≤_, _<_}
-use native.Mathlib.Nat.{eq-or-lt-of-le}
+use Prim.Native.Nat.{ℕ, suc, _+_, _-_, _≤_, _<_}
 use native.Mathlib.Decide.{decLt, decLe, ℕ-discrete}
 use native.Mathlib.Omega.{arith}
 use borrow.Author.Tests.{eq-eqb}
@@ -13,26 +12,23 @@ use lib.ListN.{length, getD, drop}
 use Rattle.algebra.specs.Algebra.{Algebra, Laws, Commutative}
 use Rattle.hill.specs.Verdict.{pass}
 use Rattle.hill.specs.Log.{Record, opening, closing, depth, startLevel, endLevel, joints}
-use Rattle.hill.specs.Closing.{at, OpensAt, ClosedBy, Closed, Holds, Places}
+use Rattle.hill.specs.Closing.{at, OpensAt, ClosedBy, Closed, Holds, Loose, Places}
 use Rattle.hill.specs.Figure.{figureAt, combined}
 use Rattle.hill.specs.Summary.{closedIn, done, pending}
 use Rattle.hill.specs.Row.{joined}
 use Rattle.hill.specs.Spell.{Meets, joints-meet}
 use Rattle.hill.specs.Places.{places-same, places-iff, Selected, select-places}
 use Rattle.hill.specs.HeldPlaces.{opening-closing, opens-inside, first-close, opensAt, endsAt, heldFrom, held-listed, held-figure}
-use Rattle.hill.specs.ChunkPlaces.{Loose, value-listed, value-places, unclosed-places, joints-meeting, Meeting}
+use Rattle.hill.specs.Crossings.{Meeting, joints-meeting, falls}
+use Rattle.hill.specs.ChunkPlaces.{value-listed, value-places, unclosed-places}
 use Rattle.join_plan.specs.ByRecords.{place}
-use Rattle.join_plan.specs.LogLevels.{levelBefore, WellFormedLog}
+use Rattle.join_plan.specs.LogLevels.{WellFormedLog}
 use Rattle.join_plan.specs.LogJoins.{place-suc, place-inside, place-le, place-at, closed-high}
 use Rattle.plan_work.specs.RunsByRecords.{Links, Wholly, Apart}
 use Rattle.plan_work.specs.ChunkFigures.{figure-chunk}
 use Rattle.plan_work.specs.PlaceLists.{those, others, combined-split, those-places, others-places, from, from-places, combined-from}
 
 module _ {R : Type 0} where
-  stays-up : (x : Record R) (l : ℕ) → l < startLevel x → x ≢ closing l → l < endLevel x
-  stays-up (opening c r) l a n = omega arith
-  stays-up (closing c) l a n = let h : l ≤ c = omega arith in ⊎-elim (λ (e : l ≡ c). absurd (n (ap closing (sym e)))) (λ b. b) (eq-or-lt-of-le h)
-
   opens? : (x : Record R) (l : ℕ) → Dec ((r : R) × (x ≡ opening l r))
   opens? (closing c) l = no (λ h. opening-closing (closing c) l c (h .0) (h .1) refl)
   opens? (opening c r) l = go (ℕ-discrete c l)
@@ -53,14 +49,11 @@ module _ {R : Type 0} where
 
     -- What a record holds is closed before it is.
     pub held-closes : (p q c d : ℕ) → Holds log p q d → ClosedBy log p c d → (e : ℕ) × (e < c) × ClosedBy log q e (suc d)
-    held-closes p q c d h b = ⊎-elim (λ none. absurd (omega (arith, ap startLevel (b .closed), w .meets c (b .inside), high none c (h .before c b) (omega arith)))) (λ f. f)
-        (first-close log q (suc d) (h .held) c (omega (arith, b .inside)))
-      where
-        high : ((k : ℕ) → q < k → k < c → at log k ≢ closing (suc d)) → (k : ℕ) → q < k → k ≤ c → suc d < levelBefore (at log) k
-        high none zero a e = absurd (omega arith)
-        high none (suc k) a e = dite (decLt q k)
-            (λ g. stays-up (at log k) (suc d) (omega (arith, high none k g (omega arith), w .meets k (omega (arith, b .inside)))) (none k g (omega arith)))
-            (λ g. let i : k ≡ q = omega arith in omega (arith, ap (λ n. endLevel (at log n)) i, ap endLevel (h .held .1)))
+    held-closes p q c d h b =
+        let n : q < c = h .before c b in
+        let (k, a, e, x) = falls log (λ k l. sym (w .meets (suc k) l)) (suc d) (suc q) c n (b .inside)
+        (omega (arith, w .meets (suc q) (omega (arith, b .inside)), ap endLevel (h .held .1))) (omega (arith, ap startLevel (b .closed))) in
+        ⊎-elim (λ none. absurd (none k (omega arith) e x)) (λ f. f) (first-close log q (suc d) (h .held) c (omega (arith, b .inside)))
 
     -- Chunk k and the log, place by place.
     module _ (k : ℕ) where

@@ -9,28 +9,31 @@ use native.Mathlib.Omega.{arith}
 use lib.ListN.{length, getD, drop, List·getD-map}
 use Rattle.algebra.specs.Algebra.{Algebra, Laws, Commutative}
 use Rattle.algebra.specs.Run.{Level, through, step, Context}
-use Rattle.hill.specs.Verdict.{pass, count, ends}
+use Rattle.hill.specs.Verdict.{pass, count}
 use Rattle.hill.specs.VerdictLaws.{low-fst}
-use Rattle.hill.specs.Log.{Record, startLevel, endOf, peakOf, openedOf, joints, faultOf, logFault}
+use Rattle.hill.specs.Log.{Record, startLevel, endOf, peakOf, openedOf, joints, logFault}
 use Rattle.hill.specs.Closing.{at, Places}
 use Rattle.hill.specs.Figure.{figureAt, combined}
 use Rattle.hill.specs.Summary.{Hill, Summary, blank, summaryOf, done, pending, leftsOf, rightsOf, valuesOf}
 use Rattle.hill.specs.Merge.{mergeSummary}
 use Rattle.hill.specs.Row.{joined}
 use Rattle.hill.specs.RowLaws.{inOrder, mergeRow-inOrder, mergeRow-summaries}
-use Rattle.hill.specs.SummaryLaws.{verdict-partOf}
 use Rattle.hill.specs.ChunkPlaces.{unclosed-exists, unclosed-places, so-far-listed}
 use Rattle.join_plan.specs.Plan.{Levels, Line, planOfRow, levelsOfSummary, rowOf}
 use Rattle.join_plan.specs.Joins.{Opens, Closes, Joins, IsLine}
 use Rattle.join_plan.specs.Gate.{summaryFault, fault-parts}
 use Rattle.join_plan.specs.PlanExact.{planOf-exact}
 use Rattle.join_plan.specs.ByRecords.{place}
-use Rattle.join_plan.specs.LogLevels.{WellFormedLog, log-well-formed, levelsOf, rowOfChunks, chunkFault, levels-of-log}
+use Rattle.join_plan.specs.LogLevels.{WellFormedLog, log-well-formed, levelsOf, rowOfChunks, chunkFault, log-quiet, fault-summary, levels-of-log}
 use Rattle.join_plan.specs.LogJoins.{place-le, closed-high, joins-exact}
 use Rattle.plan_work.specs.Runs.{peakOf as peakOfSummary, slopesOf, leftAt, openFrom, levelOf, levelsDown, summaryAt, runLevels}
 use Rattle.plan_work.specs.RunsExact.{RunOf}
 use Rattle.plan_work.specs.RunsByRecords.{Links, Apart}
 use Rattle.plan_work.specs.CutFigure.{Quiet, closed-once, held-closes, held-late, linked-figure, apart-some}
+
+quiet-of : {R : Type 0} (c : List (Record R)) → chunkFault c ≡ pass → Quiet c
+quiet-of [] v = tt
+quiet-of (x ∷ xs) v = low-fst (joints x xs) (count (openedOf (x ∷ xs))) v
 
 module _ {R : Type 0} (cs : List (List (Record R))) (w : WellFormedLog (joined cs)) where
   -- A record of depth d that links i and j is the only one.
@@ -136,22 +139,10 @@ module _ {R : Type 0} (𝒜 : Algebra R) where
       (done 𝒜 (suc d) (y ∷ ys)) (a .0) (omega arith) (singles x xs (low-fst (joints x xs) (count (openedOf (x ∷ xs))) f)) e (lefts-at (y ∷ ys) (peakOf y ys) (startLevel y - peakOf y ys) (suc d) (omega arith) (omega arith)))
 
   -- In a log with no fault no chunk has one.
-  fault-of : (c : List (Record R)) → summaryFault 𝒜 (summaryOf 𝒜 c) ≡ chunkFault c
-  fault-of [] = refl
-  fault-of (x ∷ xs) = verdict-partOf 𝒜 x xs
-
   chunks-pass : (cs : List (List (Record R))) → summaryFault 𝒜 (inOrder (mergeSummary 𝒜) blank (map (summaryOf 𝒜) cs)) ≡ pass → (k : ℕ) → chunkFault (getD cs k []) ≡ pass
   chunks-pass [] v k = refl
-  chunks-pass (c ∷ cs) v zero = sym (fault-of c) ∙ fault-parts 𝒜 (summaryOf 𝒜 c) (inOrder (mergeSummary 𝒜) blank (map (summaryOf 𝒜) cs)) v .0
+  chunks-pass (c ∷ cs) v zero = sym (fault-summary 𝒜 c) ∙ fault-parts 𝒜 (summaryOf 𝒜 c) (inOrder (mergeSummary 𝒜) blank (map (summaryOf 𝒜) cs)) v .0
   chunks-pass (c ∷ cs) v (suc k) = chunks-pass cs (fault-parts 𝒜 (summaryOf 𝒜 c) (inOrder (mergeSummary 𝒜) blank (map (summaryOf 𝒜) cs)) v .1) k
-
-  log-pass : (log : List (Record R)) → logFault log ≡ pass → chunkFault log ≡ pass
-  log-pass [] v = refl
-  log-pass (x ∷ xs) v = low-fst (faultOf x xs) (ends (startLevel x) (endOf x xs)) v
-
-  quiet-of : (c : List (Record R)) → chunkFault c ≡ pass → Quiet c
-  quiet-of [] v = tt
-  quiet-of (x ∷ xs) v = low-fst (joints x xs) (count (openedOf (x ∷ xs))) v
 
 module _ {R : Type 0} (𝒜 : Algebra R) (ℒ : Laws 𝒜) (comm : Commutative 𝒜) (cs : List (List (Record R))) (v : logFault (joined cs) ≡ pass) where
   open Algebra 𝒜 using (Fig, ι, _⊗_, node)
@@ -166,7 +157,7 @@ module _ {R : Type 0} (𝒜 : Algebra R) (ℒ : Laws 𝒜) (comm : Commutative �
   clean : (k : ℕ) → chunkFault (getD cs k []) ≡ pass
   clean =
       chunks-pass 𝒜 cs
-      (ap (summaryFault 𝒜) (sym (mergeRow-inOrder 𝒜 ℒ row) ∙ mergeRow-summaries 𝒜 ℒ cs) ∙ fault-of 𝒜 (joined cs) ∙ log-pass 𝒜 (joined cs) v)
+      (ap (summaryFault 𝒜) (sym (mergeRow-inOrder 𝒜 ℒ row) ∙ mergeRow-summaries 𝒜 ℒ cs) ∙ fault-summary 𝒜 (joined cs) ∙ log-quiet (joined cs) v)
 
   abbrev sum : List ℕ → Fig
   sum qs = combined 𝒜 (map (figureAt 𝒜 (joined cs)) qs)
@@ -193,7 +184,7 @@ module _ {R : Type 0} (𝒜 : Algebra R) (ℒ : Laws 𝒜) (comm : Commutative �
         through 𝒜 (levelAt d ++ ls) (sum qs) ≡ through 𝒜 ls (figureAt 𝒜 (joined cs) p)
     unfolding through step
     one-level d p ls o l qs k =
-        let (r, h, e, f) = linked-figure 𝒜 ℒ comm cs well (λ n. quiet-of 𝒜 (getD cs n []) (clean n)) i j p d far l qs k in
+        let (r, h, e, f) = linked-figure 𝒜 ℒ comm cs well (λ n. quiet-of (getD cs n []) (clean n)) i j p d far l qs k in
         rw (List·getD-map (summaryOf 𝒜) cs i [], List·getD-map (summaryOf 𝒜) cs j [], run-level 𝒜 (getD cs i []) (getD cs j []) d r h (clean i) (clean j) (o .0 .opens) (o .1) e, f)
 
     -- From a record that links the chunks down to the lowest of them.
@@ -233,7 +224,7 @@ module _ {R : Type 0} (𝒜 : Algebra R) (ℒ : Laws 𝒜) (comm : Commutative �
   line-links e m d a b =
       let o : Joins (rowOfChunks cs) (e .i) (e .j) d = line-joins e m .1 d a b in
       let (p, c, x, y, z) = joins-exact cs well (e .i) (e .j) d .0 o .1 in
-      (p, (c, x, y, z), apart-some 𝒜 ℒ comm cs well (λ n. quiet-of 𝒜 (getD cs n []) (clean n)) (e .i) (e .j) p d (o .0 .before) (c, x, y, z))
+      (p, (c, x, y, z), apart-some 𝒜 ℒ comm cs well (λ n. quiet-of (getD cs n []) (clean n)) (e .i) (e .j) p d (o .0 .before) (c, x, y, z))
 
   -- In a mode's numbers.
   pub run-applied : {Sound : R → Type 0} (C : Context 𝒜 Sound) (e : Line) (k : C .K) → RunOf C (runLevels 𝒜 row e) k → List·Memᴰ e (planOfRow row) →
