@@ -1,4 +1,4 @@
--- `figure::level_net` meets its contract. Assumes nothing.
+-- `figure::runs::level_net` meets its contract. Assumes nothing.
 use mathlib.Core.Path.{_≡_, _∙_}
 use lib.IntN.{pos, _+ℤ_}
 use mir.Syntax.{w64}
@@ -7,8 +7,8 @@ use mir.Facts.{toZ-ofZ}
 use Rattle.number.specs.Word.{back}
 use Rattle.figure.specs.Mode.{modeOf}
 use Rattle.figure.specs.Stored.{sizeOf, levelRun}
-use Rattle.figure.proofs.level_net.Statement.{statement}
-use Rattle.figure.proofs.level_net.Tie as tie
+use Rattle.figure.proofs.runs.level_net.Statement.{statement}
+use Rattle.figure.proofs.runs.level_net.Tie as tie
 
 sum-is : (c : tie.After-level-sum) → toZ w64 (ofZ w64 (c .level-sum .result)) ≡ c .before .args .value +ℤ (c .before .args .before +ℤ c .before .args .behind)
 sum-is c =

@@ -1,4 +1,4 @@
--- `figure::level_sum` meets its contract. Assumes nothing.
+-- `figure::runs::level_sum` meets its contract. Assumes nothing.
 use borrow.Author.Needs.{needs}
 use mathlib.Core.Path.{_≡_, _∙_}
 use native.Mathlib.Omega.{arith}
@@ -8,8 +8,8 @@ use mir.Val.{toZ, ofZ}
 use mir.Facts.{toZ-ofZ}
 use Rattle.number.specs.IntegerLaws.{abs-+}
 use Rattle.number.specs.Word.{back, widened}
-use Rattle.figure.proofs.level_sum.Statement.{statement}
-use Rattle.figure.proofs.level_sum.Tie as tie
+use Rattle.figure.proofs.runs.level_sum.Statement.{statement}
+use Rattle.figure.proofs.runs.level_sum.Tie as tie
 
 value-is : (c : tie.After-widen) → toZ w64 (ofZ w64 (c .widen .result)) ≡ c .before .args .value
 value-is c = widened (c .widen .result) (c .before .args .value) (c .widen .ok) (c .widen .ensures) (c .before .fits .value)

@@ -1,11 +1,11 @@
--- `figure::compose` meets its contract. Assumes nothing.
+-- `figure::runs::compose` meets its contract. Assumes nothing.
 use mathlib.Core.Path.{_∙_, ap, sym, subst}
 use Prim.Native.Nat.{ℕ}
 use Rattle.figure.specs.Mode.{Mode, modeOf}
 use Rattle.figure.specs.Stored.{runAfter, Composes}
 use Rattle.figure.proofs.Modes.{other-mode}
-use Rattle.figure.proofs.compose.Statement.{statement}
-use Rattle.figure.proofs.compose.Tie as tie
+use Rattle.figure.proofs.runs.compose.Statement.{statement}
+use Rattle.figure.proofs.runs.compose.Tie as tie
 
 compose-heaviest-requires : tie.Need-compose-heaviest-requires
 compose-heaviest-requires c κs =

@@ -1,4 +1,4 @@
--- `figure::level_eaten` meets its contract. Assumes nothing.
+-- `figure::runs::level_eaten` meets its contract. Assumes nothing.
 use borrow.Author.Needs.{needs}
 use mathlib.Core.Path.{_≡_, _∙_}
 use lib.IntN.{_+ℤ_}
@@ -8,8 +8,8 @@ use mir.Facts.{toZ-ofZ}
 use Rattle.number.specs.Word.{back, widened}
 use Rattle.figure.specs.Mode.{modeOf}
 use Rattle.figure.specs.Stored.{sizeOf, levelRun}
-use Rattle.figure.proofs.level_eaten.Statement.{statement}
-use Rattle.figure.proofs.level_eaten.Tie as tie
+use Rattle.figure.proofs.runs.level_eaten.Statement.{statement}
+use Rattle.figure.proofs.runs.level_eaten.Tie as tie
 
 sum-is : (c : tie.After-level-sum) → toZ w64 (ofZ w64 (c .level-sum .result)) ≡ c .before .args .value +ℤ (c .before .args .before +ℤ c .before .args .behind)
 sum-is c =

@@ -1,4 +1,4 @@
--- `figure::compose_heaviest` meets its contract. Assumes nothing.
+-- `figure::runs::compose_heaviest` meets its contract. Assumes nothing.
 use borrow.Author.Needs.{needs}
 use mathlib.Core.Path.{_≡_, _∙_, ap, ap₂}
 use native.Mathlib.Omega.{arith}
@@ -12,8 +12,8 @@ use Rattle.figure.specs.Bound.{sizeHeld}
 use Rattle.figure.specs.Mode.{modeOf}
 use Rattle.figure.specs.Stored.{runAfter}
 use Rattle.figure.proofs.Rooms.{Back, fields-back, heaviest-room}
-use Rattle.figure.proofs.compose_heaviest.Statement.{statement}
-use Rattle.figure.proofs.compose_heaviest.Tie as tie
+use Rattle.figure.proofs.runs.compose_heaviest.Statement.{statement}
+use Rattle.figure.proofs.runs.compose_heaviest.Tie as tie
 
 outer : (s : tie.Start) → Back (s .args .outer)
 outer s = fields-back (s .args .outer) (search needs) (search needs) (search needs)

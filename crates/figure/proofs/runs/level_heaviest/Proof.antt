@@ -1,4 +1,4 @@
--- `figure::level_heaviest` meets its contract. Assumes nothing.
+-- `figure::runs::level_heaviest` meets its contract. Assumes nothing.
 use borrow.Author.Needs.{needs}
 use mathlib.Core.Path.{_≡_, _∙_, ap, ap₂}
 use Prim.Native.Nat.{_+_, _^_, _≤_, _<_}
@@ -14,8 +14,8 @@ use Rattle.figure.specs.Runs.{moved}
 use Rattle.figure.specs.Bound.{sizeHeld, size-lift, max-sum}
 use Rattle.figure.specs.Mode.{modeOf}
 use Rattle.figure.specs.Stored.{sizeOf, levelRun}
-use Rattle.figure.proofs.level_heaviest.Statement.{statement}
-use Rattle.figure.proofs.level_heaviest.Tie as tie
+use Rattle.figure.proofs.runs.level_heaviest.Statement.{statement}
+use Rattle.figure.proofs.runs.level_heaviest.Tie as tie
 
 value-is : (c : tie.After-widen) → toZ w64 (ofZ w64 (c .widen .result)) ≡ c .before .args .value
 value-is c = widened (c .widen .result) (c .before .args .value) (c .widen .ok) (c .widen .ensures) (c .before .fits .value)

@@ -1,4 +1,4 @@
--- `figure::level_stamp` meets its contract. Assumes nothing.
+-- `figure::runs::level_stamp` meets its contract. Assumes nothing.
 use mathlib.Core.Path.{_≡_, _∙_}
 use Prim.Native.Nat.{_+_, _^_, _<_}
 use native.Mathlib.Omega.{arith}
@@ -10,8 +10,8 @@ use Rattle.number.specs.Word.{back}
 use Rattle.figure.specs.Mode.{modeOf}
 use Rattle.figure.specs.Stored.{sizeOf, combined, amounts, levelRun, combined-size, combined-stored}
 use Rattle.figure.proofs.Rooms.{passed-combined}
-use Rattle.figure.proofs.level_stamp.Statement.{statement}
-use Rattle.figure.proofs.level_stamp.Tie as tie
+use Rattle.figure.proofs.runs.level_stamp.Statement.{statement}
+use Rattle.figure.proofs.runs.level_stamp.Tie as tie
 
 both-room : (s : tie.Start) → sizeOf (modeOf 4) (s .args .before) + sizeOf (modeOf 4) (s .args .behind) < 2 ^ 63
 both-room s = omega (arith, s .pre .room)

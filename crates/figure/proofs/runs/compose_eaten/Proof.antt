@@ -1,4 +1,4 @@
--- `figure::compose_eaten` meets its contract. Assumes nothing.
+-- `figure::runs::compose_eaten` meets its contract. Assumes nothing.
 use borrow.Author.Needs.{needs}
 use mathlib.Core.Path.{_∙_}
 use mir.Syntax.{w64}
@@ -6,8 +6,8 @@ use Rattle.number.specs.Word.{back}
 use Rattle.figure.specs.Mode.{modeOf}
 use Rattle.figure.specs.Stored.{runAfter}
 use Rattle.figure.proofs.Rooms.{Back, fields-back, eaten-room}
-use Rattle.figure.proofs.compose_eaten.Statement.{statement}
-use Rattle.figure.proofs.compose_eaten.Tie as tie
+use Rattle.figure.proofs.runs.compose_eaten.Statement.{statement}
+use Rattle.figure.proofs.runs.compose_eaten.Tie as tie
 
 outer : (s : tie.Start) → Back (s .args .outer)
 outer s = fields-back (s .args .outer) (search needs) (search needs) (search needs)

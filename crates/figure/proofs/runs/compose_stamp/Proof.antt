@@ -1,4 +1,4 @@
--- `figure::compose_stamp` meets its contract. Assumes nothing.
+-- `figure::runs::compose_stamp` meets its contract. Assumes nothing.
 use borrow.Author.Needs.{needs}
 use mathlib.Core.Path.{_≡_, _∙_, ap, ap₂}
 use Prim.Native.Nat.{ℕ, _+_, _*_, _%_, _^_}
@@ -11,8 +11,8 @@ use Rattle.figure.specs.Mode.{modeOf}
 use Rattle.figure.specs.Stored.{runAfter}
 use Rattle.figure.proofs.Modes.{stamp-range, stamp-number}
 use Rattle.figure.proofs.Rooms.{Back, fields-back, stamp-first, stamp-second}
-use Rattle.figure.proofs.compose_stamp.Statement.{statement}
-use Rattle.figure.proofs.compose_stamp.Tie as tie
+use Rattle.figure.proofs.runs.compose_stamp.Statement.{statement}
+use Rattle.figure.proofs.runs.compose_stamp.Tie as tie
 
 outer : (s : tie.Start) → Back (s .args .outer)
 outer s = fields-back (s .args .outer) (search needs) (search needs) (search needs)

@@ -1,12 +1,12 @@
--- `figure::level` meets its contract. Assumes nothing.
+-- `figure::runs::level` meets its contract. Assumes nothing.
 use mathlib.Core.Path.{_∙_, ap, sym, subst}
 use Prim.Native.Nat.{ℕ}
 use mir.Facts.{toZ-ofZ}
 use Rattle.figure.specs.Mode.{Mode, modeOf}
 use Rattle.figure.specs.Stored.{amounts, levelRun, Levels}
 use Rattle.figure.proofs.Modes.{other-mode}
-use Rattle.figure.proofs.level.Statement.{statement}
-use Rattle.figure.proofs.level.Tie as tie
+use Rattle.figure.proofs.runs.level.Statement.{statement}
+use Rattle.figure.proofs.runs.level.Tie as tie
 
 level-heaviest-requires : tie.Need-level-heaviest-requires
 level-heaviest-requires c κs =
