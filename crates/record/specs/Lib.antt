@@ -2,6 +2,7 @@
 pub mod Record
 pub mod Laws
 pub mod Joined
+pub mod Ranged
 pub mod Handed
 pub mod Encoding
 pub mod Examples

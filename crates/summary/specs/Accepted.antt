@@ -18,7 +18,6 @@ use Rattle.summary.specs.Judge.{modeAt, IsSummary, isBlank, isSpoilt, is
 use Rattle.summary.specs.Decode.{decode}
 use Rattle.summary.specs.ModeValues.{numbered}
 use Rattle.summary.specs.Fields.{AllBytes}
-use Rattle.summary.specs.Values.{}
 use Rattle.summary.specs.ReadBack.{layout-length, layout-bytes}
 use Rattle.summary.specs.Written.{says}
 use Rattle.summary.specs.WriteBack.{layout-reading, reading-valid}
@@ -100,12 +99,21 @@ stands-is m b s u t = subst (IsSummaryIn m) (sym (t .same)) (encoded m u s (t .a
 pub stands-only : (m : ℕ) (b : List ℕ) (s : SummaryIn m) → modeInUse m ≡ true → StandsFor m b s → s ≡ decode m b
 stands-only m b s u t = sym (ap (decode m) (t .same) ∙ decode-encode m u s (t .accepted))
 
--- QUESTION 5: bytes are a summary in mode m exactly where they stand for one; and they stand for one only.
-pub is-summary : (m : ℕ) (b : List ℕ) → modeInUse m ≡ true → AllBytes b → IsSummaryIn m b ↔ ((s : SummaryIn m) × StandsFor m b s)
-is-summary m b u a = ((λ i. (decode m b, stands m b a i)), λ t. stands-is m b (t .0) u (t .1))
+-- They stand for one summary, and for no other.
+pub record StandsForOne (m : ℕ) (b : List ℕ) : Type 0 where
+  pub said : SummaryIn m
+  pub stands-for : StandsFor m b said
+  pub only : (s : SummaryIn m) → StandsFor m b s → s ≡ said
+
+-- QUESTION 5: bytes are a summary in mode m exactly where they are the bytes of one accepted summary, namely of the one that `decode` reads.
+pub is-summary : (m : ℕ) (b : List ℕ) → modeInUse m ≡ true → AllBytes b → IsSummaryIn m b ↔ StandsForOne m b
+is-summary m b u a = (
+  (λ i. record { said = decode m b; stands-for = stands m b a i; only = λ s t. stands-only m b s u t }),
+  λ o. stands-is m b (o .said) u (o .stands-for),
+)
 
 -- ---- chunks
 
--- The summary of a chunk of readable records is accepted, and its bytes are a summary.
+-- The summary of a chunk of readable records is accepted.
 pub chunk-accepted : (m : ℕ) (xs : List (Record Amounts)) → AllReadable (modeOf m .algebra) (modeOf m .sizes) xs → Accepted m (summaryOf (modeOf m .algebra) xs)
 chunk-accepted m xs r = valid-summary (modeOf m .algebra) (modeOf m .sizes) (modeOf m .laws) xs r

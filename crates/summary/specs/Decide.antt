@@ -1,15 +1,13 @@
 -- Question 5 as a test of the bytes: what the code computes. Definitions only.
-use mathlib.Core.Bool.{Bool, true, false, cond, not, _&&_, _||_}
+use mathlib.Core.Bool.{Bool, true, cond, not, _&&_, _||_}
 use mathlib.Core.List.{List}
 use Prim.Native.Nat.{ℕ, zero, suc, _+_, _*_}
 use lib.Dec.{leb, eqb}
 use lib.ListN.{length}
-use lib.IntN.{ℤ}
-use lib.Signed.{leZ}
 use Rattle.record.specs.Record.{inRange}
 use Rattle.figure.specs.FourModes.{limit}
 use Rattle.figure.specs.Mode.{modeInUse}
-use Rattle.summary.specs.Judge.{lengthAt, kindAt, modeAt, faultAt, spoiltStartAt, startAt, peakAt, endAt, openedAt, riseAt, fallAt, leftAt, middleAt, valueAt, floorAt, ceilingAt, heldAt, nothingIn, absoluteValues, isStamp}
+use Rattle.summary.specs.Judge.{lengthAt, kindAt, modeAt, faultAt, spoiltStartAt, startAt, peakAt, endAt, openedAt, riseAt, fallAt, leftAt, middleAt, valueAt, floorAt, ceilingAt, heldAt, same, nothingIn, absoluteValues, isStamp}
 
 -- f 0 to f (n - 1) all pass
 unfoldable pub allTo : ℕ → (ℕ → Bool) → Bool
@@ -32,7 +30,7 @@ openedFits b = leb (openedAt b) 100_000 && (not (eqb (startAt b) (peakAt b)) || 
 
 unfoldable pub middleFits : List ℕ → Bool
 middleFits b =
-    not (eqb (peakAt b) 0) || (eqb (startAt b) 0 && eqb (endAt b) 0 || (leZ (middleAt b) (nothingIn (modeAt b)) && leZ (nothingIn (modeAt b)) (middleAt b)))
+    not (eqb (peakAt b) 0) || (eqb (startAt b) 0 && eqb (endAt b) 0 || same (middleAt b) (nothingIn (modeAt b)))
 
 unfoldable pub recordsFit : List ℕ → Bool
 recordsFit b = allTo (fallAt b) (λ j. inRange (peakAt b + j) (valueAt b j) (floorAt b j) (ceilingAt b j))

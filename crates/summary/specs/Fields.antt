@@ -1,7 +1,7 @@
 -- Bytes as fields one after the other: a field behind others, bytes taken apart into their fields, and lists of bytes. Assumes nothing.
 use mathlib.Core.Path.{_≡_, refl, sym, ap, _∙_}
 use mathlib.Core.List.{List, [], _∷_, _++_}
-use Prim.Native.Nat.{ℕ, zero, suc, _+_, _-_, _*_, _/_, _%_, _^_, _≤_, _<_}
+use Prim.Native.Nat.{ℕ, zero, suc, _+_, _-_, _*_, _/_, _%_, _≤_, _<_}
 use native.Mathlib.Nat.{add-zero, add-suc, suc-add, mod-lt}
 use native.Mathlib.Omega.{arith}
 use lib.Dec.{lit<}

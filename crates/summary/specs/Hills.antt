@@ -7,12 +7,11 @@ use Prim.Native.Nat.{ℕ, zero, suc, _+_, _-_, _*_, _≤_, _<_, min}
 use native.Mathlib.Omega.{arith}
 use lib.Dec.{eqb, ltb}
 use lib.ListN.{length}
-use lib.IntN.{ℤ}
 use Rattle.figure.specs.FourModes.{limit}
-use Rattle.figure.specs.Mode.{Mode, modeOf}
+use Rattle.figure.specs.Mode.{Mode}
 use Rattle.figure.specs.Stored.{IsStored, sizeOf, none, none-read}
 use Rattle.hill.specs.Valid.{ValidHill, weight}
-use Rattle.summary.specs.Judge.{modeAt, startAt, peakAt, endAt, openedAt, riseAt, fallAt, leftAt, middleAt, heldAt, sumTo, counted, nothingIn, AllStamps, HasLayout, IsHill}
+use Rattle.summary.specs.Judge.{modeAt, startAt, peakAt, endAt, openedAt, riseAt, fallAt, leftAt, middleAt, heldAt, sumTo, counted, HasLayout, IsHill}
 use Rattle.summary.specs.Decode.{amountsAt, leftsIn, rightsIn, hillIn}
 use Rattle.summary.specs.Tests.{Tells, tells-lt, tells-eq, false-true}
 use Rattle.summary.specs.ModeValues.{Numbered}

@@ -1,12 +1,13 @@
 -- Question 5: which bytes are a summary. Document 01's clauses, each with its sentence, by where the numbers stand. Definitions only.
+-- The bytes of a slice are each 0 to 255; no clause asks for that again.
 use mathlib.Core.Path.{_≡_}
 use mathlib.Core.Logic.{_≢_, _⊎_}
-use mathlib.Core.Bool.{Bool, true, false, cond, _&&_}
+use mathlib.Core.Bool.{Bool, true, cond, _&&_}
 use mathlib.Core.List.{List}
 use Prim.Native.Nat.{ℕ, zero, suc, _+_, _-_, _*_, _≤_, _<_}
 use lib.Dec.{eqb}
 use lib.ListN.{length}
-use lib.IntN.{ℤ, pos, negsuc, natAbs}
+use lib.IntN.{ℤ, pos, natAbs}
 use lib.Signed.{leZ}
 use Rattle.number.specs.Bytes.{leAt, i32At, i64At}
 use Rattle.record.specs.Record.{inRange}
@@ -86,13 +87,13 @@ storesNothing m = eqb m 2
 unfoldable pub nothingIn : ℕ → ℤ
 nothingIn m = cond (storesNothing m) nothing (pos 0)
 
-abbrev pub isNothing : ℤ → Bool
-isNothing (pos n) = false
-isNothing (negsuc n) = eqb n 9223372036854775807
+-- a = b, as a test
+abbrev pub same : ℤ → ℤ → Bool
+same a b = leZ a b && leZ b a
 
 -- "The absolute 64-bit values (-2^63 in mode 2 counts 0)."
 unfoldable pub counted : ℕ → ℤ → ℕ
-counted m z = cond (storesNothing m && isNothing z) 0 (natAbs z)
+counted m z = cond (storesNothing m && same z nothing) 0 (natAbs z)
 
 abbrev pub absoluteValues : List ℕ → ℕ
 absoluteValues b =
@@ -107,11 +108,13 @@ pub record AllStamps (b : List ℕ) : Type 0 where
   pub middle : isStamp (middleAt b) ≡ true
   pub helds : (j : ℕ) → j < fallAt b → isStamp (heldAt b j) ≡ true
 
--- "Bytes are a summary if the layout and mode fit": the kind, and the length that it asks for.
+-- "Bytes are a summary if the layout and mode fit."
 pub record HasLayout (b : List ℕ) (kind bytes : ℕ) : Type 0 where
   pub kind-fits : kindAt b ≡ kind
+  -- as many bytes as the kind asks for, and as the length field says
   pub length-fits : length b ≡ bytes
   pub length-said : lengthAt b ≡ length b
+  -- "Is the mode 1 to 4?"
   pub mode-fits : modeInUse (modeAt b) ≡ true
 
 pub record IsSpoilt (b : List ℕ) : Type 0 where

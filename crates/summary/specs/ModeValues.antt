@@ -1,21 +1,21 @@
 -- What question 5 counts and takes of a stored number is what the mode says of it. Assumes nothing.
-use mathlib.Core.Path.{_≡_, refl, sym, ap, subst, _∙_}
+use mathlib.Core.Path.{_≡_, refl, ap}
 use mathlib.Core.Logic.{_≢_}
-use mathlib.Core.Bool.{Bool, true, false, cond, _&&_}
-use Prim.Native.Nat.{ℕ, zero, suc, _+_, _*_, _%_, _^_, _≤_, _<_}
+use mathlib.Core.Bool.{Bool, true, false, cond}
+use Prim.Native.Nat.{ℕ, zero, suc, _%_, _^_}
 use native.Mathlib.Nat.{mod-eq-of-lt, mod-lt}
 use native.Mathlib.Omega.{arith}
-use lib.Dec.{eqb, leb, lit<}
+use lib.Dec.{leb, lit<}
 use lib.IntN.{ℤ, pos, negsuc, natAbs, pos-ne-negsuc}
 use borrow.Author.Tests.{leb-true, le-leb}
 use Rattle.number.specs.IntegerLaws.{up}
-use Rattle.figure.specs.FourModes.{limit, readHeld, heldIf, storeHeld}
+use Rattle.figure.specs.FourModes.{limit, nothing, readHeld, storeHeld}
 use Rattle.figure.specs.Bound.{sizeHeld}
-use Rattle.figure.specs.StoreLaws.{held-stored}
+use Rattle.figure.specs.StoreLaws.{read-figure, held-stored}
 use Rattle.figure.specs.Mode.{Mode, modeOf, modeInUse}
 use Rattle.figure.specs.Stored.{IsStored, sizeOf, none}
-use Rattle.summary.specs.Judge.{isNothing, nothingIn, counted, isStamp}
-use Rattle.summary.specs.Tests.{false-true, and-right}
+use Rattle.summary.specs.Judge.{same, nothingIn, counted, isStamp}
+use Rattle.summary.specs.Tests.{Tells, tells-same, false-true, and-right}
 
 -- Mode M has number m.
 pub record Numbered (m : ℕ) (M : Mode) : Type 0 where
@@ -30,14 +30,13 @@ pub record Numbered (m : ℕ) (M : Mode) : Type 0 where
   pub stamp-stored : m ≡ 4 → (z : ℤ) → isStamp z ≡ true → IsStored M z
   pub stored-stamp : m ≡ 4 → (z : ℤ) → IsStored M z → isStamp z ≡ true
 
-size-held : (z : ℤ) → sizeHeld (readHeld z) ≡ cond (isNothing z) 0 (natAbs z)
+size-held : (z : ℤ) → sizeHeld (readHeld z) ≡ cond (same z nothing) 0 (natAbs z)
 unfolding sizeHeld readHeld
-size-held (pos n) = refl
-size-held (negsuc n) = go (eqb n 9223372036854775807)
+size-held z = go (same z nothing) (tells-same z nothing)
   where
-    go : (t : Bool) → sizeHeld (heldIf t (negsuc n)) ≡ cond t 0 (suc n)
-    go true = refl
-    go false = refl
+    go : (t : Bool) → Tells (z ≡ nothing) t → sizeHeld (readHeld z) ≡ cond t 0 (natAbs z)
+    go true s = ap (λ (x : ℤ). sizeHeld (readHeld x)) (s .from refl)
+    go false s = ap sizeHeld (read-figure z (λ e. false-true (s .to e)))
 
 stamp-in : (z : ℤ) → isStamp z ≡ true → pos (up z % 2 ^ 32) ≡ z
 unfolding isStamp

@@ -1,46 +1,38 @@
 -- An accepted summary is read back from its bytes, each of which is what Layout says. Assumes nothing.
 use mathlib.Core.Path.{_≡_, refl, sym, ap, subst, _∙_}
 use mathlib.Core.List.{List, [], _∷_, _++_, append-assoc}
-use Prim.Native.Nat.{ℕ, zero, suc, _+_, _-_, _*_, _^_, _≤_, _<_}
-use native.Mathlib.Nat.{mul-le-mul}
+use Prim.Native.Nat.{ℕ, _+_, _*_, _^_, _≤_, _<_}
 use native.Mathlib.Omega.{arith}
-use lib.Dec.{lit≤, lit<}
+use lib.Dec.{lit≤}
 use lib.ListN.{length, drop, length-append}
 use lib.IntN.{ℤ, natAbs}
 use mir.Syntax.{w32, w64}
 use mir.Val.{SFits, ofZ, toZ}
 use mir.Facts.{fits-ofZ, toZ-ofZ}
-use Rattle.number.specs.Bytes.{leAt, bytesOf}
+use Rattle.number.specs.Bytes.{leAt}
 use Rattle.number.specs.Laws.{field-here, field-past, length-bytesOf}
 use Rattle.number.specs.IntegerLaws.{sfits-abs}
 use Rattle.figure.specs.FourModes.{Amounts, InRange, limit}
-use Rattle.figure.specs.Bound.{bound-fits}
 use Rattle.figure.specs.Mode.{Mode}
 use Rattle.figure.specs.Stored.{IsStored}
 use Rattle.hill.specs.Summary.{Hill, hill, Summary, blank, part, spoilt, whole, rise, fall}
-use Rattle.hill.specs.Valid.{weight, weightUp, weightDown, AllFine, ValidHill, ValidSpoilt, ValidSummary}
-use Rattle.hill.specs.ValidLaws.{hill-length}
-use Rattle.summary.specs.Layout.{i32Bytes, i64Bytes, leftBytes, recordBytes, rightBytes, hillBytes, lengthOf, kindOf, body, layout}
-use Rattle.summary.specs.Judge.{lengthAt, kindAt, modeAt, faultAt, spoiltStartAt, startAt, peakAt, endAt, openedAt, riseAt, fallAt, leftAt, middleAt, recordAt, valueAt, floorAt, ceilingAt, heldAt}
-use Rattle.summary.specs.Decode.{amountsAt, leftsIn, rightsIn, hillIn, reading}
+use Rattle.hill.specs.Valid.{weightUp, weightDown, AllFine}
+use Rattle.summary.specs.Layout.{i32Bytes, i64Bytes, leftBytes, recordBytes, rightBytes, hillBytes, lengthOf, body, layout}
+use Rattle.summary.specs.Judge.{riseAt, leftAt, recordAt, heldAt}
+use Rattle.summary.specs.Decode.{amountsAt, leftsIn, rightsIn}
 use Rattle.summary.specs.Tests.{one-more}
 use Rattle.summary.specs.Fields.{AllBytes, bytes-nil, bytes-append, bytes-bytesOf, behind, field-from, field-further}
-use Rattle.summary.specs.Values.{}
-use Rattle.summary.specs.Hills.{AllStored}
 
 -- ---- lengths
 
 module _ {Fig : Type 0} (store : Fig → ℤ) where
   pub left-length : (u : List Fig) → length (leftBytes store u) ≡ 8 * length u
   left-length [] = refl
-  left-length (v ∷ u) = omega (arith, length-append (leftBytes store u) (i64Bytes (store v)), left-length u, length-bytesOf 8 (ofZ w64 (store v)))
-
-  pub record-length : (e : Amounts × Fig) → length (recordBytes store e) ≡ 20
-  record-length e = simp (length-append, length-bytesOf)
+  left-length (v ∷ u) = simp (length-append, length-bytesOf, left-length u) (omega arith)
 
   pub right-length : (d : List (Amounts × Fig)) → length (rightBytes store d) ≡ 20 * length d
   right-length [] = refl
-  right-length (e ∷ d) = omega (arith, length-append (rightBytes store d) (recordBytes store e), right-length d, record-length e)
+  right-length (e ∷ d) = simp (length-append, length-bytesOf, right-length d) (omega arith)
 
   hill-length′ : (h : Hill Fig Amounts) → length (hillBytes store h) ≡ 8 + 8 * rise h + 20 * fall h
   hill-length′ (hill u v d) = simp (length-append, length-bytesOf, left-length, right-length) (omega arith)
@@ -58,33 +50,22 @@ module _ {Fig : Type 0} (store : Fig → ℤ) where
 
   left-bytes : (u : List Fig) → AllBytes (leftBytes store u)
   left-bytes [] = bytes-nil
-  left-bytes (v ∷ u) = bytes-append (leftBytes store u) (bytesOf 8 (ofZ w64 (store v))) (left-bytes u) (bytes-bytesOf 8 _)
-
-  record-bytes : (e : Amounts × Fig) → AllBytes (recordBytes store e)
-  record-bytes e =
-      bytes-append (bytesOf 4 (ofZ w32 (e .0 .value))) _ (bytes-bytesOf 4 _) (bytes-append (bytesOf 4 (ofZ w32 (e .0 .floor))) _ (bytes-bytesOf 4 _)
-      (bytes-append (bytesOf 4 (ofZ w32 (e .0 .ceiling))) (bytesOf 8 (ofZ w64 (store (e .1)))) (bytes-bytesOf 4 _) (bytes-bytesOf 8 _)))
+  left-bytes (v ∷ u) = search (bytes-append, bytes-bytesOf, left-bytes u)
 
   right-bytes : (d : List (Amounts × Fig)) → AllBytes (rightBytes store d)
   right-bytes [] = bytes-nil
-  right-bytes (e ∷ d) = bytes-append (rightBytes store d) (recordBytes store e) (right-bytes d) (record-bytes e)
+  right-bytes (e ∷ d) = search (bytes-append, bytes-bytesOf, right-bytes d)
 
   hill-bytes : (h : Hill Fig Amounts) → AllBytes (hillBytes store h)
-  hill-bytes (hill u v d) =
-      bytes-append (leftBytes store u) (bytesOf 8 (ofZ w64 (store v)) ++ rightBytes store d) (left-bytes u) (bytes-append (bytesOf 8 (ofZ w64 (store v))) (rightBytes store d) (bytes-bytesOf 8 _) (right-bytes d))
+  hill-bytes (hill u v d) = search (bytes-append, bytes-bytesOf, left-bytes, right-bytes)
 
   body-bytes : (s : Summary Fig Amounts) → AllBytes (body store s)
   body-bytes blank = bytes-nil
-  body-bytes (part (spoilt f s e o)) =
-      bytes-append (bytesOf 2 f) _ (bytes-bytesOf 2 f) (bytes-append (bytesOf 2 s) _ (bytes-bytesOf 2 s) (bytes-append (bytesOf 2 e) (bytesOf 4 o) (bytes-bytesOf 2 e) (bytes-bytesOf 4 o)))
-  body-bytes (part (whole p o h)) =
-      bytes-append (bytesOf 2 (p + rise h)) _ (bytes-bytesOf 2 (p + rise h))
-      (bytes-append (bytesOf 2 p) _ (bytes-bytesOf 2 p)
-      (bytes-append (bytesOf 2 (p + fall h)) _ (bytes-bytesOf 2 (p + fall h)) (bytes-append (bytesOf 4 o) (hillBytes store h) (bytes-bytesOf 4 o) (hill-bytes h))))
+  body-bytes (part (spoilt f s e o)) = search (bytes-append, bytes-bytesOf)
+  body-bytes (part (whole p o h)) = search (bytes-append, bytes-bytesOf, hill-bytes)
 
   pub layout-bytes : (m : ℕ) (s : Summary Fig Amounts) → AllBytes (layout store m s)
-  layout-bytes m s =
-      bytes-append (bytesOf 2 (lengthOf s)) _ (bytes-bytesOf 2 (lengthOf s)) (bytes-append (bytesOf 2 (kindOf s)) _ (bytes-bytesOf 2 (kindOf s)) (bytes-append (bytesOf 2 m) (body store s) (bytes-bytesOf 2 m) (body-bytes s)))
+  layout-bytes m s = search (bytes-append, bytes-bytesOf, body-bytes)
 
 -- ---- one number
 

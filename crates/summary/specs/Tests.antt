@@ -9,6 +9,7 @@ use lib.IntN.{ℤ}
 use lib.Signed.{leZ, _≤ℤ_, ≤ℤ-refl}
 use Rattle.number.specs.IntegerLaws.{≤-antisym}
 use Rattle.summary.specs.Decide.{allTo}
+use Rattle.summary.specs.Judge.{same}
 use borrow.Author.Tests.{leb-true, le-leb, eqb-true, eq-eqb, ltb-true, lt-ltb}
 
 -- The test t says whether P.
@@ -105,7 +106,7 @@ truth false x = absurd x
 pub tells-order : (a b : ℤ) → Tells (a ≤ℤ b) (leZ a b)
 tells-order a b = record { to = λ h. truth (leZ a b) (h .le); from = λ e. record { le = subst T (sym e) tt } }
 
-pub tells-same : (a b : ℤ) → Tells (a ≡ b) (leZ a b && leZ b a)
+pub tells-same : (a b : ℤ) → Tells (a ≡ b) (same a b)
 tells-same a b =
     tells-also (λ p. ≤-antisym (p .0) (p .1)) (λ e. (subst (λ z. a ≤ℤ z) e (≤ℤ-refl a), subst (λ z. z ≤ℤ a) e (≤ℤ-refl a)))
     (tells-and (tells-order a b) (tells-order b a))

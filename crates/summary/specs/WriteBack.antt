@@ -1,22 +1,20 @@
 -- Bytes that are a summary are the bytes of what they say, which is accepted. Assumes nothing.
 use mathlib.Core.Path.{_≡_, refl, sym, ap, subst, _∙_}
-use mathlib.Core.List.{List, [], _∷_, _++_, append-assoc, append-nil}
-use Prim.Native.Nat.{ℕ, zero, suc, _+_, _-_, _*_, _^_, _≤_, _<_}
+use mathlib.Core.List.{List, [], _++_, append-assoc, append-nil}
+use Prim.Native.Nat.{ℕ, zero, suc, _+_, _*_, _≤_, _<_}
 use native.Mathlib.Nat.{le-refl, le-of-eq}
 use native.Mathlib.Omega.{arith}
 use lib.ListN.{length, drop, drop-of-length-le}
 use mir.Syntax.{w32, w64}
-use mir.Val.{Fits, ofZ, toZ}
+use mir.Val.{Fits}
 use mir.Facts.{ofZ-toZ}
 use Rattle.number.specs.Bytes.{leAt, bytesOf, i32At, i64At}
 use Rattle.number.specs.Laws.{leAt-lt}
-use Rattle.figure.specs.FourModes.{Amounts}
 use Rattle.figure.specs.Mode.{Mode}
 use Rattle.figure.specs.Stored.{IsStored}
-use Rattle.hill.specs.Summary.{Summary}
 use Rattle.hill.specs.Valid.{ValidSummary}
 use Rattle.summary.specs.Layout.{i32Bytes, i64Bytes, leftBytes, recordBytes, rightBytes, hillBytes, layout}
-use Rattle.summary.specs.Judge.{lengthAt, kindAt, modeAt, faultAt, spoiltStartAt, startAt, peakAt, endAt, openedAt, riseAt, fallAt, leftAt, middleAt, recordAt, heldAt, HasLayout, IsSpoilt, IsHill, IsSummary, isBlank, isSpoilt, isHill}
+use Rattle.summary.specs.Judge.{lengthAt, kindAt, modeAt, faultAt, spoiltStartAt, startAt, peakAt, endAt, openedAt, riseAt, fallAt, leftAt, middleAt, recordAt, heldAt, IsSummary, isBlank, isSpoilt, isHill}
 use Rattle.summary.specs.Decode.{amountsAt, leftsIn, rightsIn, hillIn, reading}
 use Rattle.summary.specs.ModeValues.{Numbered}
 use Rattle.summary.specs.Fields.{AllBytes, split-field}

@@ -1,8 +1,8 @@
 -- The bytes of an accepted summary are a summary, and say it. Assumes nothing.
-use mathlib.Core.Path.{_≡_, refl, sym, ap, subst, _∙_}
+use mathlib.Core.Path.{_≡_, sym, ap, subst, _∙_}
 use mathlib.Core.Bool.{true}
-use mathlib.Core.List.{List, [], _∷_, _++_, append-nil}
-use Prim.Native.Nat.{ℕ, _+_, _-_, _*_, _^_, _≤_, _<_}
+use mathlib.Core.List.{List, [], _++_, append-nil}
+use Prim.Native.Nat.{ℕ, _+_, _*_, _≤_, _<_}
 use native.Mathlib.Omega.{arith}
 use lib.Dec.{leb, lit≤, lit<}
 use lib.ListN.{length, drop}
@@ -15,11 +15,11 @@ use Rattle.figure.specs.FourModes.{Amounts}
 use Rattle.figure.specs.Bound.{bound-fits}
 use Rattle.figure.specs.Mode.{Mode, modeInUse}
 use Rattle.figure.specs.Stored.{IsStored}
-use Rattle.hill.specs.Summary.{Hill, hill, Summary, blank, part, spoilt, whole, rise, fall}
+use Rattle.hill.specs.Summary.{hill, Summary, blank, part, spoilt, whole}
 use Rattle.hill.specs.Valid.{weight, ValidHill, ValidSpoilt, ValidSummary}
 use Rattle.hill.specs.ValidLaws.{hill-length}
-use Rattle.summary.specs.Layout.{i64Bytes, leftBytes, rightBytes, hillBytes, lengthOf, layout}
-use Rattle.summary.specs.Judge.{lengthAt, kindAt, modeAt, faultAt, spoiltStartAt, startAt, peakAt, endAt, openedAt, riseAt, fallAt, middleAt, HasLayout, IsSpoilt, IsHill, IsSummary, isBlank, isSpoilt, isHill}
+use Rattle.summary.specs.Layout.{i64Bytes, leftBytes, rightBytes, hillBytes, layout}
+use Rattle.summary.specs.Judge.{lengthAt, kindAt, modeAt, openedAt, riseAt, fallAt, middleAt, HasLayout, IsSummary, isBlank, isSpoilt, isHill}
 use Rattle.summary.specs.Decode.{hillIn, reading, leftsIn, rightsIn}
 use Rattle.summary.specs.Tests.{and-right}
 use Rattle.summary.specs.ModeValues.{Numbered}
