@@ -1,5 +1,5 @@
 -- A text that is written from the start of a buffer, item by item. Assumes nothing.
-use mathlib.Core.Path.{_≡_, refl, ap, _∙_}
+use mathlib.Core.Path.{_≡_, ap, _∙_}
 use mathlib.Core.Logic.{dite}
 use mathlib.Core.List.{List, [], _∷_, _++_, append-assoc}
 use Prim.Native.Nat.{ℕ, suc, _+_, _-_, _^_, _≤_}
@@ -14,7 +14,7 @@ use mir.Syntax.{w64}
 use mir.Val.{toZ}
 use Rattle.gate.specs.Outcome.{refused, result}
 use Rattle.number.specs.Laws.{sets-append}
-use Rattle.text.specs.Decimal.{digitsOf, decimalOf}
+use Rattle.text.specs.Decimal.{decimalOf}
 use Rattle.text.specs.DecimalLaws.{decimal-length}
 use Rattle.text.specs.Line.{ascii, lineText, dayLine}
 use Rattle.text.specs.declared.Figures.{Figures}

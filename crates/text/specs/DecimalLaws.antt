@@ -1,6 +1,6 @@
 -- Laws that pin decimal text: it reads back to its number, and it is the only text of digits with no leading zero that does.
 -- Assumes nothing.
-use mathlib.Core.Path.{_≡_, refl, sym, ap, _∙_, subst}
+use mathlib.Core.Path.{_≡_, refl, sym, ap, _∙_}
 use mathlib.Core.Logic.{_↔_, _≢_, dite}
 use mathlib.Core.List.{List, [], _∷_, _++_, append-assoc, append-nil}
 use Prim.Native.Nat.{ℕ, zero, suc, _+_, _-_, _*_, _/_, _%_, _^_, _≤_, _<_}
@@ -15,7 +15,7 @@ use lib.Signed.{_<ℤ_}
 use mir.Syntax.{w64}
 use mir.Val.{SFits}
 use Rattle.number.specs.IntegerLaws.{zed}
-use Rattle.text.specs.Decimal.{digitsIn, digitsOf, decimalOf, readAfter, readDigits, readDecimal}
+use Rattle.text.specs.Decimal.{digitsIn, digitsOf, decimalOf, readAfter, readDigits, readDecimal, Digits, Numeral}
 
 -- ---- the bound is never too small
 
@@ -67,17 +67,6 @@ read-digits n =
 
 -- ---- the shape of a numeral
 
--- every byte is a digit
-abbrev pub Digits : List ℕ → Type 0
-Digits [] = Unit {0}
-Digits (d ∷ s) = (48 ≤ d) × (d ≤ 57) × Digits s
-
--- digits, at least one, with a leading zero only in "0" itself
-pub record Numeral (s : List ℕ) : Type 0 where
-  pub digits : Digits s
-  pub some : 1 ≤ length s
-  pub lead : 2 ≤ length s → getD s 0 0 ≢ 48
-
 digits-append : (s : List ℕ) (d : ℕ) → Digits s → d < 10 → Digits (s ++ ((48 + d) ∷ []))
 digits-append [] d h l = (omega arith, omega arith, tt)
 digits-append (e ∷ s) d h l = (h .0, h .1, digits-append s d (h .2) l)
@@ -107,7 +96,12 @@ digits-lead n =
     (suc n) n (omega arith)
 
 pub digits-numeral : (n : ℕ) → Numeral (digitsOf n)
-digits-numeral n = record { digits = digits-digits n; some = digits-some n; lead = λ h. dite (decLt 0 n) (digits-lead n) (λ z. let e : n ≡ 0 = omega arith in absurd (omega (arith, subst (λ (m : ℕ). 2 ≤ length (digitsOf m)) e h, ap length digits-zero))) }
+digits-numeral n =
+    record {
+      digits = digits-digits n;
+      some = digits-some n;
+      lead = λ h. dite (decLt 0 n) (digits-lead n) (λ z. let e : n ≡ 0 = omega arith in absurd (omega (arith, ap (λ (m : ℕ). length (digitsOf m)) e, ap length digits-zero)));
+    }
 
 -- ---- the only text
 

@@ -6,6 +6,8 @@ use Prim.Native.Char.{code}
 use Prim.Native.String as String
 use Prim.Native.String.{String}
 use lib.Dec.{eqb}
+use mir.Syntax.{w64}
+use mir.Val.{SFits}
 use Rattle.gate.specs.Outcome.{Outcome, refused, result}
 use Rattle.text.specs.Decimal.{digitsOf, decimalOf, readDigits, readDecimal}
 use Rattle.text.specs.declared.Figures.{Figures}
@@ -27,17 +29,17 @@ dayLine o = lineText o ++ ascii "\n"
 
 -- ---- the other way, for the laws
 
--- x before the first of some pieces
+-- x before the first of some pieces.
 abbrev pub onFirst : ℕ → List (List ℕ) → List (List ℕ)
 onFirst x [] = (x ∷ []) ∷ []
 onFirst x (p ∷ ps) = (x ∷ p) ∷ ps
 
--- s cut at every byte b: what stands before, between and after these bytes
+-- s cut at every byte b: what stands before, between and after these bytes.
 unfoldable pub pieces : ℕ → List ℕ → List (List ℕ)
 pieces b [] = [] ∷ []
 pieces b (x ∷ s) = cond (eqb x b) ([] ∷ pieces b s) (onFirst x (pieces b s))
 
--- four numbers are figures, a word and a number a refusal; no other line is printed, and any stands for 0 here
+-- Four words are figures, two are a refusal. A line of another shape is never printed, and reads as `refused 0`.
 abbrev pub readWords : List (List ℕ) → Outcome Figures
 readWords [] = refused 0
 readWords (a ∷ []) = refused 0
@@ -46,10 +48,17 @@ readWords (a ∷ b ∷ c ∷ []) = refused 0
 readWords (a ∷ b ∷ c ∷ d ∷ []) = result (record { net = readDecimal a; heaviest = readDecimal b; eaten = readDecimal c; stamp = readDecimal d })
 readWords (a ∷ b ∷ c ∷ d ∷ e ∷ s) = refused 0
 
--- the words up to the newline
+-- What a line says: its words up to the newline.
 abbrev pub readPieces : List (List ℕ) → Outcome Figures
 readPieces [] = refused 0
 readPieces (p ∷ ps) = readWords (pieces 32 p)
 
 abbrev pub readLine : List ℕ → Outcome Figures
 readLine s = readPieces (pieces 10 s)
+
+-- Figures of 64 bits.
+pub record FiguresFit (f : Figures) : Type 0 where
+  pub net : SFits w64 (f .net)
+  pub heaviest : SFits w64 (f .heaviest)
+  pub eaten : SFits w64 (f .eaten)
+  pub stamp : SFits w64 (f .stamp)

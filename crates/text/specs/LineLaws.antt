@@ -2,18 +2,16 @@
 -- Assumes nothing.
 use mathlib.Core.Path.{_≡_, refl, sym, ap, _∙_}
 use mathlib.Core.List.{List, [], _∷_, _++_, append-assoc}
-use Prim.Native.Nat.{ℕ, suc, _+_, _≤_, _<_}
+use Prim.Native.Nat.{ℕ, suc, _≤_, _<_}
 use native.Mathlib.Omega.{arith}
 use borrow.Author.Tests.{eq-eqb, ne-eqb}
 use lib.Dec.{lit<, lit≤}
 use lib.ListN.{length, length-append}
 use lib.IntN.{ℤ, pos, negsuc}
-use mir.Syntax.{w64}
-use mir.Val.{SFits}
 use Rattle.gate.specs.Outcome.{Outcome, refused, result}
-use Rattle.text.specs.Decimal.{digitsOf, decimalOf}
-use Rattle.text.specs.DecimalLaws.{Digits, digits-digits, read-digits, read-decimal, decimal-length, digits-length}
-use Rattle.text.specs.Line.{ascii, lineText, dayLine, pieces, onFirst, readWords, readLine}
+use Rattle.text.specs.Decimal.{digitsOf, decimalOf, Digits}
+use Rattle.text.specs.DecimalLaws.{digits-digits, read-digits, read-decimal, decimal-length, digits-length}
+use Rattle.text.specs.Line.{ascii, lineText, dayLine, pieces, readLine, FiguresFit}
 use Rattle.text.specs.declared.Figures.{Figures}
 
 -- ---- cutting
@@ -111,13 +109,6 @@ pub line-injective : (o p : Outcome Figures) → dayLine o ≡ dayLine p → o �
 line-injective o p e = sym (read-line o) ∙ ap (λ (s : List ℕ). readLine s) e ∙ read-line p
 
 -- ---- how long
-
--- figures of 64 bits
-pub record FiguresFit (f : Figures) : Type 0 where
-  pub net : SFits w64 (f .net)
-  pub heaviest : SFits w64 (f .heaviest)
-  pub eaten : SFits w64 (f .eaten)
-  pub stamp : SFits w64 (f .stamp)
 
 pub line-length : (f : Figures) → FiguresFit f → length (dayLine (result f)) ≤ 84
 unfolding dayLine ascii

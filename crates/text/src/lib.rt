@@ -78,6 +78,7 @@ fn write_item(out: &mut [u8], at: usize, x: i64, after: u8) -> usize
 pub fn write_line(figures: Figures, out: &mut [u8; 128]) -> usize
     ensures answer { λ r. ⌜ r ≡ length (dayLine (result figures)) ⌝ }
     ensures buffer { λ _. ⌜ now (out .exit) ≡ sets (now (out .entry)) 0 (dayLine (result figures)) ⌝ }
+    ensures fits { λ r. ⌜ r ≤ 128 ⌝ }
 {
     let at = write_item(out, 0, figures.net, b' ');
     let at = write_item(out, at, figures.heaviest, b' ');
@@ -89,6 +90,7 @@ pub fn write_line(figures: Figures, out: &mut [u8; 128]) -> usize
 pub fn write_refusal(n: u8, out: &mut [u8; 128]) -> usize
     ensures answer { λ r. ⌜ r ≡ length (dayLine (refused n)) ⌝ }
     ensures buffer { λ _. ⌜ now (out .exit) ≡ sets (now (out .entry)) 0 (dayLine (refused n)) ⌝ }
+    ensures fits { λ r. ⌜ r ≤ 128 ⌝ }
 {
     out[0] = b'r';
     out[1] = b'e';

@@ -1,7 +1,7 @@
 -- `text::write_digits` meets its contract: the digits of the rest, stored over what is written, give the whole.
 -- Assumes nothing.
-use mathlib.Core.Path.{refl, _∙_}
-use Prim.Native.Nat.{_+_, _/_}
+use mathlib.Core.Path.{refl}
+use Prim.Native.Nat.{_/_}
 use native.Mathlib.Omega.{arith}
 use lib.ListN.{length-set}
 use borrow.Author.Needs.{needs}
@@ -58,7 +58,7 @@ slice-write-out-2 : tie.Need-slice-write-out-2 Inv-loop μ-loop
 slice-write-out-2 c = omega arith
 
 same-length : tie.Need-same-length Inv-loop μ-loop
-same-length c = length-set (c .before .loop .out) (c .before .loop .i) (48 + c .before .loop .rest) ∙ c .before .loop .inv .same
+same-length c = simp length-set (c .before .loop .inv .same)
 
 returns : tie.Need-returns Inv-loop μ-loop
 returns c = (omega arith, write-end (c .before .loop .inv) (omega arith))

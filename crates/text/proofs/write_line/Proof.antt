@@ -40,8 +40,11 @@ returns c =
     let eaten : toZ w64 (ofZ w64 (f .eaten)) ≡ f .eaten = search needs in
     let stamp : toZ w64 (ofZ w64 (f .stamp)) ≡ f .stamp = search needs in
     let none : Wrote (now (start .args .out)) [] (now (start .args .out)) 0 = record { is = refl; end = refl } in
-    let w = next 10 (next 32 (next 32 (next 32 none net (c .before .before .before .before .before .before .before .before .before .write-item .ensures)) heaviest (c .before .before .before .before .before .before .write-item2 .ensures)) eaten (c .before .before .before .write-item3 .ensures)) stamp (c .write-item4 .ensures) in
-    rw (← four f) (w .end, w .is)
+    let one = next 32 none net (c .before .before .before .before .before .before .before .before .before .write-item .ensures) in
+    let two = next 32 one heaviest (c .before .before .before .before .before .before .write-item2 .ensures) in
+    let three = next 32 two eaten (c .before .before .before .write-item3 .ensures) in
+    let w = next 10 three stamp (c .write-item4 .ensures) in
+    (rw (← four f) (w .end), (rw (← four f) (w .is), omega (arith, short (ofZ w64 (f .net)), short (ofZ w64 (f .heaviest)), short (ofZ w64 (f .eaten)), short (ofZ w64 (f .stamp)))))
 
 pub write-line-spec : {M : Type 1} → statement M
 write-line-spec =

@@ -51,7 +51,7 @@ returns c =
     let n : toZ w64 (start .args .n) ≡ pos (start .args .n) = toZ-pos w64 (omega arith) in
     let refused : Wrote (now (start .args .out)) (ascii "refused ") (sets (now (start .args .out)) 0 (ascii "refused ")) 8 = record { is = refl; end = refl } in
     let w = next 10 refused n (c .write-item .ensures) in
-    rw (← word (start .args .n)) (w .end, w .is)
+    (rw (← word (start .args .n)) (w .end), (rw (← word (start .args .n)) (w .is), omega (arith, short (start .args .n))))
 
 pub write-refusal-spec : {M : Type 1} → statement M
 write-refusal-spec =
