@@ -1,2 +1,3 @@
--- What a call comes to.
+-- What a call comes to, and what its answer says.
 pub mod Outcome
+pub mod Answers

@@ -19,11 +19,11 @@ module _ {R : Type 0} (𝒜 : Algebra R) where
   rise-join w (hill u m []) = refl
   rise-join w (hill u m (e ∷ d)) = refl
 
-  fall-close : (a : Hill Fig R) → fall (close 𝒜 a) ≡ fall a - 1
+  pub fall-close : (a : Hill Fig R) → fall (close 𝒜 a) ≡ fall a - 1
   fall-close (hill u m []) = refl
   fall-close (hill u m (e ∷ d)) = fall-join (node (e .0) (e .1)) (hill u m d) ∙ omega arith
 
-  rise-close : (a : Hill Fig R) → rise (close 𝒜 a) ≡ rise a + (1 - fall a)
+  pub rise-close : (a : Hill Fig R) → rise (close 𝒜 a) ≡ rise a + (1 - fall a)
   rise-close (hill u m []) = omega arith
   rise-close (hill u m (e ∷ d)) = rise-join (node (e .0) (e .1)) (hill u m d) ∙ omega arith
 
@@ -31,14 +31,14 @@ module _ {R : Type 0} (𝒜 : Algebra R) where
   fall-closes a [] = omega arith
   fall-closes a (l ∷ u) = simp (fall-close, fall-join, fall-closes a u) (omega arith)
 
-  rise-closes : (a : Hill Fig R) (u : List Fig) → rise (closes 𝒜 a u) ≡ rise a + (length u - fall a)
+  pub rise-closes : (a : Hill Fig R) (u : List Fig) → rise (closes 𝒜 a u) ≡ rise a + (length u - fall a)
   rise-closes a [] = omega arith
   rise-closes a (l ∷ u) = simp (rise-close, rise-join, fall-join, fall-closes a u, rise-closes a u) (omega arith)
 
-  fall-push : (e : List (R × Fig)) (a : Hill Fig R) → fall (push e a) ≡ length e + fall a
+  pub fall-push : (e : List (R × Fig)) (a : Hill Fig R) → fall (push e a) ≡ length e + fall a
   fall-push e (hill u m d) = length-append e d
 
-  rise-push : (e : List (R × Fig)) (a : Hill Fig R) → rise (push e a) ≡ rise a
+  pub rise-push : (e : List (R × Fig)) (a : Hill Fig R) → rise (push e a) ≡ rise a
   rise-push e (hill u m d) = refl
 
   pub fall-merge : (a b : Hill Fig R) → fall (merge 𝒜 a b) ≡ fall b + (fall a - rise b)

@@ -3,19 +3,9 @@ use mathlib.Core.Path.{_≡_}
 use mathlib.Core.List.{List, [], _∷_}
 use Prim.Native.Nat.{ℕ, _+_, _*_, _≤_, _<_, min}
 use Rattle.algebra.specs.Algebra.{Algebra}
+use Rattle.algebra.specs.Sizes.{Sizes}
 use Rattle.hill.specs.Log.{Record, opening, closing}
 use Rattle.hill.specs.Summary.{Hill, hill, Part, spoilt, whole, Summary, blank, part, rise, fall, middle}
-
--- A size of figures that merging does not raise by more than `unit` for each record. In modes 1 to 3: the absolute value, and 10^9 for a record
--- whose numbers are in range (`Fine`). In mode 4: 0, and 1.
-pub record Sizes {R : Type 0} (𝒜 : Algebra R) : Type 1 where
-  pub Fine : R → Type 0
-  pub unit : ℕ
-  pub size : 𝒜 .Fig → ℕ
-  pub unit-pos : 0 < unit
-  pub size-ι : size (𝒜 .ι) ≡ 0
-  pub size-⊗ : (a b : 𝒜 .Fig) → size (𝒜 ._⊗_ a b) ≤ size a + size b
-  pub size-node : (r : R) (h : 𝒜 .Fig) → Fine r → size (𝒜 .node r h) ≤ unit + size h
 
 -- "Fault (7, 8 or 9), levels are 0 to 64, a spoilt one with fault 9 has opened 100,001."
 pub record ValidSpoilt (f s e o : ℕ) : Type 0 where
@@ -26,9 +16,11 @@ pub record ValidSpoilt (f s e o : ℕ) : Type 0 where
   pub few : o ≤ 100001
   pub many : f ≡ 9 → o ≡ 100001
 
-module _ {R : Type 0} (𝒜 : Algebra R) (𝒮 : Sizes 𝒜) where
+-- `Sizes` says how large a figure is and what a record can add, `unit`. In modes 1 to 3: the absolute value, and 10^9 for a record whose numbers are in
+-- range (`Fine`). In mode 4: 0, and 1.
+module _ {R : Type 0} (𝒜 : Algebra R) {Fine : R → Type 0} (𝒮 : Sizes 𝒜 Fine) where
   open Algebra 𝒜 using (Fig, ι)
-  open Sizes 𝒮 using (Fine, unit, size)
+  open Sizes 𝒮 using (unit, size)
 
   -- All values of a hill, and `unit` for each unclosed record.
   abbrev pub weightUp : List Fig → ℕ

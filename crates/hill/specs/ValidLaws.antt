@@ -14,7 +14,8 @@ use Rattle.hill.specs.VerdictLaws.{low-fst, low-snd, between-pass, betwe
 use Rattle.hill.specs.Log.{Record, opening, closing}
 use Rattle.hill.specs.Summary.{Hill, hill, Part, spoilt, whole, Summary, blank, part, rise, fall, middle, start, end, opened, verdict, judged, summaryOf, peak, slopes}
 use Rattle.hill.specs.Merge.{mergeHills, mergeVerdict, mergePart, mergeSummary}
-use Rattle.hill.specs.Valid.{Sizes, ValidSpoilt, weightUp, weightDown, weight, AllFine, FineHill, ValidHill, ValidPart, ValidSummary, Readable, AllReadable}
+use Rattle.algebra.specs.Sizes.{Sizes}
+use Rattle.hill.specs.Valid.{ValidSpoilt, weightUp, weightDown, weight, AllFine, FineHill, ValidHill, ValidPart, ValidSummary, Readable, AllReadable}
 use Rattle.hill.specs.Building.{push, join, close, closes, merge}
 use Rattle.hill.specs.Slopes.{fall-join, fall-closes, fall-merge, rise-merge}
 use Rattle.hill.specs.MergeLaws.{mergeHills-merge}
@@ -52,33 +53,33 @@ valid-spoilt : (f s e t : ℕ) → Range t (refuse f) → s ≤ 64 → e ≤ 64 
 unfolding cut
 valid-spoilt f s e t r k l = record { low-fault = r .0; high-fault = r .1; start-high = k; end-high = l; few = omega arith; many = λ x. let y = r .2 x in omega arith }
 
-module _ {R : Type 0} (𝒜 : Algebra R) (𝒮 : Sizes 𝒜) where
+module _ {R : Type 0} (𝒜 : Algebra R) {Fine : R → Type 0} (𝒮 : Sizes 𝒜 Fine) where
   open Algebra 𝒜 using (Fig, ι, _⊗_, node)
 
   infixl 70 _⊗_
-  open Sizes 𝒮 using (Fine, unit, size, unit-pos, size-ι, size-⊗, size-node)
+  open Sizes 𝒮 using (unit, size, unit-pos, size-ι, size-⊗, size-node)
 
-  weight-join : (w : Fig) (a : Hill Fig R) → weight 𝒜 𝒮 (join 𝒜 w a) ≤ weight 𝒜 𝒮 a + size w
+  pub weight-join : (w : Fig) (a : Hill Fig R) → weight 𝒜 𝒮 (join 𝒜 w a) ≤ weight 𝒜 𝒮 a + size w
   weight-join w (hill u m []) = omega (arith, size-⊗ m w)
   weight-join w (hill u m (e ∷ d)) = omega (arith, size-⊗ (e .1) w)
 
-  fine-join : (w : Fig) (a : Hill Fig R) → FineHill 𝒜 𝒮 a → FineHill 𝒜 𝒮 (join 𝒜 w a)
+  pub fine-join : (w : Fig) (a : Hill Fig R) → FineHill 𝒜 𝒮 a → FineHill 𝒜 𝒮 (join 𝒜 w a)
   fine-join w (hill u m []) f = tt
   fine-join w (hill u m (e ∷ d)) f = f
 
-  weight-close : (a : Hill Fig R) → FineHill 𝒜 𝒮 a → weight 𝒜 𝒮 (close 𝒜 a) ≤ weight 𝒜 𝒮 a
+  pub weight-close : (a : Hill Fig R) → FineHill 𝒜 𝒮 a → weight 𝒜 𝒮 (close 𝒜 a) ≤ weight 𝒜 𝒮 a
   weight-close (hill u m []) f = omega (arith, size-ι)
   weight-close (hill u m (e ∷ d)) f = omega (arith, weight-join (node (e .0) (e .1)) (hill u m d), size-node (e .0) (e .1) (f .0))
 
-  fine-close : (a : Hill Fig R) → FineHill 𝒜 𝒮 a → FineHill 𝒜 𝒮 (close 𝒜 a)
+  pub fine-close : (a : Hill Fig R) → FineHill 𝒜 𝒮 a → FineHill 𝒜 𝒮 (close 𝒜 a)
   fine-close (hill u m []) f = tt
   fine-close (hill u m (e ∷ d)) f = fine-join (node (e .0) (e .1)) (hill u m d) (f .1)
 
-  fine-closes : (a : Hill Fig R) (u : List Fig) → FineHill 𝒜 𝒮 a → FineHill 𝒜 𝒮 (closes 𝒜 a u)
+  pub fine-closes : (a : Hill Fig R) (u : List Fig) → FineHill 𝒜 𝒮 a → FineHill 𝒜 𝒮 (closes 𝒜 a u)
   fine-closes a [] f = f
   fine-closes a (l ∷ u) f = fine-close (join 𝒜 l (closes 𝒜 a u)) (fine-join l (closes 𝒜 a u) (fine-closes a u f))
 
-  weight-closes : (a : Hill Fig R) (u : List Fig) → FineHill 𝒜 𝒮 a → weight 𝒜 𝒮 (closes 𝒜 a u) ≤ weight 𝒜 𝒮 a + weightUp 𝒜 𝒮 u
+  pub weight-closes : (a : Hill Fig R) (u : List Fig) → FineHill 𝒜 𝒮 a → weight 𝒜 𝒮 (closes 𝒜 a u) ≤ weight 𝒜 𝒮 a + weightUp 𝒜 𝒮 u
   weight-closes a [] f = omega arith
   weight-closes a (l ∷ u) f =
       omega (arith, weight-close (join 𝒜 l (closes 𝒜 a u)) (fine-join l (closes 𝒜 a u) (fine-closes a u f)), weight-join l (closes 𝒜 a u), weight-closes a u f)
@@ -91,10 +92,10 @@ module _ {R : Type 0} (𝒜 : Algebra R) (𝒮 : Sizes 𝒜) where
   fine-append [] e f g = g
   fine-append (x ∷ d) e f g = (f .0, fine-append d e (f .1) g)
 
-  weight-push : (e : List (R × Fig)) (a : Hill Fig R) → weight 𝒜 𝒮 (push e a) ≡ weightDown 𝒜 𝒮 e + weight 𝒜 𝒮 a
+  pub weight-push : (e : List (R × Fig)) (a : Hill Fig R) → weight 𝒜 𝒮 (push e a) ≡ weightDown 𝒜 𝒮 e + weight 𝒜 𝒮 a
   weight-push e (hill u m d) = omega (arith, weightDown-append e d)
 
-  fine-push : (e : List (R × Fig)) (a : Hill Fig R) → AllFine 𝒜 𝒮 e → FineHill 𝒜 𝒮 a → FineHill 𝒜 𝒮 (push e a)
+  pub fine-push : (e : List (R × Fig)) (a : Hill Fig R) → AllFine 𝒜 𝒮 e → FineHill 𝒜 𝒮 a → FineHill 𝒜 𝒮 (push e a)
   fine-push e (hill u m d) f g = fine-append e d f g
 
   -- Merging raises no weight 𝒜 𝒮.

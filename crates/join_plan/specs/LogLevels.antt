@@ -72,7 +72,7 @@ module _ {R : Type 0} where
   chunkFault [] = pass
   chunkFault (x ∷ xs) = faultOf x xs
 
-  log-quiet : (log : List (Record R)) → logFault log ≡ pass → chunkFault log ≡ pass
+  pub log-quiet : (log : List (Record R)) → logFault log ≡ pass → chunkFault log ≡ pass
   log-quiet [] v = refl
   log-quiet (x ∷ xs) v = low-fst (faultOf x xs) (ends (startLevel x) (endOf x xs)) v
 
@@ -83,7 +83,7 @@ module _ {R : Type 0} where
     part-levels (spoilt f s e o) v = absurd (refuse-pass v)
     part-levels (whole p o h) v = refl
 
-    fault-summary : (c : List (Record R)) → summaryFault 𝒜 (summaryOf 𝒜 c) ≡ chunkFault c
+    pub fault-summary : (c : List (Record R)) → summaryFault 𝒜 (summaryOf 𝒜 c) ≡ chunkFault c
     fault-summary [] = refl
     fault-summary (x ∷ xs) = verdict-partOf 𝒜 x xs
 

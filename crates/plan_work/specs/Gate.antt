@@ -5,7 +5,8 @@ use Prim.Native.Nat.{ℕ, _+_, _≤_, _<_, min}
 use Rattle.algebra.specs.Algebra.{Algebra}
 use Rattle.hill.specs.Verdict.{Verdict, pass, refuse, low, between, count, ends}
 use Rattle.hill.specs.Summary.{Hill, Part, spoilt, whole, Summary, blank, part, rise, fall, middle, verdict, start, end, opened}
-use Rattle.hill.specs.Valid.{Sizes, ValidSummary}
+use Rattle.algebra.specs.Sizes.{Sizes}
+use Rattle.hill.specs.Valid.{ValidSummary}
 
 module _ {Fig R : Type 0} where
   -- The row without its blanks.
@@ -61,6 +62,6 @@ module _ {R : Type 0} (𝒜 : Algebra R) where
   FairRow (part a ∷ row) = FairPart a × FairRow row
 
   -- A row of accepted summaries: crate hill says what is asked of each.
-  abbrev pub ValidRow : Sizes 𝒜 → List (Summary Fig R) → Type 0
+  abbrev pub ValidRow : {Fine : R → Type 0} → Sizes 𝒜 Fine → List (Summary Fig R) → Type 0
   ValidRow 𝒮 [] = Unit {0}
   ValidRow 𝒮 (s ∷ row) = ValidSummary 𝒜 𝒮 s × ValidRow 𝒮 row

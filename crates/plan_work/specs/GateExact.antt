@@ -14,7 +14,7 @@ use Rattle.hill.specs.Summary.{Part, spoilt, whole, Summary, blank, part, rise,
 use Rattle.hill.specs.Merge.{mergePart, mergeSummary}
 use Rattle.hill.specs.Finish.{outcome, finishOf}
 use Rattle.hill.specs.SummaryLaws.{start-merge, end-merge, verdict-merge, opened-merge}
-use Rattle.hill.specs.Valid.{Sizes}
+use Rattle.algebra.specs.Sizes.{Sizes}
 use Rattle.hill.specs.RowLaws.{inOrder}
 use Rattle.join_plan.specs.Gate.{summaryFault}
 use Rattle.plan_work.specs.Runs.{slopesOf}
@@ -95,7 +95,7 @@ module _ {R : Type 0} (𝒜 : Algebra R) where
         rw (mergeAll-parts a row) (verdict-parts a row (f .0) (f .1) ∙ low-fst (partsVerdict a (partsOf row)) (ends (start a) (lastEnd a (partsOf row))) v)
 
 -- Accepted summaries are all that is needed.
-pub fair-row : {R : Type 0} (𝒜 : Algebra R) (𝒮 : Sizes 𝒜) (row : List (Summary (𝒜 .Fig) R)) → ValidRow 𝒜 𝒮 row → FairRow 𝒜 row
+pub fair-row : {R : Type 0} (𝒜 : Algebra R) {Fine : R → Type 0} (𝒮 : Sizes 𝒜 Fine) (row : List (Summary (𝒜 .Fig) R)) → ValidRow 𝒜 𝒮 row → FairRow 𝒜 row
 fair-row 𝒜 𝒮 [] v = tt
 fair-row 𝒜 𝒮 (blank ∷ row) v = fair-row 𝒜 𝒮 row (v .1)
 fair-row 𝒜 𝒮 (part (spoilt f s e o) ∷ row) v = (v .0 .high-fault, fair-row 𝒜 𝒮 row (v .1))

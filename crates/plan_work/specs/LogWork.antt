@@ -5,12 +5,13 @@ use Rattle.algebra.specs.Algebra.{Algebra, Laws, Commutative}
 use Rattle.hill.specs.Verdict.{Verdict, pass, refuse}
 use Rattle.hill.specs.Log.{Record, logFault}
 use Rattle.hill.specs.Figure.{figureOf}
-use Rattle.hill.specs.Summary.{Summary, spoilt, whole, blank, part, summaryOf}
+use Rattle.hill.specs.Summary.{summaryOf}
 use Rattle.hill.specs.Finish.{outcome, finishOf}
 use Rattle.hill.specs.Row.{joined}
 use Rattle.hill.specs.FinishLaws.{finish-log}
 use Rattle.hill.specs.RowLaws.{mergeRow-summaries}
-use Rattle.hill.specs.Valid.{Sizes, AllReadable}
+use Rattle.algebra.specs.Sizes.{Sizes}
+use Rattle.hill.specs.Valid.{AllReadable}
 use Rattle.hill.specs.ValidLaws.{valid-summary}
 use Rattle.plan_work.specs.Work.{workOf}
 use Rattle.plan_work.specs.Gate.{rowFault, ValidRow}
@@ -23,7 +24,7 @@ fault-same pass (refuse n) a b e = cc
 fault-same (refuse m) pass a b e = cc
 fault-same (refuse m) (refuse n) a b e = cc
 
-module _ {R : Type 0} (𝒜 : Algebra R) (𝒮 : Sizes 𝒜) where
+module _ {R : Type 0} (𝒜 : Algebra R) {Fine : R → Type 0} (𝒮 : Sizes 𝒜 Fine) where
   open Algebra 𝒜 using (Fig)
 
   -- The chunks' records are readable.

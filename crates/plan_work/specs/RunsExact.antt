@@ -8,7 +8,8 @@ use lib.ListN.{length, drop, length-append, length-drop, List·getD-map}
 use Rattle.algebra.specs.Algebra.{Algebra}
 use Rattle.algebra.specs.Run.{Level, through, Context, AllSound, run, run-is, run-fine}
 use Rattle.hill.specs.Summary.{Hill, hill, Summary, spoilt, whole, blank, part, fall}
-use Rattle.hill.specs.Valid.{Sizes, AllFine, FineHill}
+use Rattle.algebra.specs.Sizes.{Sizes}
+use Rattle.hill.specs.Valid.{AllFine, FineHill}
 use Rattle.join_plan.specs.Plan.{Levels, Line, rowOf, levelsOfSummary, planOfRow}
 use Rattle.join_plan.specs.Joins.{Opens, IsLine}
 use Rattle.join_plan.specs.PlanExact.{planOf-exact}
@@ -52,7 +53,7 @@ module _ {R : Type 0} (𝒜 : Algebra R) where
       )
 
   -- The records of an accepted row are sound.
-  module _ (𝒮 : Sizes 𝒜) (Sound : R → Type 0) (sound : (r : R) → 𝒮 .Fine r → Sound r) where
+  module _ {Fine : R → Type 0} (𝒮 : Sizes 𝒜 Fine) (Sound : R → Type 0) (sound : (r : R) → Fine r → Sound r) where
     drop-fine : (n : ℕ) (d : List (R × Fig)) → AllFine 𝒜 𝒮 d → AllFine 𝒜 𝒮 (drop n d)
     drop-fine zero d f = f
     drop-fine (suc n) [] f = f
@@ -95,7 +96,7 @@ module _ {R : Type 0} {𝒜 : Algebra R} {Sound : R → Type 0} (C : Context �
   run-levels [] h s = absurd (omega arith)
   run-levels (l ∷ ls) h s = (run C l ls, record { is = refl; fine = run-fine C (C .level l) ls (C .level-fine l (s .0)) (s .1); does = run-is C l ls s })
 
-  module _ (𝒮 : Sizes 𝒜) (sound : (r : R) → 𝒮 .Fine r → Sound r) (row : List (Summary Fig R)) (v : ValidRow 𝒜 𝒮 row) where
+  module _ {Fine : R → Type 0} (𝒮 : Sizes 𝒜 Fine) (sound : (r : R) → Fine r → Sound r) (row : List (Summary Fig R)) (v : ValidRow 𝒜 𝒮 row) where
     -- Each line of the plan of an accepted row has its run, ..
     pub run-of-line : (e : Line) → List·Memᴰ e (planOfRow row) → (k : C .K) × RunOf (runLevels 𝒜 row e) k
     run-of-line e m = let n : (e .lowest ≤ e .highest) × (length (runLevels 𝒜 row e) ≡ suc (e .highest) - e .lowest) = run-length 𝒜 row e m in run-levels (runLevels 𝒜 row e) (omega arith) (run-sound 𝒜 𝒮 Sound sound row e v)

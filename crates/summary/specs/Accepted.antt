@@ -18,14 +18,13 @@ use Rattle.summary.specs.Judge.{modeAt, IsSummary, isBlank, isSpoilt, is
 use Rattle.summary.specs.Decode.{decode}
 use Rattle.summary.specs.ModeValues.{numbered}
 use Rattle.summary.specs.Fields.{AllBytes}
-use Rattle.summary.specs.Values.{sizesIn}
 use Rattle.summary.specs.ReadBack.{layout-length, layout-bytes}
 use Rattle.summary.specs.Written.{says}
 use Rattle.summary.specs.WriteBack.{layout-reading, reading-valid}
 
 -- What merging needs of a summary in mode m.
 abbrev pub Accepted : (m : ℕ) → SummaryIn m → Type 0
-Accepted m s = ValidSummary (modeOf m .algebra) (sizesIn (modeOf m)) s
+Accepted m s = ValidSummary (modeOf m .algebra) (modeOf m .sizes) s
 
 -- The bytes b are a summary, in mode m.
 pub record IsSummaryIn (m : ℕ) (b : List ℕ) : Type 0 where
@@ -66,7 +65,7 @@ encode-fits m s v = rw (encode-length m s) (go s v)
     go : (s : SummaryIn m) → Accepted m s → lengthOf s ≤ 1788
     go blank v = omega arith
     go (part (spoilt f s e o)) v = omega arith
-    go (part (whole p o h)) v = hill-length (modeOf m .algebra) (sizesIn (modeOf m)) p o h v
+    go (part (whole p o h)) v = hill-length (modeOf m .algebra) (modeOf m .sizes) p o h v
 
 -- ---- from bytes to summaries
 
@@ -116,5 +115,5 @@ is-summary m b u a = (
 -- ---- chunks
 
 -- The summary of a chunk of readable records is accepted.
-pub chunk-accepted : (m : ℕ) (xs : List (Record Amounts)) → AllReadable (modeOf m .algebra) (sizesIn (modeOf m)) xs → Accepted m (summaryOf (modeOf m .algebra) xs)
-chunk-accepted m xs r = valid-summary (modeOf m .algebra) (sizesIn (modeOf m)) (modeOf m .laws) xs r
+pub chunk-accepted : (m : ℕ) (xs : List (Record Amounts)) → AllReadable (modeOf m .algebra) (modeOf m .sizes) xs → Accepted m (summaryOf (modeOf m .algebra) xs)
+chunk-accepted m xs r = valid-summary (modeOf m .algebra) (modeOf m .sizes) (modeOf m .laws) xs r

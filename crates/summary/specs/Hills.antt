@@ -15,7 +15,7 @@ use Rattle.summary.specs.Judge.{modeAt, startAt, peakAt, endAt, openedAt
 use Rattle.summary.specs.Decode.{amountsAt, leftsIn, rightsIn, hillIn}
 use Rattle.summary.specs.Tests.{Tells, tells-lt, tells-eq, false-true}
 use Rattle.summary.specs.ModeValues.{Numbered}
-use Rattle.summary.specs.Values.{sizesIn, tells-range, lefts-length, rights-length, lefts-weight, rights-weight, rights-fine, fine-rights}
+use Rattle.summary.specs.Values.{tells-range, lefts-length, rights-length, lefts-weight, rights-weight, rights-fine, fine-rights}
 
 sum-same : (n : ℕ) (f g : ℕ → ℕ) → ((i : ℕ) → f i ≡ g i) → sumTo n f ≡ sumTo n g
 sum-same n f g h = ap (sumTo n) (fun-ext h)
@@ -49,19 +49,19 @@ module _ (M : Mode) (b : List ℕ) (N : Numbered (modeAt b) M) where
   weigh : ℕ
   weigh = sumTo (riseAt b) (λ i. sizeOf M (leftAt b i)) + sizeOf M (middleAt b) + sumTo (fallAt b) (λ j. sizeOf M (heldAt b j))
 
-  weight-is : weight (M .algebra) (sizesIn M) (hillIn (M .read) b) ≡ M .sizes .unit * fallAt b + weigh
+  weight-is : weight (M .algebra) (M .sizes) (hillIn (M .read) b) ≡ M .sizes .unit * fallAt b + weigh
   unfolding weigh sizeOf
   weight-is = omega (arith, lefts-weight M b (riseAt b), rights-weight M b (fallAt b))
 
   -- "10^9 × unclosed records + the absolute 64-bit values"; in mode 4, the unclosed records
-  weight-123 : modeAt b ≢ 4 → weight (M .algebra) (sizesIn M) (hillIn (M .read) b) ≡ limit * fallAt b + (sumTo (riseAt b) (λ i. counted (modeAt b) (leftAt b i)) + counted (modeAt b) (middleAt b) + sumTo (fallAt b) (λ j. counted (modeAt b) (heldAt b j)))
+  weight-123 : modeAt b ≢ 4 → weight (M .algebra) (M .sizes) (hillIn (M .read) b) ≡ limit * fallAt b + (sumTo (riseAt b) (λ i. counted (modeAt b) (leftAt b i)) + counted (modeAt b) (middleAt b) + sumTo (fallAt b) (λ j. counted (modeAt b) (heldAt b j)))
   unfolding weigh
   weight-123 n =
       weight-is ∙
       ap₂ (λ (u w : ℕ). u * fallAt b + w) (N .unit-is n)
       (ap₂ _+_ (ap₂ _+_ (sum-same (riseAt b) _ _ (λ i. N .size-is n (leftAt b i))) (N .size-is n (middleAt b))) (sum-same (fallAt b) _ _ (λ j. N .size-is n (heldAt b j))))
 
-  weight-4 : modeAt b ≡ 4 → weight (M .algebra) (sizesIn M) (hillIn (M .read) b) ≡ fallAt b
+  weight-4 : modeAt b ≡ 4 → weight (M .algebra) (M .sizes) (hillIn (M .read) b) ≡ fallAt b
   unfolding weigh
   weight-4 e =
       weight-is ∙
@@ -80,10 +80,10 @@ module _ (M : Mode) (b : List ℕ) (N : Numbered (modeAt b) M) where
         go true s = inl (s .from refl)
         go false s = inr (λ e. false-true (s .to e))
 
-    light : weight (M .algebra) (sizesIn M) (hillIn (M .read) b) ≤ M .sizes .unit * openedAt b
+    light : weight (M .algebra) (M .sizes) (hillIn (M .read) b) ≤ M .sizes .unit * openedAt b
     light = go mode-4?
       where
-        go : (modeAt b ≡ 4) ⊎ (modeAt b ≢ 4) → weight (M .algebra) (sizesIn M) (hillIn (M .read) b) ≤ M .sizes .unit * openedAt b
+        go : (modeAt b ≡ 4) ⊎ (modeAt b ≢ 4) → weight (M .algebra) (M .sizes) (hillIn (M .read) b) ≤ M .sizes .unit * openedAt b
         go (inl e) = omega (arith, weight-4 e, unit-opened 1 (N .unit-one e), v .opened-unclosed e)
         go (inr n) = omega (arith, weight-123 n, unit-opened limit (N .unit-is n), v .values-light n)
 
@@ -103,7 +103,7 @@ module _ (M : Mode) (b : List ℕ) (N : Numbered (modeAt b) M) where
             let k : ¬ (0 < riseAt b + fallAt b + openedAt b) = λ x. false-true (s .to x) in
             absurd (v .opened-some (omega (arith, v .peak-start)) (omega (arith, v .peak-end)) (omega arith))
 
-    pub hill-valid : ValidHill (M .algebra) (sizesIn M) (peakAt b) (openedAt b) (hillIn (M .read) b)
+    pub hill-valid : ValidHill (M .algebra) (M .sizes) (peakAt b) (openedAt b) (hillIn (M .read) b)
     hill-valid =
         let l = lefts-length (M .read) b (riseAt b) in
         let r = rights-length (M .read) b (fallAt b) in
@@ -134,7 +134,7 @@ module _ (M : Mode) (b : List ℕ) (N : Numbered (modeAt b) M) where
         }
 
   pub valid-hill : HasLayout b 18 (24 + 8 * riseAt b + 20 * fallAt b) → peakAt b ≤ startAt b → peakAt b ≤ endAt b → AllStored M b →
-      ValidHill (M .algebra) (sizesIn M) (peakAt b) (openedAt b) (hillIn (M .read) b) → IsHill b
+      ValidHill (M .algebra) (M .sizes) (peakAt b) (openedAt b) (hillIn (M .read) b) → IsHill b
   unfolding IsStored none
   valid-hill f ps pe st v =
       let l = lefts-length (M .read) b (riseAt b) in

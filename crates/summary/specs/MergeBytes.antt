@@ -15,7 +15,6 @@ use Rattle.hill.specs.ValidLaws.{valid-mergeSummary}
 use Rattle.summary.specs.Layout.{SummaryIn, encode}
 use Rattle.summary.specs.Decode.{decode}
 use Rattle.summary.specs.Fields.{AllBytes}
-use Rattle.summary.specs.Values.{sizesIn}
 use Rattle.summary.specs.Accepted.{Accepted, IsSummaryIn, mode-used, encoded, decode-encode, encode-bytes, decoded, encode-decode, chunk-accepted}
 use Rattle.summary.specs.Outcomes.{summaryBytes, blankBytes, mergeBytes}
 
@@ -25,7 +24,7 @@ module _ (m : ℕ) where
   merged s t = mergeSummary (modeOf m .algebra) s t
 
   accepted-merged : (s t : SummaryIn m) → Accepted m s → Accepted m t → Accepted m (merged s t)
-  accepted-merged s t v w = valid-mergeSummary (modeOf m .algebra) (sizesIn (modeOf m)) (modeOf m .laws) s t v w
+  accepted-merged s t v w = valid-mergeSummary (modeOf m .algebra) (modeOf m .sizes) (modeOf m .laws) s t v w
 
   pub merge-encoded : (s t : SummaryIn m) → modeInUse m ≡ true → Accepted m s → Accepted m t → mergeBytes m (encode m s) (encode m t) ≡ encode m (merged s t)
   unfolding mergeBytes
@@ -68,7 +67,7 @@ module _ (m : ℕ) where
 
   -- Chunks.
   abbrev pub Readables : List (Record Amounts) → Type 0
-  Readables xs = AllReadable (modeOf m .algebra) (sizesIn (modeOf m)) xs
+  Readables xs = AllReadable (modeOf m .algebra) (modeOf m .sizes) xs
 
   pub chunk-is : (xs : List (Record Amounts)) → modeInUse m ≡ true → Readables xs → IsSummaryIn m (summaryBytes m xs)
   unfolding summaryBytes

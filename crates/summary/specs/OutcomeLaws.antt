@@ -28,14 +28,14 @@ use Rattle.summary.specs.Judge.{modeAt}
 use Rattle.summary.specs.Decode.{decode}
 use Rattle.summary.specs.Decide.{isSummary}
 use Rattle.summary.specs.DecideLaws.{decide-summary}
-use Rattle.summary.specs.Values.{sizesIn, tells-range}
+use Rattle.summary.specs.Values.{tells-range}
 use Rattle.summary.specs.Accepted.{IsSummaryIn, decode-encode, chunk-accepted}
 use Rattle.summary.specs.MergeBytes.{Readables, chunk-is, merge-chunks}
 use Rattle.summary.specs.Outcomes.{recordOf, chunkOf, summaryBytes, mergeBytes, summariseOutcome, mergeOutcome, finishOutcome, logOutcome}
 
 -- ---- records that were read
 
-either-readable : (m : ℕ) (t : Bool) (d : ℕ) (r : Amounts) → (d ≤ 63) × InRange r → Readable (modeOf m .algebra) (sizesIn (modeOf m)) (cond t (opening d r) (closing d))
+either-readable : (m : ℕ) (t : Bool) (d : ℕ) (r : Amounts) → (d ≤ 63) × InRange r → Readable (modeOf m .algebra) (modeOf m .sizes) (cond t (opening d r) (closing d))
 either-readable m true d r h = h
 either-readable m false d r h = h .0
 

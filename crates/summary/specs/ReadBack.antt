@@ -22,7 +22,6 @@ use Rattle.summary.specs.Judge.{riseAt, leftAt, recordAt, heldAt}
 use Rattle.summary.specs.Decode.{amountsAt, leftsIn, rightsIn}
 use Rattle.summary.specs.Tests.{one-more}
 use Rattle.summary.specs.Fields.{AllBytes, bytes-nil, bytes-append, bytes-bytesOf, behind, field-from, field-further}
-use Rattle.summary.specs.Values.{sizesIn}
 
 -- ---- lengths
 
@@ -94,7 +93,7 @@ module _ (M : Mode) where
     pub back : leftsIn (M .read) b (length u) ≡ u
     pub all : (i : ℕ) → i < length u → IsStored M (leftAt b i)
 
-  pub lefts-back : (b : List ℕ) (u : List (M .algebra .Fig)) (x : List ℕ) → drop 16 b ≡ leftBytes (M .store) u ++ x → weightUp (M .algebra) (sizesIn M) u < 2 ^ 63 → LeftsBack b u
+  pub lefts-back : (b : List ℕ) (u : List (M .algebra .Fig)) (x : List ℕ) → drop 16 b ≡ leftBytes (M .store) u ++ x → weightUp (M .algebra) (M .sizes) u < 2 ^ 63 → LeftsBack b u
   lefts-back b [] x e w = record { back = refl; all = λ i l. absurd (omega arith) }
   lefts-back b (v ∷ u) x e w =
       let small : Small v = omega arith in
@@ -126,7 +125,7 @@ module _ (M : Mode) where
     held-back = ap (toZ w64) (field-further 8 k 12 b _ at) ∙ simp (append-assoc, field-past, lit≤, tt {0}) (figure-back (e .1) _ small)
 
   pub rights-back : (b : List ℕ) (d : List (Amounts × M .algebra .Fig)) (x : List ℕ) → drop (24 + 8 * riseAt b) b ≡ rightBytes (M .store) d ++ x →
-      AllFine (M .algebra) (sizesIn M) d → weightDown (M .algebra) (sizesIn M) d < 2 ^ 63 → RightsBack b d
+      AllFine (M .algebra) (M .sizes) d → weightDown (M .algebra) (M .sizes) d < 2 ^ 63 → RightsBack b d
   rights-back b [] x at f w = record { back = refl; all = λ i l. absurd (omega arith) }
   rights-back b (e ∷ d) x at f w =
       let small : Small (e .1) = omega arith in

@@ -14,21 +14,10 @@ use Rattle.figure.specs.FourModes.{Amounts, InRange, limit}
 use Rattle.figure.specs.Mode.{Mode}
 use Rattle.figure.specs.Stored.{sizeOf}
 use Rattle.hill.specs.Summary.{blank, part, spoilt, whole}
-use Rattle.hill.specs.Valid.{Sizes, weightUp, weightDown, AllFine}
+use Rattle.hill.specs.Valid.{weightUp, weightDown, AllFine}
 use Rattle.summary.specs.Judge.{kindAt, faultAt, spoiltStartAt, peakAt, endAt, openedAt, leftAt, heldAt, sumTo}
 use Rattle.summary.specs.Decode.{amountsAt, leftsIn, rightsIn, hillIn, reading}
 use Rattle.summary.specs.Tests.{Tells, tells-and, tells-also, tells-le, tells-order, one-more}
-
-abbrev pub sizesIn : (M : Mode) → Sizes (M .algebra)
-sizesIn M = record {
-  Fine = InRange;
-  unit = M .sizes .unit;
-  size = M .sizes .size;
-  unit-pos = M .sizes .unit-pos;
-  size-ι = M .sizes .size-ι;
-  size-⊗ = M .sizes .size-⊗;
-  size-node = M .sizes .size-node;
-}
 
 -- ---- a record's range, as it is read and as the modes take it
 
@@ -59,21 +48,21 @@ module _ {Fig : Type 0} (read : ℤ → Fig) (b : List ℕ) where
   rights-length (suc n) = ap suc (rights-length n)
 
 module _ (M : Mode) (b : List ℕ) where
-  pub lefts-weight : (n : ℕ) → weightUp (M .algebra) (sizesIn M) (leftsIn (M .read) b n) ≡ sumTo n (λ i. sizeOf M (leftAt b i))
+  pub lefts-weight : (n : ℕ) → weightUp (M .algebra) (M .sizes) (leftsIn (M .read) b n) ≡ sumTo n (λ i. sizeOf M (leftAt b i))
   unfolding sizeOf sumTo
   lefts-weight zero = refl
   lefts-weight (suc n) = omega (arith, lefts-weight n)
 
-  pub rights-weight : (n : ℕ) → weightDown (M .algebra) (sizesIn M) (rightsIn (M .read) b n) ≡ M .sizes .unit * n + sumTo n (λ j. sizeOf M (heldAt b j))
+  pub rights-weight : (n : ℕ) → weightDown (M .algebra) (M .sizes) (rightsIn (M .read) b n) ≡ M .sizes .unit * n + sumTo n (λ j. sizeOf M (heldAt b j))
   unfolding sizeOf sumTo
   rights-weight zero = omega arith
   rights-weight (suc n) = omega (arith, rights-weight n)
 
-  pub rights-fine : (n : ℕ) → ((j : ℕ) → j < n → InRange (amountsAt b j)) → AllFine (M .algebra) (sizesIn M) (rightsIn (M .read) b n)
+  pub rights-fine : (n : ℕ) → ((j : ℕ) → j < n → InRange (amountsAt b j)) → AllFine (M .algebra) (M .sizes) (rightsIn (M .read) b n)
   rights-fine zero h = tt
   rights-fine (suc n) h = (h n (le-refl _), rights-fine n (λ j l. h j (omega arith)))
 
-  pub fine-rights : (n : ℕ) → AllFine (M .algebra) (sizesIn M) (rightsIn (M .read) b n) → (j : ℕ) → j < n → InRange (amountsAt b j)
+  pub fine-rights : (n : ℕ) → AllFine (M .algebra) (M .sizes) (rightsIn (M .read) b n) → (j : ℕ) → j < n → InRange (amountsAt b j)
   fine-rights zero f j l = absurd (omega arith)
   fine-rights (suc n) f j l = one-more (λ (i : ℕ). InRange (amountsAt b i)) n (fine-rights n (f .1)) (f .0) j l
 

@@ -18,7 +18,7 @@ use Rattle.summary.specs.Judge.{lengthAt, kindAt, modeAt, faultAt, spoil
 use Rattle.summary.specs.Decode.{amountsAt, leftsIn, rightsIn, hillIn, reading}
 use Rattle.summary.specs.ModeValues.{Numbered}
 use Rattle.summary.specs.Fields.{AllBytes, split-field}
-use Rattle.summary.specs.Values.{sizesIn, lefts-length, rights-length, reading-blank, reading-spoilt, reading-hill}
+use Rattle.summary.specs.Values.{lefts-length, rights-length, reading-blank, reading-spoilt, reading-hill}
 use Rattle.summary.specs.Hills.{AllStored, hill-valid, hill-stored}
 
 module _ (M : Mode) (b : List ℕ) (all : AllBytes b) where
@@ -111,9 +111,9 @@ module _ (M : Mode) (b : List ℕ) (all : AllBytes b) where
       head-again (omega (arith, v .layout .length-fits))
 
 -- What accepted bytes say is accepted.
-pub reading-valid : (M : Mode) (b : List ℕ) → Numbered (modeAt b) M → IsSummary b → ValidSummary (M .algebra) (sizesIn M) (reading (M .read) b)
-reading-valid M b N (isBlank f) = subst (ValidSummary (M .algebra) (sizesIn M)) (sym (reading-blank (M .read) b (f .kind-fits))) tt
+pub reading-valid : (M : Mode) (b : List ℕ) → Numbered (modeAt b) M → IsSummary b → ValidSummary (M .algebra) (M .sizes) (reading (M .read) b)
+reading-valid M b N (isBlank f) = subst (ValidSummary (M .algebra) (M .sizes)) (sym (reading-blank (M .read) b (f .kind-fits))) tt
 reading-valid M b N (isSpoilt v) =
-    subst (ValidSummary (M .algebra) (sizesIn M)) (sym (reading-spoilt (M .read) b (v .layout .kind-fits)))
+    subst (ValidSummary (M .algebra) (M .sizes)) (sym (reading-spoilt (M .read) b (v .layout .kind-fits)))
     (record { low-fault = v .fault-low; high-fault = v .fault-high; start-high = v .start-high; end-high = v .end-high; few = v .opened-few; many = v .opened-more })
-reading-valid M b N (isHill v) = subst (ValidSummary (M .algebra) (sizesIn M)) (sym (reading-hill (M .read) b (v .layout .kind-fits))) (hill-valid M b N v)
+reading-valid M b N (isHill v) = subst (ValidSummary (M .algebra) (M .sizes)) (sym (reading-hill (M .read) b (v .layout .kind-fits))) (hill-valid M b N v)

@@ -24,7 +24,7 @@ use Rattle.summary.specs.Decode.{hillIn, reading, leftsIn, rightsIn}
 use Rattle.summary.specs.Tests.{and-right}
 use Rattle.summary.specs.ModeValues.{Numbered}
 use Rattle.summary.specs.Fields.{behind, field-from, drop-past}
-use Rattle.summary.specs.Values.{sizesIn}
+use Rattle.summary.specs.Values.{}
 use Rattle.summary.specs.Hills.{AllStored, valid-hill}
 use Rattle.summary.specs.ReadBack.{left-length, layout-length, figure-back, stored, LeftsBack, lefts-back, RightsBack, rights-back}
 
@@ -88,11 +88,11 @@ module _ (M : Mode) (m : ℕ) (N : Numbered m M) (u : modeInUse m ≡ true) (b :
   }
 
   module _ (p o : ℕ) (us : List (M .algebra .Fig)) (w : M .algebra .Fig) (ds : List (Amounts × M .algebra .Fig))
-      (v : ValidHill (M .algebra) (sizesIn M) p o (hill us w ds))
+      (v : ValidHill (M .algebra) (M .sizes) p o (hill us w ds))
       (h : Head b (24 + 8 * length us + 20 * length ds) 18 m (p + length us) p (p + length ds) o (hillBytes (M .store) (hill us w ds)))
       (l : length b ≡ 24 + 8 * length us + 20 * length ds) where
-    light : weight (M .algebra) (sizesIn M) (hill us w ds) ≤ 100000000000000
-    light = bound-fits (M .sizes .unit) o (weight (M .algebra) (sizesIn M) (hill us w ds)) (M .unit-small) (v .few) (v .light)
+    light : weight (M .algebra) (M .sizes) (hill us w ds) ≤ 100000000000000
+    light = bound-fits (M .sizes .unit) o (weight (M .algebra) (M .sizes) (hill us w ds)) (M .unit-small) (v .few) (v .light)
 
     rise-is : riseAt b ≡ length us
     rise-is = omega (arith, h .first-is, h .second-is)
@@ -146,7 +146,7 @@ module _ (M : Mode) (m : ℕ) (N : Numbered m M) (u : modeInUse m ≡ true) (b :
         }
 
 module _ (M : Mode) (m : ℕ) (N : Numbered m M) (u : modeInUse m ≡ true) where
-  pub says : (s : Summary (M .algebra .Fig) Amounts) → ValidSummary (M .algebra) (sizesIn M) s → Says M m (layout (M .store) m s) s
+  pub says : (s : Summary (M .algebra .Fig) Amounts) → ValidSummary (M .algebra) (M .sizes) s → Says M m (layout (M .store) m s) s
   says blank v =
       let k : kindAt (layout (M .store) m blank) ≡ 16 = simp (field-past, lit≤, tt {0}) (field-here 2 16 _ (lit< tt)) in
       let e : modeAt (layout (M .store) m blank) ≡ m = simp (field-past, lit≤, tt {0}) (field-here 2 m [] (in-use-small m u)) in
@@ -168,5 +168,5 @@ module _ (M : Mode) (m : ℕ) (N : Numbered m M) (u : modeInUse m ≡ true) wher
   says (part (whole p o (hill us w ds))) v =
       says-hill M m N u (layout (M .store) m (part (whole p o (hill us w ds)))) p o us w ds v
       (head (24 + 8 * length us + 20 * length ds) 18 m (p + length us) p (p + length ds) o (hillBytes (M .store) (hill us w ds))
-      (omega (arith, hill-length (M .algebra) (sizesIn M) p o (hill us w ds) v)) (lit< tt) (in-use-small m u) (omega (arith, v .start-high)) (omega (arith, v .start-high)) (omega (arith, v .end-high)) (omega (arith, v .few)))
+      (omega (arith, hill-length (M .algebra) (M .sizes) p o (hill us w ds) v)) (lit< tt) (in-use-small m u) (omega (arith, v .start-high)) (omega (arith, v .start-high)) (omega (arith, v .end-high)) (omega (arith, v .few)))
       (layout-length (M .store) m (part (whole p o (hill us w ds))))

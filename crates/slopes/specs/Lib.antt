@@ -1,0 +1,4 @@
+-- What the functions of `slopes` mean, and laws of these definitions.
+pub mod Arrays
+pub mod Actions
+pub mod Laws

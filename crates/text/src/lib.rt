@@ -1,0 +1,104 @@
+// Decimal text at a position of a buffer, where each caller shows that it fits, and the line that the day program prints.
+ghost use mathlib.Core.Path.{_≡_};
+ghost use Prim.Native.Nat.{_+_, _≤_};
+ghost use mathlib.Core.List.{[], _∷_, _++_};
+ghost use lib.ListN.{length};
+ghost use lib.Seq.{sets};
+ghost use Rattle.gate.specs.Outcome.{refused, result};
+ghost use Rattle.text.specs.Decimal.{digitsOf, decimalOf};
+ghost use Rattle.text.specs.Line.{dayLine};
+
+// How many digits n has.
+fn count_digits(n: u64) -> usize
+    ensures { λ r. ⌜ r ≡ length (digitsOf n) ⌝ }
+{
+    let mut left = n;
+    let mut count: usize = 1;
+    while 10 <= left {
+        left = left / 10;
+        count += 1;
+    }
+    count
+}
+
+// The digits are written from the last to the first.
+fn write_digits(out: &mut [u8], at: usize, n: u64) -> usize
+    requires { ⌜ at + length (digitsOf n) ≤ length (now out) ⌝ }
+    ensures answer { λ r. ⌜ r ≡ at + length (digitsOf n) ⌝ }
+    ensures buffer { λ _. ⌜ now (out .exit) ≡ sets (now (out .entry)) at (digitsOf n) ⌝ }
+{
+    let end = at + count_digits(n);
+    let mut rest = n;
+    let mut i = end - 1;
+    while 10 <= rest {
+        out[i] = (48 + rest % 10) as u8;
+        rest = rest / 10;
+        i -= 1;
+    }
+    out[i] = (48 + rest) as u8;
+    end
+}
+
+// A minus where x is negative, and the digits; the answer is where the text ends. The magnitude of a negative number is taken from its
+// bits, since that of the least one does not fit an i64.
+pub fn write_decimal(out: &mut [u8], at: usize, x: i64) -> usize
+    requires { ⌜ at + length (decimalOf x) ≤ length (now out) ⌝ }
+    ensures answer { λ r. ⌜ r ≡ at + length (decimalOf x) ⌝ }
+    ensures buffer { λ _. ⌜ now (out .exit) ≡ sets (now (out .entry)) at (decimalOf x) ⌝ }
+{
+    let bits = number::bits_64(x);
+    if bits < 0x8000_0000_0000_0000 {
+        write_digits(out, at, bits)
+    } else {
+        out[at] = b'-';
+        write_digits(out, at + 1, 0xffff_ffff_ffff_ffff - bits + 1)
+    }
+}
+
+// The four figures of a log, as the day program prints them.
+pub struct Figures {
+    pub net: i64,
+    pub heaviest: i64,
+    pub eaten: i64,
+    pub stamp: i64,
+}
+
+// A number and the byte after it.
+fn write_item(out: &mut [u8], at: usize, x: i64, after: u8) -> usize
+    requires { ⌜ at + (length (decimalOf x) + 1) ≤ length (now out) ⌝ }
+    ensures answer { λ r. ⌜ r ≡ at + (length (decimalOf x) + 1) ⌝ }
+    ensures buffer { λ _. ⌜ now (out .exit) ≡ sets (now (out .entry)) at (decimalOf x ++ (after ∷ [])) ⌝ }
+{
+    let i = write_decimal(out, at, x);
+    out[i] = after;
+    i + 1
+}
+
+// The line of a log's figures, from the buffer's start.
+pub fn write_line(figures: Figures, out: &mut [u8; 128]) -> usize
+    ensures answer { λ r. ⌜ r ≡ length (dayLine (result figures)) ⌝ }
+    ensures buffer { λ _. ⌜ now (out .exit) ≡ sets (now (out .entry)) 0 (dayLine (result figures)) ⌝ }
+    ensures fits { λ r. ⌜ r ≤ 128 ⌝ }
+{
+    let at = write_item(out, 0, figures.net, b' ');
+    let at = write_item(out, at, figures.heaviest, b' ');
+    let at = write_item(out, at, figures.eaten, b' ');
+    write_item(out, at, figures.stamp, b'\n')
+}
+
+// The line of a refusal, from the buffer's start.
+pub fn write_refusal(n: u8, out: &mut [u8; 128]) -> usize
+    ensures answer { λ r. ⌜ r ≡ length (dayLine (refused n)) ⌝ }
+    ensures buffer { λ _. ⌜ now (out .exit) ≡ sets (now (out .entry)) 0 (dayLine (refused n)) ⌝ }
+    ensures fits { λ r. ⌜ r ≤ 128 ⌝ }
+{
+    out[0] = b'r';
+    out[1] = b'e';
+    out[2] = b'f';
+    out[3] = b'u';
+    out[4] = b's';
+    out[5] = b'e';
+    out[6] = b'd';
+    out[7] = b' ';
+    write_item(out, 8, n as i64, b'\n')
+}
