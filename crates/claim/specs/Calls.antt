@@ -14,7 +14,6 @@ use Rattle.hill.specs.Summary.{summaryOf}
 use Rattle.hill.specs.Row.{joined, Call, put, Proper, onResult}
 use Rattle.hill.specs.RowLaws.{Keeps, SameRows, replay-same, mergeRow-summaries}
 use Rattle.summary.specs.Layout.{SummaryIn, encode}
-use Rattle.summary.specs.Values.{sizesIn}
 use Rattle.summary.specs.MergeBytes.{chunk-is, merge-chunks}
 use Rattle.summary.specs.Outcomes.{summaryBytes}
 use Rattle.summary.specs.OutcomeLaws.{merge-is}
@@ -41,12 +40,12 @@ module _ (m : ℕ) where
   row-encoded [] = refl
   row-encoded (s ∷ st) = rw (stretch-encoded s, row-encoded st)
 
-  pub readable-row : (st : List (List ℕ)) → AllRead st → ReadableRow (modeOf m .algebra) (sizesIn (modeOf m)) (map recordsIn st)
+  pub readable-row : (st : List (List ℕ)) → AllRead st → ReadableRow (modeOf m .algebra) (modeOf m .sizes) (map recordsIn st)
   readable-row [] a = tt
   readable-row (s ∷ st) a = (reads-readable m s (a .0), readable-row st (a .1))
 
   pub accepted-row : (st : List (List ℕ)) → AllRead st → AllAccepted m (summaries st)
-  accepted-row st a = valid-row (modeOf m .algebra) (sizesIn (modeOf m)) (modeOf m .laws) (map recordsIn st) (readable-row st a)
+  accepted-row st a = valid-row (modeOf m .algebra) (modeOf m .sizes) (modeOf m .laws) (map recordsIn st) (readable-row st a)
 
   pub summaries-length : (st : List (List ℕ)) → length (summaries st) ≡ length st
   summaries-length st = length-map (map recordsIn st) (summaryOf (modeOf m .algebra)) ∙ length-map st recordsIn

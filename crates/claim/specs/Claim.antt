@@ -6,6 +6,7 @@ use lib.Dec.{leb}
 use lib.ListN.{length, take, getD}
 use lib.IntN.{ℤ}
 use Rattle.gate.specs.Outcome.{Outcome, refused, result, onward, written, bufferAfter}
+use Rattle.gate.specs.Answers.{lengthAnswered}
 use Rattle.row.specs.Row.{endToEnd}
 use Rattle.record.specs.Record.{recordsOf}
 use Rattle.record.specs.declared.Fields.{Fields}
@@ -55,7 +56,7 @@ abbrev pub wrote : Outcome (List ℕ) → List ℕ
 wrote (refused n) = []
 wrote (result w) = w
 
--- "The row starts as what summarise writes for the P chunks, .. in log order and one mode."
+-- "The row starts as what summarise writes for the P chunks, .. in log order and one mode." (None is refused: no summary has 0 bytes.)
 abbrev pub firstRow : (mode : ℕ) → List Chunk → List (List ℕ)
 firstRow mode cut = map (λ c. wrote (leaves (summariseOutcome (c .bytes) mode (length (c .buffer))) (c .buffer))) cut
 
@@ -105,7 +106,7 @@ byCalls pieces l = leaves (called pieces l) (bufferOf l)
 -- What the calls of the list answer: a refusal, or a length.
 abbrev pub told : List (Call Lent) → List (List ℕ) → List (Outcome ℕ)
 told [] row = []
-told (c ∷ cs) row = onResult length (answer called c row) ∷ told cs (put byCalls (answer byCalls c row) c row)
+told (c ∷ cs) row = lengthAnswered (answer called c row) ∷ told cs (put byCalls (answer byCalls c row) c row)
 
 -- The same merge on stretches: "a merge whose buffer is shorter than the summary of the joined stretches answers 12 and leaves the row as it was".
 abbrev pub onStretches : (mode : ℕ) → List (List ℕ) → Lent → Outcome (List ℕ)
@@ -113,31 +114,43 @@ onStretches mode = fitting (λ l stretch. leb (length (stretchBytes mode stretch
 
 -- ---- the claim
 
--- The plan and the work along it, "taken from the row before any merge".
-pub record Planned (mode : ℕ) (cut : List Chunk) : Type 0 where
-  -- "just the lines described above", by the records of the chunks; there is one such list
-  pub lines : List Line
-  pub described : IsPlan (map recordsIn (chunks cut)) lines
-  pub only : (ls : List Line) → IsPlan (map recordsIn (chunks cut)) ls → ls ≡ lines
-  -- at most 2P - 3
-  pub few : length lines + 3 ≤ 2 * length cut
-  -- "the plan's call writes just the lines .., or, where its buffer is too short for them, answers 12"
-  pub planned : (cap : ℕ) → planOutcome (endToEnd (firstRow mode cut)) cap ≡ written cap (linesBytes lines)
-  -- "the figure, the joins used (its lines) and the number of levels folded"
-  pub worked : workOutcome (endToEnd (firstRow mode cut)) ≡ onResult (λ f. record { figure = f; joins = joins lines; levels = folded lines }) (logSays mode (joined (chunks cut)))
+module _ (mode : ℕ) (cut : List Chunk) where
+  -- The uncut log, of any length; the chunks' records; the row "before any merge", "its summaries end to end".
+  abbrev pub uncutLog : List ℕ
+  uncutLog = joined (chunks cut)
 
--- "A single claim about the log, its cut, the mode and the whole list."
-pub record Holds (mode : ℕ) (cut : List Chunk) (merges : List (Call Lent)) : Type 0 where
-  -- the uncut log is readable, and so are the stretches, which joined are the log
-  pub uncut : (fs : List Fields) × (recordsOf (joined (chunks cut)) ≡ result fs)
-  pub readable : (s : List ℕ) → List·Memᴰ s (replay (onStretches mode) merges (chunks cut)) → (fs : List Fields) × (recordsOf s ≡ result fs)
-  pub stretches : joined (replay (onStretches mode) merges (chunks cut)) ≡ joined (chunks cut)
-  -- each merge answers 12, or "that summary's length"
-  pub answered : told merges (firstRow mode cut) ≡ map (onResult (λ s. length (stretchBytes mode s))) (answers (onStretches mode) merges (chunks cut))
-  -- each piece is byte for byte the summary of its stretch
-  pub pieces : replay byCalls merges (firstRow mode cut) ≡ map (stretchBytes mode) (replay (onStretches mode) merges (chunks cut))
-  -- where one piece is left, finish says what the log says
-  pub finished : (p : List ℕ) → replay byCalls merges (firstRow mode cut) ≡ p ∷ [] → finishOutcome p ≡ logSays mode (joined (chunks cut))
-  -- and so does the work along the plan
-  pub worked : onResult (λ w. w .figure) (workOutcome (endToEnd (firstRow mode cut))) ≡ logSays mode (joined (chunks cut))
-  pub planned : logFault (recordsIn (joined (chunks cut))) ≡ pass → Planned mode cut
+  abbrev pub chunkRecords : List (List (Record Amounts))
+  chunkRecords = map recordsIn (chunks cut)
+
+  abbrev pub lentRow : List ℕ
+  lentRow = endToEnd (firstRow mode cut)
+
+  -- The plan and the work along it.
+  pub record Planned : Type 0 where
+    -- "just the lines described above", by the chunks' records: there is one such list
+    pub lines : List Line
+    pub described : IsPlan chunkRecords lines
+    pub only : (ls : List Line) → IsPlan chunkRecords ls → ls ≡ lines
+    -- at most 2P - 3
+    pub few : length lines + 3 ≤ 2 * length cut
+    -- "the plan's call writes just the lines .., or, where its buffer is too short for them, answers 12"
+    pub planned : (cap : ℕ) → planOutcome lentRow cap ≡ written cap (linesBytes lines)
+    -- "the figure, the joins used (its lines) and the number of levels folded"
+    pub worked : workOutcome lentRow ≡ onResult (λ f. record { figure = f; joins = joins lines; levels = folded lines }) (logSays mode uncutLog)
+
+  -- "A single claim about the log, its cut, the mode and the whole list."
+  pub record Holds (merges : List (Call Lent)) : Type 0 where
+    -- the uncut log is readable, and so are the stretches, which joined are the log
+    pub uncut : (fs : List Fields) × (recordsOf uncutLog ≡ result fs)
+    pub readable : (s : List ℕ) → List·Memᴰ s (replay (onStretches mode) merges (chunks cut)) → (fs : List Fields) × (recordsOf s ≡ result fs)
+    pub stretches : joined (replay (onStretches mode) merges (chunks cut)) ≡ uncutLog
+    -- each merge answers 12, or "that summary's length"
+    pub answered : told merges (firstRow mode cut) ≡ map (onResult (λ s. length (stretchBytes mode s))) (answers (onStretches mode) merges (chunks cut))
+    -- each piece is byte for byte the summary of its stretch
+    pub pieces : replay byCalls merges (firstRow mode cut) ≡ map (stretchBytes mode) (replay (onStretches mode) merges (chunks cut))
+    -- where one piece is left, finish says what the log says
+    pub finished : (p : List ℕ) → replay byCalls merges (firstRow mode cut) ≡ p ∷ [] → finishOutcome p ≡ logSays mode uncutLog
+    -- and so does the work along the plan
+    pub worked : onResult (λ w. w .figure) (workOutcome lentRow) ≡ logSays mode uncutLog
+    -- the plan of a well-formed log
+    pub planned : logFault (recordsIn uncutLog) ≡ pass → Planned

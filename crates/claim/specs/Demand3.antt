@@ -13,7 +13,7 @@ use Rattle.hill.specs.Row.{joined, Call, replay, answers, Proper, onResult}
 use Rattle.hill.specs.RowLaws.{SameRows, replay-joined}
 use Rattle.join_plan.specs.PlanOfLog.{plan-of-log, plan-only, plan-few}
 use Rattle.summary.specs.Outcomes.{finishOutcome}
-use Rattle.claim.specs.Claim.{recordsIn, stretchBytes, Chunk, chunks, firstRow, IsCut, Lent, bufferOf, Neighbours, byCalls, onStretches, Planned, Holds}
+use Rattle.claim.specs.Claim.{recordsIn, stretchBytes, Chunk, chunks, firstRow, IsCut, Lent, bufferOf, Neighbours, byCalls, onStretches, uncutLog, Planned, Holds}
 use Rattle.claim.specs.Stretches.{AllRead, read-each, reads-joined, in-joined}
 use Rattle.claim.specs.Calls.{Stretched, list-same}
 use Rattle.claim.specs.LogRow.{finish-log, lines, work-log, figure-log, plan-log}
@@ -38,7 +38,7 @@ module _ (m : ℕ) (cut : List Chunk) (i : IsCut m cut) where
   most-64 : length (chunks cut) ≤ 64
   most-64 = omega (arith, count, i .most)
 
-  planned : logFault (recordsIn (joined (chunks cut))) ≡ pass → Planned m cut
+  planned : logFault (recordsIn (uncutLog m cut)) ≡ pass → Planned m cut
   planned v =
       let e : logFault (joined (map recordsIn (chunks cut))) ≡ pass = rw (in-joined (chunks cut) reads) at v in
       record {

@@ -6,6 +6,7 @@ use Prim.Native.Nat.{ℕ, _≤_}
 use lib.ListN.{length}
 use borrow.Author.Tests.{le-leb}
 use Rattle.gate.specs.Outcome.{Outcome, refused, result}
+use Rattle.gate.specs.Answers.{lengthAnswered}
 use Rattle.figure.specs.Mode.{modeInUse}
 use Rattle.hill.specs.Row.{joined, Call, answer, put, answers, onResult}
 use Rattle.summary.specs.Outcomes.{chunkOf, summaryBytes, summariseOutcome}
@@ -43,7 +44,7 @@ only-one f (s ∷ []) p e = rw (append-nil s) (cc)
 only-one f (s ∷ t ∷ st) p e = cc
 
 -- What a call leaves has the length that it answers.
-answer-length : (o : Outcome (List ℕ)) (b : List ℕ) → onResult length o ≡ onResult length (leaves o b)
+answer-length : (o : Outcome (List ℕ)) (b : List ℕ) → lengthAnswered o ≡ onResult length (leaves o b)
 answer-length (refused n) b = refl
 answer-length (result w) b = ap (λ (x : List ℕ). result (length x)) (sym (left-is w b))
 

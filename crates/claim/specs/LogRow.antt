@@ -16,7 +16,6 @@ use Rattle.hill.specs.Log.{Record, logFault}
 use Rattle.hill.specs.Figure.{figureOf}
 use Rattle.hill.specs.Finish.{outcome}
 use Rattle.hill.specs.Row.{joined, onResult}
-use Rattle.summary.specs.Values.{sizesIn}
 use Rattle.summary.specs.Outcomes.{chunkOf, finishOutcome, logOutcome}
 use Rattle.summary.specs.OutcomeLaws.{finish-chunk}
 use Rattle.join_plan.specs.Plan.{Line, joins, folded, planOfRow}
@@ -55,7 +54,7 @@ module _ (m : ℕ) where
       -- The gate finds the log's lowest-numbered fault.
       ask-log : askLog these ≡ outcome (logFault log) these
       unfolding askLog
-      ask-log = ap (λ (v : Verdict). outcome v these) (log-gate (modeOf m .algebra) (sizesIn (modeOf m)) (modeOf m .laws) (modeOf m .commutative) (map recordsIn st) (readable-row m st a))
+      ask-log = ap (λ (v : Verdict). outcome v these) (log-gate (modeOf m .algebra) (modeOf m .sizes) (modeOf m .laws) (modeOf m .commutative) (map recordsIn st) (readable-row m st a))
 
       abbrev withPlan : ℤ → Work ℤ
       withPlan f = record { figure = f; joins = joins lines; levels = folded lines }
@@ -64,7 +63,7 @@ module _ (m : ℕ) where
       unfolding workAlong
       worked pass e =
           ap (λ (f : modeOf m .algebra .Fig). result (withPlan (modeOf m .store f)))
-          (log-figure (modeOf m .algebra) (sizesIn (modeOf m)) (modeOf m .laws) (modeOf m .commutative) (map recordsIn st) (readable-row m st a) e)
+          (log-figure (modeOf m .algebra) (modeOf m .sizes) (modeOf m .laws) (modeOf m .commutative) (map recordsIn st) (readable-row m st a) e)
       worked (refuse n) e = refl
 
       pub work-log : workOutcome (endToEnd (map (stretchBytes m) st)) ≡ onResult withPlan (logSays m (joined st))

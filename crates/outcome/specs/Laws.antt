@@ -16,7 +16,6 @@ use Rattle.summary.specs.Layout.{SummaryIn, encode}
 use Rattle.summary.specs.Judge.{IsSummary, isBlank, isSpoilt, isHill}
 use Rattle.summary.specs.Decode.{decode}
 use Rattle.summary.specs.DecideLaws.{decide-summary}
-use Rattle.summary.specs.Values.{sizesIn}
 use Rattle.summary.specs.Accepted.{IsSummaryIn, encoded, decode-encode}
 use Rattle.outcome.specs.Outcomes.{twoTo64, allSummaries, allOf, firstMode, Summaries, askRow, askLog, mergedBytes, planBytes, runsBytes, workAlong, mergeRowOutcome, planOutcome, runsOutcome, workOutcome}
 
@@ -94,7 +93,7 @@ module _ (m : ℕ) where
   -- ---- the bytes of accepted summaries
 
   abbrev pub AllAccepted : List (SummaryIn m) → Type 0
-  AllAccepted ss = ValidRow (modeOf m .algebra) (sizesIn (modeOf m)) ss
+  AllAccepted ss = ValidRow (modeOf m .algebra) (modeOf m .sizes) ss
 
   module _ (u : modeInUse m ≡ true) where
     pub encoded-all : (ss : List (SummaryIn m)) → AllAccepted ss → AllIn m (map (encode m) ss)
