@@ -5,3 +5,4 @@ pub mod Calls
 pub mod LogRow
 pub mod FirstRow
 pub mod Demand3
+pub mod Table

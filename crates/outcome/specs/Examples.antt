@@ -23,7 +23,7 @@ use Rattle.summary.specs.Decide.{allTo, layoutFits, spoiltFits, levelsFit, open
 use Rattle.join_plan.specs.Plan.{leftOpen, upTo, downFrom, select, depthsJoined, lineFor, planOf, folded}
 use Rattle.plan_work.specs.Runs.{levelsDown, runLevels, runsAlong}
 use Rattle.plan_work.specs.Work.{middlesAt, outcomesAt, given, worked}
-use Rattle.outcome.specs.Outcomes.{twoTo64, askRow, askLog, mergedBytes, planBytes, runBytes, runsBytes, workAlong, mergeRowOutcome, planOutcome, runsOutcome, workOutcome}
+use Rattle.outcome.specs.Outcomes.{twoTo64, askRow, askLog, mergedBytes, lineBytes, planBytes, runBytes, runsBytes, workAlong, mergeRowOutcome, planOutcome, runsOutcome, workOutcome}
 
 -- n blanks of mode m, end to end
 blanks : ℕ → ℕ → List ℕ
@@ -56,19 +56,25 @@ ten = record { value = pos 10; floor = pos 0; ceiling = pos 100 }
 two : {Fig : Type 0} → (Fig → ℤ) → (m : ℕ) → (a b : Summary Fig Amounts) → List ℕ
 two store m a b = layout store m a ++ layout store m b
 
--- Level 0 up to 1 with a record open, and a piece that starts at level 2: 7, not 11, although the row ends at level 2.
+-- A record left open, and a piece that starts at level 2: 7, although the row ends at level 2, which is 11. Of two spoilt ones the lower fault. A row that
+-- has a join and ends at level 1, with a buffer too short for the run: 11, not 12.
 lowest-fault : (workOutcome (two (λ z. z) 1 (part (whole 0 1 (hill [] (pos 0) ((ten, pos 0) ∷ [])))) (part (whole 2 1 (hill [] (pos 3) [])))) ≡ refused 7)
     × (workOutcome (two (λ z. z) 1 (part (whole 0 1 (hill [] (pos 0) ((ten, pos 0) ∷ [])))) blank) ≡ refused 11)
     × (workOutcome (two (λ z. z) 1 (part (spoilt 8 0 0 2)) (part (spoilt 7 1 2 2))) ≡ refused 7)
-unfolding ten two leAt bytesOf firstLength piecesIn rowPieces within inRange modeInUse modeOf between count ends encode decode sumTo nothingIn counted isStamp allTo layoutFits spoiltFits levelsFit openedFits middleFits recordsFit valuesFit hillFits isSummary leftOpen upTo downFrom select depthsJoined lineFor planOf flatMap folded levelsDown runLevels middlesAt outcomesAt given worked step through twoTo64 askRow askLog workAlong workOutcome
-lowest-fault = (refl, refl, refl)
+    × (runsOutcome (two (λ z. z) 1 (part (whole 0 2 (hill [] (pos 0) ((ten, pos 0) ∷ (ten, pos 0) ∷ [])))) (part (whole 1 0 (hill (pos 0 ∷ []) (pos 0) [])))) 0 ≡ refused 11)
+unfolding ten two leAt bytesOf firstLength piecesIn rowPieces within inRange modeInUse modeOf between count ends encode decode sumTo nothingIn counted isStamp allTo layoutFits spoiltFits levelsFit openedFits middleFits recordsFit valuesFit hillFits isSummary leftOpen upTo downFrom select depthsJoined lineFor planOf flatMap folded levelsDown runLevels runsAlong runOn middlesAt outcomesAt given worked step through twoTo64 askRow askLog runBytes runsBytes workAlong runsOutcome workOutcome
+lowest-fault = (refl, refl, refl, refl)
 
--- "open 0 value 10", cut, "close 0": in mode 2 there is no other figure on the way, and nothing is stored as -2^63.
+-- open 0 value 10, open 1 value 10, cut, close 1, close 0: one line, two levels. In mode 2 there is no other figure on the way, and nothing is stored as
+-- -2^63.
 opened-closed : List ℕ
-opened-closed = two storeHeld 2 (part (whole 0 1 (hill [] Nothing ((ten, Nothing) ∷ [])))) (part (whole 0 0 (hill (Nothing ∷ []) Nothing [])))
+opened-closed =
+    two storeHeld 2 (part (whole 0 2 (hill [] Nothing ((ten, Nothing) ∷ (ten, Nothing) ∷ [])))) (part (whole 0 0 (hill (Nothing ∷ Nothing ∷ []) Nothing [])))
 
-nothing-in-run : (runsOutcome opened-closed 30 ≡ result (30 ∷ 0 ∷ 20 ∷ 0 ∷ 2 ∷ 0 ∷ 10 ∷ 0 ∷ 0 ∷ 0 ∷ 0 ∷ 0 ∷ 0 ∷ 0 ∷ 0 ∷ 0 ∷ 0 ∷ 0 ∷ 0 ∷ 0 ∷ 0 ∷ 128 ∷ 10 ∷ 0 ∷ 0 ∷ 0 ∷ 0 ∷ 0 ∷ 0 ∷ 0 ∷ []))
+nothing-in-run : (planOutcome opened-closed 12 ≡ result (12 ∷ 0 ∷ 19 ∷ 0 ∷ 0 ∷ 0 ∷ 1 ∷ 0 ∷ 0 ∷ 0 ∷ 1 ∷ 0 ∷ []))
+    × (planOutcome opened-closed 11 ≡ refused 12)
+    × (runsOutcome opened-closed 30 ≡ result (30 ∷ 0 ∷ 20 ∷ 0 ∷ 2 ∷ 0 ∷ 20 ∷ 0 ∷ 0 ∷ 0 ∷ 0 ∷ 0 ∷ 0 ∷ 0 ∷ 0 ∷ 0 ∷ 0 ∷ 0 ∷ 0 ∷ 0 ∷ 0 ∷ 128 ∷ 20 ∷ 0 ∷ 0 ∷ 0 ∷ 0 ∷ 0 ∷ 0 ∷ 0 ∷ []))
     × (runsOutcome opened-closed 29 ≡ refused 12)
-    × (workOutcome opened-closed ≡ result (record { figure = pos 10; joins = 1; levels = 1 }))
-unfolding ten two opened-closed leAt bytesOf maxZ lift lineOf storeHeld readHeld atLeast moved runOn firstLength piecesIn rowPieces within inRange modeInUse modeOf between count ends encode decode sumTo nothingIn counted isStamp allTo layoutFits spoiltFits levelsFit openedFits middleFits recordsFit valuesFit hillFits isSummary leftOpen upTo downFrom select depthsJoined lineFor planOf flatMap folded levelsDown runLevels runsAlong middlesAt outcomesAt given worked step through twoTo64 askRow askLog runBytes runsBytes workAlong runsOutcome workOutcome
-nothing-in-run = (refl, refl, refl)
+    × (workOutcome opened-closed ≡ result (record { figure = pos 20; joins = 1; levels = 2 }))
+unfolding ten two opened-closed leAt bytesOf maxZ lift lineOf storeHeld readHeld atLeast moved runOn firstLength piecesIn rowPieces within inRange modeInUse modeOf between count ends encode decode sumTo nothingIn counted isStamp allTo layoutFits spoiltFits levelsFit openedFits middleFits recordsFit valuesFit hillFits isSummary leftOpen upTo downFrom select depthsJoined lineFor planOf flatMap folded levelsDown runLevels runsAlong middlesAt outcomesAt given worked step through twoTo64 askRow askLog lineBytes planBytes runBytes runsBytes workAlong planOutcome runsOutcome workOutcome
+nothing-in-run = (refl, refl, refl, refl, refl)

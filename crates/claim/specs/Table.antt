@@ -1,0 +1,111 @@
+-- Document 01's proved cases, "(P)", as a table on bytes, and one theorem: each row holds, by computation. Assumes nothing.
+use mathlib.Core.Path.{_≡_, refl}
+use mathlib.Core.List.{List, [], _∷_, _++_, map, flatMap}
+use Prim.Native.Nat.{ℕ, _+_, _*_}
+use lib.ListN.{length, take, drop}
+use lib.IntN.{ℤ, pos, negsuc}
+use Rattle.algebra.specs.Run.{runOn}
+use Rattle.gate.specs.Outcome.{Outcome, refused, result, onward}
+use Rattle.number.specs.Bytes.{leAt, bytesOf, i64At}
+use Rattle.number.specs.Integer.{minZ, maxZ, clamp, wrap}
+use Rattle.row.specs.Row.{firstLength, piecesIn, rowPieces, endToEnd}
+use Rattle.record.specs.Record.{within, inRange, accepted, whole, byShape, readOf, recordsIn, recordsOf}
+use Rattle.record.specs.Encoding.{openBytes, closeBytes}
+use Rattle.record.specs.Examples.{logD}
+use Rattle.figure.specs.FourModes.{lift, lineOf, storeHeld, readHeld}
+use Rattle.figure.specs.Run.{atLeast}
+use Rattle.figure.specs.Runs.{moved}
+use Rattle.figure.specs.Mode.{modeOf, modeInUse}
+use Rattle.hill.specs.Verdict.{between, count, cut, ends}
+use Rattle.hill.specs.Row.{onResult}
+use Rattle.summary.specs.Layout.{encode}
+use Rattle.summary.specs.Judge.{riseAt, leftAt, sumTo, nothingIn, counted, isStamp}
+use Rattle.summary.specs.Decode.{decode}
+use Rattle.summary.specs.Decide.{allTo, layoutFits, spoiltFits, levelsFit, openedFits, middleFits, recordsFit, valuesFit, hillFits, isSummary}
+use Rattle.summary.specs.Outcomes.{summaryBytes, summariseOutcome, finishOutcome}
+use Rattle.join_plan.specs.Plan.{leftOpen, upTo, downFrom, select, depthsJoined, lineFor, planOf}
+use Rattle.plan_work.specs.Runs.{levelsDown, runLevels, runsAlong}
+use Rattle.outcome.specs.Outcomes.{twoTo64, askRow, askLog, lineBytes, planBytes, runBytes, runsBytes, planOutcome, runsOutcome}
+
+-- ---- what is asked of the calls, as numbers
+
+-- The row that summarise writes for these chunks.
+abbrev summaries : (mode : ℕ) → List (List ℕ) → Outcome (List (List ℕ))
+summaries mode [] = result []
+summaries mode (c ∷ cs) = onward (summariseOutcome c mode 1788) (λ p. onward (summaries mode cs) (λ ps. result (p ∷ ps)))
+
+-- The lengths of the summaries.
+abbrev lengths : (mode : ℕ) → List (List ℕ) → Outcome (List ℤ)
+lengths mode cs = onResult (map (λ p. pos (length p))) (summaries mode cs)
+
+-- The left values of a chunk's summary, from level start down.
+abbrev leftValues : (mode : ℕ) → List ℕ → Outcome (List ℤ)
+leftValues mode c = onResult (λ p. map (leftAt p) (upTo (riseAt p))) (summariseOutcome c mode 1788)
+
+-- Bytes as numbers of 16 bits.
+abbrev words : List ℕ → List ℤ
+words [] = []
+words (a ∷ []) = pos a ∷ []
+words (a ∷ b ∷ s) = pos (a + 256 * b) ∷ words s
+
+-- A chunk's summary as such numbers.
+abbrev summary : (mode : ℕ) → List ℕ → Outcome (List ℤ)
+summary mode c = onResult words (summariseOutcome c mode 1788)
+
+-- A plan of one line: its length and kind, i, j, lowest and highest.
+abbrev plan : (mode : ℕ) → List (List ℕ) → Outcome (List ℤ)
+plan mode cs = onward (summaries mode cs) (λ ps. onResult words (planOutcome (endToEnd ps) 12))
+
+-- One run: its length, kind and mode, and its three numbers.
+abbrev run : (mode : ℕ) → List (List ℕ) → Outcome (List ℤ)
+run mode cs =
+    onward (summaries mode cs)
+    (λ ps. onResult (λ w. words (take 6 w) ++ (i64At w 6 ∷ i64At w 14 ∷ i64At w 22 ∷ [])) (runsOutcome (endToEnd ps) 30))
+
+-- What finish answers of a log's summary.
+abbrev finish : (mode : ℕ) → List ℕ → Outcome (List ℤ)
+finish mode log = onward (summariseOutcome log mode 1788) (λ p. onResult (λ f. f ∷ []) (finishOutcome p))
+
+-- ---- the table
+
+-- D cut after record 2.
+abbrev cutD : List (List ℕ)
+cutD = take 36 logD ∷ drop 36 logD ∷ []
+
+abbrev open0 : List ℕ
+open0 = openBytes 0 (pos 10) (pos 0) (pos 100)
+
+-- What the definitions give, and what the paper says.
+pub record Row : Type 0 where
+  pub gives : Outcome (List ℤ)
+  pub paper : Outcome (List ℤ)
+
+abbrev row : Outcome (List ℤ) → Outcome (List ℤ) → Row
+row g p = record { gives = g; paper = p }
+
+abbrev pub table : List Row
+table =
+    -- "D cut after record 2, mode 1: lengths 64 and 40; left values 0, -3; plan 0,1,0,1"
+    row (lengths 1 cutD) (result (pos 64 ∷ pos 40 ∷ [])) ∷
+    row (leftValues 1 (drop 36 logD)) (result (pos 0 ∷ negsuc 2 ∷ [])) ∷
+    row (plan 1 cutD) (result (pos 12 ∷ pos 19 ∷ pos 0 ∷ pos 1 ∷ pos 0 ∷ pos 1 ∷ [])) ∷
+    -- "Runs: (12,0,0); (15,7,15); (15,10,14); (961,72,0)"
+    row (run 1 cutD) (result (pos 30 ∷ pos 20 ∷ pos 1 ∷ pos 12 ∷ pos 0 ∷ pos 0 ∷ [])) ∷
+    row (run 2 cutD) (result (pos 30 ∷ pos 20 ∷ pos 2 ∷ pos 15 ∷ pos 7 ∷ pos 15 ∷ [])) ∷
+    row (run 3 cutD) (result (pos 30 ∷ pos 20 ∷ pos 3 ∷ pos 15 ∷ pos 10 ∷ pos 14 ∷ [])) ∷
+    row (run 4 cutD) (result (pos 30 ∷ pos 20 ∷ pos 4 ∷ pos 961 ∷ pos 72 ∷ pos 0 ∷ [])) ∷
+    -- "No bytes: blank, finish 10. \"close 1\" alone: 11. open 0, close 0 twice over: 8. open 0, open 0: 7."
+    row (summary 1 []) (result (pos 6 ∷ pos 16 ∷ pos 1 ∷ [])) ∷
+    row (finish 1 []) (refused 10) ∷
+    row (finish 1 (closeBytes 1)) (refused 11) ∷
+    row (finish 1 (open0 ++ (closeBytes 0 ++ (open0 ++ closeBytes 0)))) (refused 8) ∷
+    row (finish 1 (open0 ++ open0)) (refused 7) ∷
+    []
+
+abbrev pub AllHold : List Row → Type 0
+AllHold [] = Unit {0}
+AllHold (r ∷ rs) = (r .gives ≡ r .paper) × AllHold rs
+
+pub proved-cases : AllHold table
+unfolding leAt bytesOf minZ maxZ clamp wrap lift lineOf storeHeld readHeld atLeast moved runOn firstLength piecesIn rowPieces within inRange accepted whole byShape readOf recordsIn recordsOf modeInUse modeOf between count cut ends encode decode sumTo nothingIn counted isStamp allTo layoutFits spoiltFits levelsFit openedFits middleFits recordsFit valuesFit hillFits isSummary summaryBytes summariseOutcome finishOutcome leftOpen upTo downFrom select depthsJoined lineFor planOf flatMap levelsDown runLevels runsAlong twoTo64 askRow askLog lineBytes planBytes runBytes runsBytes planOutcome runsOutcome
+proved-cases = (refl, (refl, (refl, (refl, (refl, (refl, (refl, (refl, (refl, (refl, (refl, (refl, tt))))))))))))
