@@ -5,4 +5,5 @@ pub mod Calls
 pub mod LogRow
 pub mod FirstRow
 pub mod Demand3
+pub mod Examples
 pub mod Table
