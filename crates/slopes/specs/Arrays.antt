@@ -1,11 +1,9 @@
 -- A hill under construction in five arrays and three numbers. Definitions only.
 use mathlib.Core.Path.{_≡_}
-use mathlib.Core.Bool.{Bool, true, false}
 use mathlib.Core.List.{List, [], _∷_}
-use Prim.Native.Nat.{ℕ, zero, suc, _+_, _^_, _≤_, _<_}
+use Prim.Native.Nat.{ℕ, zero, suc, _^_, _≤_, _<_}
 use lib.IntN.{ℤ, pos}
 use lib.ListN.{length, getD}
-use Rattle.hill.specs.Log.{Record, opening, closing}
 use Rattle.hill.specs.Summary.{Hill, hill}
 use Rattle.hill.specs.Valid.{weight, FineHill}
 use Rattle.figure.specs.FourModes.{Amounts}

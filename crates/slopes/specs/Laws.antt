@@ -1,8 +1,7 @@
 -- Each action on the arrays is the action on the hill that they stand for. Assumes nothing.
 use mathlib.Core.Path.{_≡_, refl, sym, ap, ap₂, subst, _∙_}
-use mathlib.Core.Bool.{Bool, true, false}
 use mathlib.Core.List.{List, [], _∷_}
-use Prim.Native.Nat.{ℕ, zero, suc, _+_, _-_, _*_, _^_, _≤_, _<_}
+use Prim.Native.Nat.{ℕ, zero, suc, _+_, _*_, _^_, _≤_, _<_}
 use native.Mathlib.Nat.{mul-le-mul-right}
 use native.Mathlib.Omega.{arith}
 use lib.IntN.{ℤ, pos}
@@ -16,10 +15,10 @@ use Rattle.hill.specs.Slopes.{rise-join, fall-join, rise-close, fall-close}
 use Rattle.hill.specs.ValidLaws.{weight-join, fine-join}
 use Rattle.figure.specs.FourModes.{Amounts, limit, InRange}
 use Rattle.figure.specs.Mode.{Mode}
-use Rattle.figure.specs.Stored.{IsStored, sizeOf, none, combined, passed, amounts, Combines, Passes, none-read, none-size, none-stored, combined-read, combined-stored, passed-read, passed-size, passed-stored, passes}
+use Rattle.figure.specs.Stored.{IsStored, sizeOf, none, combined, passed, amounts, Passes, none-read, none-size, none-stored, combined-read, combined-stored, passed-read, passed-size, passed-stored, passes}
 use Rattle.slopes.specs.declared.Counts.{Counts}
 use Rattle.slopes.specs.Arrays.{Arrays, arrays, at, amountsAt, Fig, ups, downs, slopesOf, weightOf, Fine, Sound, Stored, Able, StandsFor}
-use Rattle.slopes.specs.Actions.{Pushed, current, Adds, midAfter, heldAfter, Added, CanClose, Joins, Room, entry, cost, Fell}
+use Rattle.slopes.specs.Actions.{Pushed, current, Adds, midAfter, heldAfter, Added, CanClose, Joins, Fell}
 
 abbrev pub counts : (nl n : ℕ) (mid : ℤ) → Counts
 counts nl n mid = record { nl = nl; n = n; mid = mid }

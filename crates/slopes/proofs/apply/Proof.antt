@@ -8,7 +8,6 @@ use borrow.Author.Needs.{needs}
 use lib.Signed.{mag}
 use denote.Ref.{now}
 use mir.Syntax.{w64}
-use mir.Val.{toZ, ofZ}
 use mir.Facts.{toZ-ofZ}
 use Rattle.number.specs.Word.{back}
 use Rattle.hill.specs.Log.{opening}
@@ -23,11 +22,6 @@ use Rattle.slopes.specs.Actions.{entry, cost}
 use Rattle.slopes.specs.Laws.{restate, opened}
 use Rattle.slopes.proofs.apply.Statement.{statement}
 use Rattle.slopes.proofs.apply.Tie as tie
-use Rattle.slopes.proofs.apply.Reads as reads
-use Rattle.slopes.proofs.apply.Lts as lts
-use Rattle.figure.proofs.nothing.Reads as nothing-reads
-use Rattle.slopes.proofs.close.Reads as close-reads
-use Rattle.slopes.proofs.push.Reads as push-reads
 
 -- the two ways
 module _ {M : Mode} {A : Arrays} {c : Counts} (h : Hill (Fig M) Amounts) (d : ℕ) (r : Amounts) where
@@ -48,19 +42,15 @@ A a = arrays (now (a .args .left)) (now (a .args .values)) (now (a .args .floors
 abbrev r : tie.Start → Amounts
 r a = amounts (a .args .value) (a .args .floor) (a .args .ceiling)
 
--- src/lib.rt:100:72
 nothing-requires : tie.Need-nothing-requires
 nothing-requires c κs = search needs
 
--- src/lib.rt:100:9
 push-requires : tie.Need-push-requires
 push-requires c κs = let t = c .before .before .before .before .before .before in t .before .pre .1 .up (t .if1 .taken) .0
 
--- src/lib.rt:103:16
 add-t22 : tie.Need-add-t22
 add-t22 c = search needs
 
--- src/lib.rt:101:9
 returns : tie.Need-returns
 returns c depth =
     let s = c .before .before .before .before .before .before in
@@ -73,11 +63,9 @@ returns c depth =
     (opened {M = M a} {A = A a} (a .pre .0) depth (r a) (room .0) (room .1) (z ∙ c .before .nothing .ensures) (add-one _) (back w64 (a .args .c .mid) m)
     (rw (toZ-ofZ (a .fits .value), toZ-ofZ (a .fits .floor), toZ-ofZ (a .fits .ceiling)) at (c .push .ensures)))
 
--- src/lib.rt:107:5
 close-requires : tie.Need-close-requires
 close-requires c κs = let t = c .before .before .before .before .before in (t .before .pre .0, t .before .pre .1 .down (t .if1 .left))
 
--- src/lib.rt:88:1
 returns-2 : tie.Need-returns-2
 returns-2 c depth =
     let t = c .before .before .before .before .before .before in

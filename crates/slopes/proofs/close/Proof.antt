@@ -4,7 +4,6 @@ use Prim.Native.Nat.{ℕ, suc, _-_, _<_, _^_}
 use native.Mathlib.Omega.{arith}
 use native.Mathlib.Numerals.{add-one}
 use borrow.Author.Needs.{needs}
-use lib.IntN.{ℤ}
 use lib.Signed.{mag}
 use denote.Ref.{now}
 use mir.Syntax.{w32, w64}
@@ -12,15 +11,10 @@ use mir.Val.{toZ, ofZ}
 use Rattle.number.specs.Word.{back}
 use Rattle.figure.specs.Mode.{Mode, modeOf}
 use Rattle.figure.specs.Stored.{passed}
-use Rattle.slopes.specs.Arrays.{Arrays, arrays, at, amountsAt, Able}
+use Rattle.slopes.specs.Arrays.{Arrays, arrays, at, amountsAt}
 use Rattle.slopes.specs.Laws.{adds, close-left, top-passes, top-joins, close-top}
 use Rattle.slopes.proofs.close.Statement.{statement}
 use Rattle.slopes.proofs.close.Tie as tie
-use Rattle.slopes.proofs.close.Reads as reads
-use Rattle.slopes.proofs.close.Lts as lts
-use Rattle.figure.proofs.nothing.Reads as nothing-reads
-use Rattle.figure.proofs.through.Reads as through-reads
-use Rattle.slopes.proofs.add.Reads as add-reads
 
 -- the mode, the arrays at entry, and the place of the deepest record
 abbrev M : tie.Start → Mode
@@ -58,76 +52,59 @@ module _ (c : tie.After-through-arg4) where
 figure-is : (c : tie.After-through) → c .through .result ≡ passed (M (start (c .before))) (amountsAt (A (start (c .before))) (top (start (c .before)))) (at (A (start (c .before)) .held) (top (start (c .before))))
 figure-is c = rw (value-is (c .before), floor-is (c .before), ceiling-is (c .before), held-is (c .before)) at (c .through .ensures)
 
--- src/lib.rt:55:9
 mul-mid : tie.Need-mul-mid
 mul-mid c = search needs
 
--- src/lib.rt:55:9
 element-set-from-mid : tie.Need-element-set-from-mid
 element-set-from-mid c = search needs
 
--- src/lib.rt:57:17
 add-t15 : tie.Need-add-t15
 add-t15 c = search needs
 
--- src/lib.rt:59:18
 nothing-requires : tie.Need-nothing-requires
 nothing-requires c κs = search needs
 
--- src/lib.rt:56:9
 returns : tie.Need-returns
 returns c =
     let a = c .before .before .before in
     close-left {M = M a} {A = A a} (a .pre .0) (c .before .if1 .taken) (a .pre .1) (add-one _) (mid-is (c .before .before)) (back w64 (c .nothing .result) (c .nothing .ok) ∙ c .nothing .ensures)
 
--- src/lib.rt:62:15
 sub-top : tie.Need-sub-top
 sub-top c = search needs
 
--- src/lib.rt:63:40
 mul-through : tie.Need-mul-through
 mul-through c = search needs
 
--- src/lib.rt:63:40
 element-copy-out-through : tie.Need-element-copy-out-through
 element-copy-out-through c = search needs
 
--- src/lib.rt:63:53
 mul-through-2 : tie.Need-mul-through-2
 mul-through-2 c = search needs
 
--- src/lib.rt:63:53
 element-copy-out-through-2 : tie.Need-element-copy-out-through-2
 element-copy-out-through-2 c = search needs
 
--- src/lib.rt:63:66
 mul-through-3 : tie.Need-mul-through-3
 mul-through-3 c = search needs
 
--- src/lib.rt:63:66
 element-copy-out-through-3 : tie.Need-element-copy-out-through-3
 element-copy-out-through-3 c = search needs
 
--- src/lib.rt:63:81
 mul-through-4 : tie.Need-mul-through-4
 mul-through-4 c = search needs
 
--- src/lib.rt:63:81
 element-copy-out-through-4 : tie.Need-element-copy-out-through-4
 element-copy-out-through-4 c = search needs
 
--- src/lib.rt:63:9
 through-requires : tie.Need-through-requires
 through-requires c κs = rw (value-is c, held-is c) (top-passes {M = M (start c)} {A = A (start c)} (start c .pre .0) (top (start c)) (some c))
 
--- src/lib.rt:64:9
 add-requires : tie.Need-add-requires
 add-requires c κs =
     let b = c .before .before in
     rw (mid-is (b .before .before .before .before .before), back w64 (c .before .through .result) (c .before .through .ok))
     (adds (top-joins {M = M (start b)} {A = A (start b)} (start b .pre .0) (top (start b)) (some b) (figure-is (c .before))))
 
--- src/lib.rt:44:1
 returns-2 : tie.Need-returns-2
 returns-2 c =
     let t = c .before .before in

@@ -1,7 +1,6 @@
 -- `slopes::sink` meets its contract: the figure joins its level, which is then closed. Assumes nothing.
-use mathlib.Core.Path.{_≡_, ap, _∙_}
+use mathlib.Core.Path.{_≡_}
 use Prim.Native.Nat.{_+_, _<_, _^_}
-use native.Mathlib.Omega.{arith}
 use borrow.Author.Needs.{needs}
 use lib.Signed.{mag}
 use denote.Ref.{now}
@@ -16,10 +15,6 @@ use Rattle.slopes.specs.Arrays.{Arrays, arrays, slopesOf, weightOf, Stan
 use Rattle.slopes.specs.Laws.{counts, withHeld, able, adds, joined, after}
 use Rattle.slopes.proofs.sink.Statement.{statement}
 use Rattle.slopes.proofs.sink.Tie as tie
-use Rattle.slopes.proofs.sink.Reads as reads
-use Rattle.slopes.proofs.sink.Lts as lts
-use Rattle.slopes.proofs.add.Reads as add-reads
-use Rattle.slopes.proofs.close.Reads as close-reads
 
 -- the mode, and the arrays at entry
 abbrev M : tie.Start → Mode
@@ -43,15 +38,12 @@ module _ (c : tie.After-add) where
       joined {M = M start} {A = A start} (start .pre .0)
       (rw (back w64 (c .add .result) (c .add .ok)) (rw (mid-is (c .before), toZ-ofZ (start .fits .x)) at (c .add .ensures)))
 
--- src/lib.rt:83:9
 add-requires : tie.Need-add-requires
 add-requires c κs = let a = c .before .before in rw (mid-is c, toZ-ofZ (a .fits .x)) (adds {M = M a} {A = A a} (a .pre .0))
 
--- src/lib.rt:84:5
 close-requires : tie.Need-close-requires
 close-requires c κs = let b = c .before .before in (able (added b) (start b .pre .0 .light), start b .pre .1)
 
--- src/lib.rt:73:1
 returns : tie.Need-returns
 returns c =
     let b = c .before .before .before in
