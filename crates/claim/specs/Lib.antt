@@ -1,9 +1,11 @@
--- Definitions that a reader must believe: Claim, what demand 3 says. Demand3 is the theorem; the others are its proof.
+-- Definitions that a reader must believe: Claim, what demand 3 says. Demand3 has the theorem, Table the proved cases of document 01.
 pub mod Claim
+pub mod Demand3
+pub mod Table
+-- The proof: stretches; one merge and the whole list; what is left says what the log says; the row that summarise writes.
 pub mod Stretches
 pub mod Calls
 pub mod LogRow
 pub mod FirstRow
-pub mod Demand3
+-- The theorem on log D.
 pub mod Examples
-pub mod Table

@@ -1,4 +1,4 @@
--- What must be believed: Outcomes, definitions only. Worked cases are in Examples; Laws is proved of the definitions.
+-- What must be believed: Outcomes, definitions only. Worked cases are in Examples; Laws says what the questions find.
 pub mod Outcomes
 pub mod Examples
 pub mod Laws
