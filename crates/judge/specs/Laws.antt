@@ -1,5 +1,5 @@
 -- What a caller of `judge` may conclude from its answer. Assumes nothing.
-use mathlib.Core.Path.{_≡_, refl, sym, ap, _∙_}
+use mathlib.Core.Path.{_≡_, refl, sym, ap, _∙_, subst}
 use mathlib.Core.Bool.{Bool, true, false, cond}
 use mathlib.Core.List.{List}
 use Prim.Native.Nat.{ℕ}
@@ -18,6 +18,7 @@ use Rattle.judge.specs.Judged.{judgedAnswer, heldIn, spoiltHeadAt, hillH
 use Rattle.judge.specs.Laid.{isSpoiltTest, isHillTest, Laid}
 use Rattle.judge.specs.declared.SpoiltHead.{SpoiltHead}
 use Rattle.judge.specs.declared.HillHead.{HillHead}
+use Rattle.judge.specs.declared.Head.{Head}
 use Rattle.judge.specs.declared.Head.the-variants.{Blank, Spoilt, Hill}
 use Rattle.judge.specs.declared.Piece.{Piece}
 use Rattle.judge.specs.declared.Judged.{Judged}
@@ -113,30 +114,44 @@ module _ (b : List ℕ) (r : Judged) (e : judgedAnswer r ≡ judgedOf b) where
       go false n = refl
 
 -- by the head
+data Said (b : List ℕ) : Head → Type 0 where
+  saidBlank : HasLayout b 16 6 → Said b Blank
+  saidSpoilt : IsSpoilt b → Said b (Spoilt (spoiltHeadAt b))
+  saidHill : IsHill b → Said b (Hill (hillHeadAt b))
+
+said : (b : List ℕ) → IsSummary b → Said b (headAt b)
+said b (isBlank f) = subst (Said b) (sym (head-blank b (f .kind-fits))) (saidBlank f)
+said b (isSpoilt v) = subst (Said b) (sym (head-spoilt b (v .layout .kind-fits))) (saidSpoilt v)
+said b (isHill v) = let k = v .layout .kind-fits in subst (Said b) (sym (head-hill b (λ e. omega arith) (λ e. omega arith))) (saidHill v)
+
+said-blank : {b : List ℕ} {h : Head} → Said b h → h ≡ Blank → HasLayout b 16 6
+said-blank (saidBlank f) q = f
+said-blank (saidSpoilt v) q = let z : _≡_ {A = ℕ} 0 1 = cc in absurd (omega arith)
+said-blank (saidHill v) q = let z : _≡_ {A = ℕ} 0 1 = cc in absurd (omega arith)
+
+said-spoilt : {b : List ℕ} {h : Head} → Said b h → (s : SpoiltHead) → h ≡ Spoilt s → IsSpoilt b × (s ≡ spoiltHeadAt b)
+said-spoilt (saidBlank f) s q = let z : _≡_ {A = ℕ} 0 1 = cc in absurd (omega arith)
+said-spoilt (saidSpoilt v) s q = (v, cc)
+said-spoilt (saidHill v) s q = let z : _≡_ {A = ℕ} 0 1 = cc in absurd (omega arith)
+
+said-hill : {b : List ℕ} {h : Head} → Said b h → (s : HillHead) → h ≡ Hill s → IsHill b × (s ≡ hillHeadAt b)
+said-hill (saidBlank f) s q = let z : _≡_ {A = ℕ} 0 1 = cc in absurd (omega arith)
+said-hill (saidSpoilt v) s q = let z : _≡_ {A = ℕ} 0 1 = cc in absurd (omega arith)
+said-hill (saidHill v) s q = (v, cc)
+
 module _ {b : List ℕ} {p : Piece} (j : Judges b p) where
+  -- the head stands where the bytes say
+  at-head : headAt b ≡ p .head
+  at-head = sym (ap (λ (x : Piece). x .head) (j .piece))
+
   pub blank-is : p .head ≡ Blank → HasLayout b 16 6
-  blank-is q = go (j .summary)
-    where
-      go : IsSummary b → HasLayout b 16 6
-      go (isBlank f) = f
-      go (isSpoilt v) = let z : _≡_ {A = ℕ} 0 1 = cc (head-spoilt b (v .layout .kind-fits), ap (λ (x : Piece). x .head) (j .piece), q) in absurd (omega arith)
-      go (isHill v) = let z : _≡_ {A = ℕ} 0 1 = cc (head-hill b (omega (arith, v .layout .kind-fits)) (omega (arith, v .layout .kind-fits)), ap (λ (x : Piece). x .head) (j .piece), q) in absurd (omega arith)
+  blank-is q = said-blank (said b (j .summary)) (at-head ∙ q)
 
   pub spoilt-is : (h : SpoiltHead) → p .head ≡ Spoilt h → IsSpoilt b × (h ≡ spoiltHeadAt b)
-  spoilt-is h q = go (j .summary)
-    where
-      go : IsSummary b → IsSpoilt b × (h ≡ spoiltHeadAt b)
-      go (isBlank f) = let z : _≡_ {A = ℕ} 0 1 = cc (head-blank b (f .kind-fits), ap (λ (x : Piece). x .head) (j .piece), q) in absurd (omega arith)
-      go (isSpoilt v) = (v, cc (head-spoilt b (v .layout .kind-fits), ap (λ (x : Piece). x .head) (j .piece), q))
-      go (isHill v) = let z : _≡_ {A = ℕ} 0 1 = cc (head-hill b (omega (arith, v .layout .kind-fits)) (omega (arith, v .layout .kind-fits)), ap (λ (x : Piece). x .head) (j .piece), q) in absurd (omega arith)
+  spoilt-is h q = said-spoilt (said b (j .summary)) h (at-head ∙ q)
 
   pub hill-is : (h : HillHead) → p .head ≡ Hill h → IsHill b × (h ≡ hillHeadAt b)
-  hill-is h q = go (j .summary)
-    where
-      go : IsSummary b → IsHill b × (h ≡ hillHeadAt b)
-      go (isBlank f) = let z : _≡_ {A = ℕ} 0 1 = cc (head-blank b (f .kind-fits), ap (λ (x : Piece). x .head) (j .piece), q) in absurd (omega arith)
-      go (isSpoilt v) = let z : _≡_ {A = ℕ} 0 1 = cc (head-spoilt b (v .layout .kind-fits), ap (λ (x : Piece). x .head) (j .piece), q) in absurd (omega arith)
-      go (isHill v) = (v, cc (head-hill b (omega (arith, v .layout .kind-fits)) (omega (arith, v .layout .kind-fits)), ap (λ (x : Piece). x .head) (j .piece), q))
+  hill-is h q = said-hill (said b (j .summary)) h (at-head ∙ q)
 
 -- all the bytes that a hill's numbers stand in are there
 pub hill-laid : {b : List ℕ} → IsHill b → Laid b

@@ -1,6 +1,6 @@
 // Question 5: whether bytes are exactly one summary, and which. Document 01, "Summaries".
 ghost use mathlib.Core.Path.{_≡_};
-ghost use Prim.Native.Nat.{ℕ, _+_, _*_, _≤_, _<_, min};
+ghost use Prim.Native.Nat.{_+_, _≤_, min};
 ghost use lib.ListN.{length};
 ghost use Rattle.figure.specs.Mode.{modeOf};
 ghost use Rattle.figure.specs.Stored.{sizeOf};
@@ -16,7 +16,17 @@ ghost use Rattle.summary.specs.Decide.{
   valuesFit,
 };
 ghost use Rattle.judge.specs.Judged.{heldIn, spoiltHeadAt, hillHeadAt, judgedAnswer, judgedOf};
-ghost use Rattle.judge.specs.Laid.{hillLength, isSpoiltTest, isHillTest, stampsFit, sizesFit, Levels, Laid, Strides, recordIn, valueIn};
+ghost use Rattle.judge.specs.Laid.{
+  isSpoiltTest,
+  isHillTest,
+  stampsFit,
+  sizesFit,
+  Levels,
+  Laid,
+  Strides,
+  recordIn,
+  valueIn,
+};
 use figure::Held;
 
 // What a spoilt summary says.
@@ -140,6 +150,7 @@ fn opened_fits(b: &[u8]) -> bool
     (opened <= 100_000) & (!(start == peak) | (!(peak == end) | !(opened == 0)))
 }
 
+// At peak 0 the middle holds nothing, unless the hill begins and ends there.
 fn middle_fits(b: &[u8]) -> bool
     requires { ⌜ Laid (now b) ⌝ }
     ensures { λ r. ⌜ r ≡ middleFits (now (b .entry)) ⌝ }
