@@ -1,24 +1,23 @@
 -- What callers cite: the hill that bytes say, what a load and a write ask, and what they come to. Assumes nothing.
-use mathlib.Core.Path.{_≡_, refl, sym, ap, subst, _∙_}
+use mathlib.Core.Path.{_≡_, sym, ap, subst, _∙_}
 use mathlib.Core.List.{List}
-use Prim.Native.Nat.{ℕ, _+_, _-_, _*_, _^_, _≤_, _<_}
+use Prim.Native.Nat.{ℕ, _+_, _≤_}
 use native.Mathlib.Omega.{arith}
 use lib.IntN.{ℤ}
-use lib.ListN.{length}
 use Rattle.figure.specs.FourModes.{Amounts}
 use Rattle.figure.specs.Bound.{bound-fits}
 use Rattle.figure.specs.Mode.{Mode, modeOf}
 use Rattle.figure.specs.Stored.{none}
-use Rattle.hill.specs.Summary.{Hill, part, whole, rise, fall}
+use Rattle.hill.specs.Summary.{Hill, part, whole, fall}
 use Rattle.hill.specs.Valid.{ValidHill}
-use Rattle.hill.specs.Building.{empty, merge, empty-merge}
+use Rattle.hill.specs.Building.{merge, empty-merge}
 use Rattle.summary.specs.Layout.{encode}
-use Rattle.summary.specs.Judge.{modeAt, startAt, peakAt, openedAt, riseAt, fallAt, IsHill}
+use Rattle.summary.specs.Judge.{modeAt, startAt, peakAt, openedAt, IsHill}
 use Rattle.summary.specs.Decode.{hillIn, decode}
 use Rattle.summary.specs.Values.{reading-hill}
 use Rattle.summary.specs.Hills.{hill-valid}
 use Rattle.slopes.specs.declared.Counts.{Counts}
-use Rattle.slopes.specs.Arrays.{Arrays, Fig, slopesOf, weightOf, Fine, Sound, Able, StandsFor}
+use Rattle.slopes.specs.Arrays.{Arrays, Fig, slopesOf, weightOf, Fine, Sound, StandsFor}
 use Rattle.slopes.specs.Laws.{counts, able, restate, rise-is, fall-is, emptied}
 use Rattle.codec.specs.Contracts.{Wrote, hillLength, Writes, Loads}
 use Rattle.codec.specs.LoadLaws.{in-mode}

@@ -6,14 +6,13 @@ use lib.IntN.{ℤ}
 use lib.ListN.{length}
 use Rattle.number.specs.Bytes.{bytesOf}
 use Rattle.gate.specs.Outcome.{result, bufferAfter}
-use Rattle.figure.specs.FourModes.{Amounts, InRange}
+use Rattle.figure.specs.FourModes.{InRange}
 use Rattle.figure.specs.Mode.{Mode, modeOf}
 use Rattle.figure.specs.Stored.{IsStored}
-use Rattle.hill.specs.Summary.{Hill}
 use Rattle.hill.specs.Valid.{weightUp, weightDown}
 use Rattle.hill.specs.Building.{push}
 use Rattle.summary.specs.Layout.{i32Bytes, i64Bytes}
-use Rattle.summary.specs.Judge.{modeAt, riseAt, fallAt, leftAt, recordAt, heldAt, IsHill}
+use Rattle.summary.specs.Judge.{modeAt, riseAt, fallAt, leftAt, heldAt, IsHill}
 use Rattle.summary.specs.Decode.{amountsAt, leftsIn, rightsIn, hillIn}
 use Rattle.slopes.specs.declared.Counts.{Counts}
 use Rattle.slopes.specs.Arrays.{Arrays, arrays, at, slopesOf, weightOf, Sound, Stored, Able, StandsFor}

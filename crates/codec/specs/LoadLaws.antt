@@ -1,22 +1,21 @@
 -- One turn of each loading loop, and the steps of a load. Assumes nothing.
-use mathlib.Core.Path.{_≡_, refl, sym, ap, subst, _∙_}
-use mathlib.Core.List.{List, [], _∷_, _++_}
-use Prim.Native.Nat.{ℕ, zero, suc, _+_, _-_, _*_, _^_, _≤_, _<_}
+use mathlib.Core.Path.{_≡_, refl, sym, subst, _∙_}
+use mathlib.Core.List.{List, [], _∷_}
+use Prim.Native.Nat.{ℕ, zero, suc, _+_, _-_, _^_, _≤_, _<_}
 use native.Mathlib.Nat.{add-zero, zero-add, suc-add}
 use native.Mathlib.Numerals.{add-one}
 use native.Mathlib.Omega.{arith}
 use lib.IntN.{ℤ}
-use lib.ListN.{length}
 use Rattle.figure.specs.FourModes.{Amounts, InRange}
 use Rattle.figure.specs.Mode.{Mode, modeOf}
-use Rattle.figure.specs.Stored.{IsStored, sizeOf, amounts}
-use Rattle.hill.specs.Summary.{Hill, hill, rise, fall}
-use Rattle.hill.specs.Valid.{weight, weightUp, weightDown}
+use Rattle.figure.specs.Stored.{sizeOf}
+use Rattle.hill.specs.Summary.{Hill, hill}
+use Rattle.hill.specs.Valid.{weightUp, weightDown}
 use Rattle.hill.specs.Building.{push, push-nil, join, close, closes, merge}
-use Rattle.hill.specs.Slopes.{rise-closes, fall-closes, fall-join, fall-push}
+use Rattle.hill.specs.Slopes.{rise-closes, fall-closes}
 use Rattle.summary.specs.Judge.{modeAt, riseAt, fallAt, leftAt, middleAt, valueAt, floorAt, ceilingAt, heldAt, IsHill}
 use Rattle.summary.specs.Decode.{amountsAt, leftsIn, rightsIn, hillIn}
-use Rattle.summary.specs.Values.{lefts-length, rights-length, fine-rights}
+use Rattle.summary.specs.Values.{lefts-length, fine-rights}
 use Rattle.summary.specs.ModeValues.{Numbered, numbered}
 use Rattle.summary.specs.Hills.{AllStored, hill-valid, hill-stored}
 use Rattle.slopes.specs.declared.Counts.{Counts}

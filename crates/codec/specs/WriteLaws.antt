@@ -1,6 +1,6 @@
 -- Fields written one after the other are the bytes of a summary. Assumes nothing.
 use mathlib.Core.Path.{_≡_, refl, sym, ap, ap₂, _∙_}
-use mathlib.Core.List.{List, [], _∷_, _++_, append-assoc, append-nil}
+use mathlib.Core.List.{List, _++_, append-assoc, append-nil}
 use Prim.Native.Nat.{ℕ, zero, suc, _+_, _*_, _≤_, _<_}
 use native.Mathlib.Nat.{zero-add}
 use native.Mathlib.Omega.{arith}
@@ -14,7 +14,7 @@ use Rattle.number.specs.Bytes.{bytesOf, putAt}
 use Rattle.number.specs.Laws.{sets-append, length-bytesOf}
 use Rattle.figure.specs.Mode.{Mode, modeOf}
 use Rattle.figure.specs.Stored.{IsStored}
-use Rattle.hill.specs.Summary.{blank, part, spoilt, whole, rise, fall}
+use Rattle.hill.specs.Summary.{blank, part, spoilt, whole}
 use Rattle.summary.specs.Layout.{i32Bytes, i64Bytes, leftBytes, rightBytes, hillBytes, SummaryIn, encode}
 use Rattle.summary.specs.Accepted.{encode-length}
 use Rattle.slopes.specs.declared.Counts.{Counts}

@@ -11,11 +11,6 @@ use Rattle.codec.specs.Contracts.{Stacked}
 use Rattle.codec.specs.LoadLaws.{none-stacked, next-stacked}
 use Rattle.codec.proofs.push_all.Statement.{statement}
 use Rattle.codec.proofs.push_all.Tie as tie
-use Rattle.codec.proofs.push_all.Reads as reads
-use Rattle.codec.proofs.push_all.Lts as lts
-use Rattle.number.proofs.read_i32.Reads as read-i32-reads
-use Rattle.number.proofs.read_i64.Reads as read-i64-reads
-use Rattle.slopes.proofs.push.Reads as push-reads
 
 abbrev Inv-loop : tie.InvT-loop
 Inv-loop b first k values₀ floors₀ ceilings₀ held₀ n j₀ values floors ceilings held j = (j ≤ k) × Stacked b k j n values₀ floors₀ ceilings₀ held₀ values floors ceilings held
@@ -23,63 +18,48 @@ Inv-loop b first k values₀ floors₀ ceilings₀ held₀ n j₀ values floors 
 abbrev μ-loop : tie.MeasureT-loop
 μ-loop b first k values₀ floors₀ ceilings₀ held₀ n j₀ values floors ceilings held j = k - j
 
--- src/lib.rt:184:5
 loop-holds : tie.Need-loop-holds Inv-loop μ-loop
 loop-holds c = let a = c .before .args in (omega arith, none-stacked (now (a .b)) (a .k) (a .n) (now (a .values)) (now (a .floors)) (now (a .ceilings)) (now (a .held)))
 
--- src/lib.rt:185:26
 mul-at : tie.Need-mul-at Inv-loop μ-loop
 mul-at c = omega arith
 
--- src/lib.rt:185:18
 add-at : tie.Need-add-at Inv-loop μ-loop
 add-at c = omega arith
 
--- src/lib.rt:186:13
 read-i32-requires : tie.Need-read-i32-requires Inv-loop μ-loop
 read-i32-requires c κs = omega arith
 
--- src/lib.rt:187:41
 add-read-i32 : tie.Need-add-read-i32 Inv-loop μ-loop
 add-read-i32 c = omega arith
 
--- src/lib.rt:187:13
 read-i32-requires-2 : tie.Need-read-i32-requires-2 Inv-loop μ-loop
 read-i32-requires-2 c κs = omega arith
 
--- src/lib.rt:188:43
 add-read-i32-2 : tie.Need-add-read-i32-2 Inv-loop μ-loop
 add-read-i32-2 c = omega arith
 
--- src/lib.rt:188:13
 read-i32-requires-3 : tie.Need-read-i32-requires-3 Inv-loop μ-loop
 read-i32-requires-3 c κs = omega arith
 
--- src/lib.rt:189:37
 add-read-i64 : tie.Need-add-read-i64 Inv-loop μ-loop
 add-read-i64 c = omega arith
 
--- src/lib.rt:189:13
 read-i64-requires : tie.Need-read-i64-requires Inv-loop μ-loop
 read-i64-requires c κs = omega arith
 
--- src/lib.rt:190:54
 add-push : tie.Need-add-push Inv-loop μ-loop
 add-push c = omega arith
 
--- src/lib.rt:190:9
 push-requires : tie.Need-push-requires Inv-loop μ-loop
 push-requires c κs = omega arith
 
--- src/lib.rt:191:9
 add-j : tie.Need-add-j Inv-loop μ-loop
 add-j c = omega arith
 
--- src/lib.rt:184:5
 loop-less : tie.Need-loop-less Inv-loop μ-loop
 loop-less c = omega arith
 
--- src/lib.rt:184:5
 loop-again : tie.Need-loop-again Inv-loop μ-loop
 loop-again c =
     let l = c .before .before .before .before .before .before .before .before .before .before in
@@ -97,7 +77,6 @@ loop-again c =
           (c .push .ensures) (l .loop .inv .1),
     )
 
--- src/lib.rt:169:1
 returns : tie.Need-returns Inv-loop μ-loop
 returns c = let e : c .before .loop .j ≡ c .before .before .before .args .k = omega arith in rw e at (c .before .loop .inv .1)
 

@@ -4,27 +4,19 @@ use Rattle.codec.specs.WriteLaws.{front-stores}
 use borrow.Author.Needs.{needs}
 use Rattle.codec.proofs.put_front.Statement.{statement}
 use Rattle.codec.proofs.put_front.Tie as tie
-use Rattle.codec.proofs.put_front.Reads as reads
-use Rattle.codec.proofs.put_front.Lts as lts
-use Rattle.number.proofs.write_u16.Reads as write-u16-reads
 
--- src/lib.rt:25:5
 write-u16-requires : tie.Need-write-u16-requires
 write-u16-requires c κs = search needs
 
--- src/lib.rt:26:5
 write-u16-requires-2 : tie.Need-write-u16-requires-2
 write-u16-requires-2 c κs = search needs
 
--- src/lib.rt:27:5
 write-u16-requires-3 : tie.Need-write-u16-requires-3
 write-u16-requires-3 c κs = search needs
 
--- src/lib.rt:21:1
 same-length : tie.Need-same-length
 same-length c = search needs
 
--- src/lib.rt:21:1
 returns : tie.Need-returns
 returns c =
     let a = c .before .before .before .before .before .before .before .before .before .before .before .before .before .args in

@@ -5,44 +5,31 @@ use Rattle.codec.specs.WriteLaws.{row-stores}
 use borrow.Author.Needs.{needs}
 use Rattle.codec.proofs.put_row.Statement.{statement}
 use Rattle.codec.proofs.put_row.Tie as tie
-use Rattle.codec.proofs.put_row.Reads as reads
-use Rattle.codec.proofs.put_row.Lts as lts
-use Rattle.number.proofs.write_i32.Reads as write-i32-reads
-use Rattle.number.proofs.write_i64.Reads as write-i64-reads
 
--- src/lib.rt:75:5
 write-i32-requires : tie.Need-write-i32-requires
 write-i32-requires c κs = search needs
 
--- src/lib.rt:76:28
 add-write-i32 : tie.Need-add-write-i32
 add-write-i32 c = search needs
 
--- src/lib.rt:76:5
 write-i32-requires-2 : tie.Need-write-i32-requires-2
 write-i32-requires-2 c κs = search needs
 
--- src/lib.rt:77:28
 add-write-i32-2 : tie.Need-add-write-i32-2
 add-write-i32-2 c = search needs
 
--- src/lib.rt:77:5
 write-i32-requires-3 : tie.Need-write-i32-requires-3
 write-i32-requires-3 c κs = search needs
 
--- src/lib.rt:78:28
 add-write-i64 : tie.Need-add-write-i64
 add-write-i64 c = search needs
 
--- src/lib.rt:78:5
 write-i64-requires : tie.Need-write-i64-requires
 write-i64-requires c κs = search needs
 
--- src/lib.rt:71:1
 same-length : tie.Need-same-length
 same-length c = search needs
 
--- src/lib.rt:71:1
 returns : tie.Need-returns
 returns c =
     let a = c .before .before .before .before .before .before .before .before .before .before .before .before .before .before .before .before .before in

@@ -1,6 +1,6 @@
 -- `codec::sink_all` meets its contract: so far the first i left values have gone down. Assumes nothing.
-use mathlib.Core.Path.{_≡_, ap, _∙_}
-use Prim.Native.Nat.{ℕ, _+_, _-_, _*_, _≤_, _<_, _^_}
+use mathlib.Core.Path.{_≡_, _∙_}
+use Prim.Native.Nat.{_-_, _≤_, _<_, _^_}
 use native.Mathlib.Omega.{arith}
 use borrow.Author.Needs.{needs}
 use lib.Signed.{mag}
@@ -16,10 +16,6 @@ use Rattle.codec.specs.Contracts.{Sinks}
 use Rattle.codec.specs.LoadLaws.{Sunk, none-sunk, next-joins, next-closes, next-sunk}
 use Rattle.codec.proofs.sink_all.Statement.{statement}
 use Rattle.codec.proofs.sink_all.Tie as tie
-use Rattle.codec.proofs.sink_all.Reads as reads
-use Rattle.codec.proofs.sink_all.Lts as lts
-use Rattle.number.proofs.read_i64.Reads as read-i64-reads
-use Rattle.slopes.proofs.sink.Reads as sink-reads
 
 abbrev Inv-loop : tie.InvT-loop
 Inv-loop mode b k left₀ values floors ceilings held₀ nl₀ n₀ mid₀ i₀ left held nl n mid i =
@@ -44,37 +40,29 @@ asked c = rw (mid-is c) (c .before .before .pre)
 read : (c : tie.After-read-i64 Inv-loop μ-loop) → let l = c .before .before in toZ w64 (ofZ w64 (c .read-i64 .result)) ≡ leftAt (now (l .before .before .before .args .b)) (l .loop .i)
 read c = back w64 _ (c .read-i64 .ok) ∙ c .read-i64 .ensures
 
--- src/lib.rt:157:5
 loop-holds : tie.Need-loop-holds Inv-loop μ-loop
 loop-holds c = (omega arith, none-sunk (now (c .before .before .args .b)) (asked c .able))
 
--- src/lib.rt:158:42
 mul-read-i64 : tie.Need-mul-read-i64 Inv-loop μ-loop
 mul-read-i64 c = omega arith
 
--- src/lib.rt:158:37
 add-read-i64 : tie.Need-add-read-i64 Inv-loop μ-loop
 add-read-i64 c = omega arith
 
--- src/lib.rt:158:13
 read-i64-requires : tie.Need-read-i64-requires Inv-loop μ-loop
 read-i64-requires c κs = omega arith
 
--- src/lib.rt:159:13
 sink-requires : tie.Need-sink-requires Inv-loop μ-loop
 sink-requires c κs =
     let l = c .before .before .before .before in
     (next-joins {i = l .loop .i} (asked (l .before)) (omega arith) (l .loop .inv .1) (read (c .before .before)), next-closes {i = l .loop .i} (asked (l .before)) (omega arith) (l .loop .inv .1))
 
--- src/lib.rt:163:9
 add-i : tie.Need-add-i Inv-loop μ-loop
 add-i c = omega arith
 
--- src/lib.rt:157:5
 loop-less : tie.Need-loop-less Inv-loop μ-loop
 loop-less c = omega arith
 
--- src/lib.rt:157:5
 loop-again : tie.Need-loop-again Inv-loop μ-loop
 loop-again c =
     let l = c .before .before .before .before .before .before in
@@ -82,7 +70,6 @@ loop-again c =
     let h : mag r < 2 ^ 63 = search needs in
     (omega arith, next-sunk (asked (l .before)) (omega arith) (l .loop .inv .1) (read (c .before .before .before .before)) (back w64 r h) (c .before .sink .ensures))
 
--- src/lib.rt:135:1
 returns : tie.Need-returns Inv-loop μ-loop
 returns c = let e : c .before .loop .i ≡ c .before .before .before .before .args .k = omega arith in rw (e, mid-is (c .before .before)) at (c .before .loop .inv .1)
 
