@@ -1,0 +1,161 @@
+-- `day::figures` meets its contract. Assumes nothing.
+use mathlib.Core.Path.{_≡_, refl, sym, ap, _∙_}
+use native.Mathlib.Omega.{arith}
+use lib.Dec.{eqb}
+use lib.ListN.{length}
+use borrow.Author.Needs.{needs}
+use denote.Ref.{now}
+use mir.Syntax.{w64}
+use Rattle.number.specs.Word.{back}
+use Rattle.gate.specs.Outcome.{refused, result}
+use Rattle.record.specs.Record.{readOf, answerOf}
+use Rattle.record.specs.Laws.{sound}
+use Rattle.hill.specs.Verdict.{low, ask}
+use Rattle.day.specs.Levels.{verdictOf}
+use Rattle.day.specs.DayLaws.{too-long}
+use Rattle.day.specs.Loop as laws
+use Rattle.day.specs.Loop.{Inv}
+use Rattle.day.proofs.figures.Statement.{statement}
+use Rattle.day.proofs.figures.Tie as tie
+use Rattle.day.proofs.figures.Reads as reads
+use Rattle.day.proofs.figures.Lts as lts
+use Rattle.day.proofs.apply.Reads as apply-reads
+use Rattle.day.proofs.ground.Reads as ground-reads
+use Rattle.day.proofs.lower.Reads as lower-reads
+use Rattle.day.proofs.note.Reads as note-reads
+use Rattle.figure.proofs.nothing.Reads as nothing-reads
+use Rattle.record.proofs.read_first.Reads as read-first-reads
+
+abbrev Inv-loop : tie.InvT-loop
+Inv-loop log values₀ floors₀ ceilings₀ net₀ heaviest₀ eaten₀ stamp₀ mid₀ t₀ rest₀ values floors ceilings net heaviest eaten stamp mid t rest =
+    Inv log rest t mid values floors ceilings net heaviest eaten stamp
+
+abbrev μ-loop : tie.MeasureT-loop
+μ-loop log values₀ floors₀ ceilings₀ net₀ heaviest₀ eaten₀ stamp₀ mid₀ t₀ rest₀ values floors ceilings net heaviest eaten stamp mid t rest =
+    length rest
+
+-- the record that was read is the first of the rest
+read : (c : tie.After-f Inv-loop μ-loop) → readOf (now (c .before .before .before .before .loop .rest)) ≡ result (c .f .given .0 .0)
+read c = sym (c .before .before .read-first .ensures) ∙ ap answerOf (c .f .given .1)
+
+-- the fault after the last record
+verdict-is : (c : tie.After-lower Inv-loop μ-loop) → let t = c .before .before .before .before .loop .t in
+    verdictOf (c .lower .result) ≡ low (verdictOf (t .fault)) (ask 11 (eqb (t .level) 0))
+verdict-is c = c .lower .ensures ∙ ap (low (verdictOf (c .before .before .before .before .loop .t .fault))) (c .before .ground .ensures)
+
+returns : tie.Need-returns Inv-loop μ-loop
+returns c = sym (too-long (now (c .before .before .args .log)) (c .if1 .taken))
+
+nothing-requires : tie.Need-nothing-requires Inv-loop μ-loop
+nothing-requires c κs = search needs
+
+nothing-requires-2 : tie.Need-nothing-requires-2 Inv-loop μ-loop
+nothing-requires-2 c κs = search needs
+
+nothing-requires-3 : tie.Need-nothing-requires-3 Inv-loop μ-loop
+nothing-requires-3 c κs = search needs
+
+nothing-requires-4 : tie.Need-nothing-requires-4 Inv-loop μ-loop
+nothing-requires-4 c κs = search needs
+
+loop-holds : tie.Need-loop-holds Inv-loop μ-loop
+loop-holds c =
+    laws.begin (c .before .before .before .before .if1 .left) refl refl refl
+    (record {
+      values = refl;
+      floors = refl;
+      ceilings = refl;
+      held-net = refl;
+      held-heaviest = refl;
+      held-eaten = refl;
+      held-stamp = refl;
+      net = back w64 (c .before .before .before .nothing .result) (c .before .before .before .nothing .ok) ∙ c .before .before .before .nothing .ensures;
+      heaviest = back w64 (c .before .before .nothing2 .result) (c .before .before .nothing2 .ok) ∙ c .before .before .nothing2 .ensures;
+      eaten = back w64 (c .before .nothing3 .result) (c .before .nothing3 .ok) ∙ c .before .nothing3 .ensures;
+      stamp = back w64 (c .nothing4 .result) (c .nothing4 .ok) ∙ c .nothing4 .ensures;
+    })
+
+read-first-requires : tie.Need-read-first-requires Inv-loop μ-loop
+read-first-requires c κs = search needs
+
+enum-known-f : tie.Need-enum-known-f Inv-loop μ-loop
+enum-known-f c = search needs
+
+enum-told : tie.Need-enum-told Inv-loop μ-loop
+enum-told c = search needs
+
+returns-2 : tie.Need-returns-2 Inv-loop μ-loop
+returns-2 c = sym (laws.stopped (c .before .before .before .before .loop .inv) (c .before .before .before .loop-test .taken) (sym (c .before .before .read-first .ensures) ∙ ap answerOf (c .enum-told .given .1)))
+
+cast-length : tie.Need-cast-length Inv-loop μ-loop
+cast-length c = search needs
+
+note-requires : tie.Need-note-requires Inv-loop μ-loop
+note-requires c κs = laws.read-deep (c .before .before .before .before .before .before .loop .inv) (read (c .before .before))
+
+apply-requires : tie.Need-apply-requires Inv-loop μ-loop
+apply-requires c κs = laws.ready (c .before .before .before .before .before .before .before .before .before .before .before .before .before .before .loop .inv) (read (c .before .before .before .before .before .before .before .before .before .before)) (c .before .before .before .before .before .before .before .note .ensures)
+
+sub-rest : tie.Need-sub-rest Inv-loop μ-loop
+sub-rest c = sound _ _ (read (c .before .before .before .before .before .before .before .before .before .before .before)) .inside
+
+part-rest-start : tie.Need-part-rest-start Inv-loop μ-loop
+part-rest-start c = sound _ _ (read (c .before .before .before .before .before .before .before .before .before .before .before)) .inside
+
+part-rest-end : tie.Need-part-rest-end Inv-loop μ-loop
+part-rest-end c = search needs
+
+loop-less : tie.Need-loop-less Inv-loop μ-loop
+loop-less c = omega (arith, sound _ _ (read (c .before .before .before .before .before .before .before .before .before .before .before .before)))
+
+loop-again : tie.Need-loop-again Inv-loop μ-loop
+loop-again c = laws.next (c .before .before .before .before .before .before .before .before .before .before .before .before .before .before .before .before .loop .inv) (read (c .before .before .before .before .before .before .before .before .before .before .before .before)) (c .before .before .before .before .before .before .before .before .before .note .ensures) (c .before .apply .ensures)
+
+returns-3 : tie.Need-returns-3 Inv-loop μ-loop
+returns-3 c =
+    let l = c .before .before .before .before in
+    sym (laws.faulty (l .before .loop .inv) (l .loop-test .left) (c .before .lower .result) (c .before .before .before .if2 .taken) (verdict-is (c .before)) (c .if3 .taken))
+
+ground-requires : tie.Need-ground-requires Inv-loop μ-loop
+ground-requires c κs = search needs
+
+lower-requires : tie.Need-lower-requires Inv-loop μ-loop
+lower-requires c κs = search needs
+
+returns-4 : tie.Need-returns-4 Inv-loop μ-loop
+returns-4 c =
+    let l = c .before .before .before .before in
+    sym (laws.figured (l .before .loop .inv) (l .loop-test .left) (c .before .lower .result) (c .before .before .before .if2 .taken) (verdict-is (c .before)) (c .if3 .left))
+
+returns-5 : tie.Need-returns-5 Inv-loop μ-loop
+returns-5 c = let l = c .before in sym (laws.empty-log (l .before .loop .inv) (l .loop-test .left) (c .if2 .left))
+
+pub figures-spec : {M : Type 1} → statement M
+figures-spec =
+    tie.close
+    (tie.spec
+    Inv-loop
+    μ-loop
+    returns
+    nothing-requires
+    nothing-requires-2
+    nothing-requires-3
+    nothing-requires-4
+    loop-holds
+    read-first-requires
+    enum-known-f
+    enum-told
+    returns-2
+    cast-length
+    note-requires
+    apply-requires
+    sub-rest
+    part-rest-start
+    part-rest-end
+    loop-less
+    loop-again
+    ground-requires
+    lower-requires
+    returns-3
+    returns-4
+    returns-5)

@@ -1,0 +1,137 @@
+-- The levels and faults that the pass over a log keeps, and that they are the log's. Assumes nothing.
+use mathlib.Core.Path.{_≡_, refl, sym, ap, ap₂, _∙_}
+use mathlib.Core.Bool.{Bool, true, false}
+use mathlib.Core.List.{List, [], _∷_, _++_}
+use Prim.Native.Nat.{ℕ, zero, suc, _+_, _≤_}
+use native.Mathlib.Omega.{arith}
+use lib.Dec.{eqb, leb}
+use lib.ListN.{length}
+use borrow.Author.Tests.{le-leb, eqb-true}
+use Rattle.hill.specs.Verdict.{Verdict, pass, refuse, low, ask, between, count, ends}
+use Rattle.hill.specs.VerdictLaws.{low-pass, low-comm, low-assoc, low-fst, low-snd, between-pass}
+use Rattle.hill.specs.Log.{Record, opening, closing, startLevel, endLevel, endOf, opens, openedOf, joints, logFault}
+use Rattle.hill.specs.Growth.{grown}
+use Rattle.figure.specs.FourModes.{Amounts}
+use Rattle.figure.specs.Mode.{modeOf}
+use Rattle.day.specs.declared.Tally.{Tally}
+
+-- ---- definitions
+
+-- A fault as the code has it: 0 where there is none.
+abbrev pub verdictOf : ℕ → Verdict
+verdictOf zero = pass
+verdictOf (suc n) = refuse (suc n)
+
+-- A record starts at level s: the first one of a log at level 0 (11), a later one where the one before it ended, at level l (7 and 8).
+abbrev pub meeting : (begun : Bool) (l s : ℕ) → Verdict
+meeting false l s = ask 11 (eqb s 0)
+meeting true l s = between l s
+
+-- One record more.
+pub record Noted (t : Tally) (y : Record Amounts) (t′ : Tally) : Type 0 where
+  pub begun : t′ .begun ≡ true
+  pub level : t′ .level ≡ endLevel y
+  pub fault : verdictOf (t′ .fault) ≡ low (verdictOf (t .fault)) (meeting (t .begun) (t .level) (startLevel y))
+
+-- Of the records so far: whether there is any, the level where the last one ended, and the lowest fault.
+abbrev pub begunBy : List (Record Amounts) → Bool
+begunBy [] = false
+begunBy (x ∷ xs) = true
+
+abbrev pub levelAfter : List (Record Amounts) → ℕ
+levelAfter [] = 0
+levelAfter (x ∷ xs) = endOf x xs
+
+abbrev pub faultAfter : List (Record Amounts) → Verdict
+faultAfter [] = pass
+faultAfter (x ∷ xs) = low (ask 11 (eqb (startLevel x) 0)) (joints x xs)
+
+pub record Tallied (t : Tally) (xs : List (Record Amounts)) : Type 0 where
+  pub begun : t .begun ≡ begunBy xs
+  pub level : t .level ≡ levelAfter xs
+  pub fault : verdictOf (t .fault) ≡ faultAfter xs
+
+-- ---- one record more
+
+begun-more : (xs : List (Record Amounts)) (y : Record Amounts) → begunBy (xs ++ (y ∷ [])) ≡ true
+begun-more [] y = refl
+begun-more (x ∷ xs) y = refl
+
+level-more : (xs : List (Record Amounts)) (y : Record Amounts) → levelAfter (xs ++ (y ∷ [])) ≡ endLevel y
+level-more [] y = refl
+level-more (x ∷ xs) y = grown (modeOf 1 .algebra) x xs y .end
+
+fault-more : (xs : List (Record Amounts)) (y : Record Amounts) → faultAfter (xs ++ (y ∷ [])) ≡ low (faultAfter xs) (meeting (begunBy xs) (levelAfter xs) (startLevel y))
+fault-more [] y = low-pass (ask 11 (eqb (startLevel y) 0))
+fault-more (x ∷ xs) y =
+    ap (low (ask 11 (eqb (startLevel x) 0))) (grown (modeOf 1 .algebra) x xs y .joint) ∙
+    sym (low-assoc (ask 11 (eqb (startLevel x) 0)) (joints x xs) (between (endOf x xs) (startLevel y)))
+
+module _ {t t′ : Tally} {xs : List (Record Amounts)} {y : Record Amounts} (k : Tallied t xs) (n : Noted t y t′) where
+  pub tallied : Tallied t′ (xs ++ (y ∷ []))
+  tallied = record {
+    begun = n .begun ∙ sym (begun-more xs y);
+    level = n .level ∙ sym (level-more xs y);
+    fault = n .fault ∙ rw (k .fault, k .begun, k .level) (sym (fault-more xs y));
+  }
+
+  none-before : t′ .fault ≡ 0 → low (verdictOf (t .fault)) (meeting (t .begun) (t .level) (startLevel y)) ≡ pass
+  none-before e = sym (n .fault) ∙ ap verdictOf e
+
+  -- where there is no fault, there was none, ..
+  pub was-none : t′ .fault ≡ 0 → t .fault ≡ 0
+  was-none e = clear (t .fault) (low-fst (verdictOf (t .fault)) (meeting (t .begun) (t .level) (startLevel y)) (none-before e))
+    where
+      clear : (a : ℕ) → verdictOf a ≡ pass → a ≡ 0
+      clear zero p = refl
+      clear (suc a) p = cc
+
+  -- .. and the record starts where the last one ended
+  pub meets : t′ .fault ≡ 0 → t .level ≡ startLevel y
+  meets e =
+      k .level ∙ go xs (rw (k .begun, k .level) at (low-snd (verdictOf (t .fault)) (meeting (t .begun) (t .level) (startLevel y)) (none-before e)))
+    where
+      grounded : (s : ℕ) (b : Bool) → eqb s 0 ≡ b → ask 11 b ≡ pass → 0 ≡ s
+      grounded s true p q = sym (eqb-true s 0 p)
+      grounded s false p q = cc
+
+      go : (xs : List (Record Amounts)) → meeting (begunBy xs) (levelAfter xs) (startLevel y) ≡ pass → levelAfter xs ≡ startLevel y
+      go [] p = grounded (startLevel y) (eqb (startLevel y) 0) refl p
+      go (x ∷ xs) p = between-pass (endOf x xs) (startLevel y) p
+
+pub none-yet : {t : Tally} → t .begun ≡ false → t .level ≡ 0 → t .fault ≡ 0 → Tallied t []
+none-yet b l f = record { begun = b; level = l; fault = ap verdictOf f }
+
+-- ---- all records
+
+-- a log with no record
+pub no-record : {t : Tally} (xs : List (Record Amounts)) → Tallied t xs → t .begun ≡ false → xs ≡ []
+no-record [] k e = refl
+no-record (x ∷ xs) k e = cc (k .begun)
+
+pub opened-length : (xs : List (Record Amounts)) → openedOf xs ≤ length xs
+opened-length [] = omega arith
+opened-length (opening d r ∷ xs) = omega (arith, opened-length xs)
+opened-length (closing d ∷ xs) = omega (arith, opened-length xs)
+
+-- question 9 cannot get a "no" where there are too few records
+few-opened : (xs : List (Record Amounts)) → length xs ≤ 100_000 → count (openedOf xs) ≡ pass
+unfolding count
+few-opened xs l = rw (le-leb (openedOf xs) 100_000 (omega (arith, opened-length xs)))
+
+-- what is asked of the levels and of their fault
+pub log-fault : {t : Tally} (xs : List (Record Amounts)) → Tallied t xs → t .begun ≡ true → length xs ≤ 100_000 → low (verdictOf (t .fault)) (ask 11 (eqb (t .level) 0)) ≡ logFault xs
+unfolding ends
+log-fault [] k e l = cc (k .begun)
+log-fault (x ∷ xs) k e l =
+    let first = ask 11 (eqb (startLevel x) 0) in
+    let last = ask 11 (eqb (endOf x xs) 0) in
+    rw (k .fault, k .level, few-opened (x ∷ xs) l, low-pass (joints x xs), low-comm first (joints x xs)) (low-assoc (joints x xs) first last)
+
+-- the code's answer in the two cases
+pub fault-none : {a : ℕ} {v : Verdict} → verdictOf a ≡ v → a ≡ 0 → v ≡ pass
+fault-none e z = sym e ∙ ap verdictOf z
+
+pub fault-some : (a : ℕ) {v : Verdict} → verdictOf a ≡ v → (a ≡ 0 → ⊥) → v ≡ refuse a
+fault-some zero e nz = absurd (nz refl)
+fault-some (suc a) e nz = sym e

@@ -1,0 +1,185 @@
+-- What the pass over a log keeps from turn to turn, and what it comes to at the end. Assumes nothing.
+use mathlib.Core.Path.{_≡_, refl, sym, ap, subst, _∙_}
+use mathlib.Core.Bool.{Bool, true, false}
+use mathlib.Core.List.{List, [], _∷_, _++_}
+use Prim.Native.Nat.{ℕ, zero, suc, _+_, _-_, _*_, _≤_, _<_}
+use native.Mathlib.Omega.{arith}
+use lib.Dec.{eqb}
+use lib.IntN.{ℤ}
+use lib.ListN.{length, take, drop}
+use borrow.Author.Tests.{eqb-true}
+use Rattle.gate.specs.Outcome.{Outcome, refused, result}
+use Rattle.record.specs.Record.{readOf, recordsOf}
+use Rattle.record.specs.Laws.{sound}
+use Rattle.record.specs.Handed as handing
+use Rattle.record.specs.Handed.{Handed}
+use Rattle.record.specs.declared.Fields.{Fields}
+use Rattle.hill.specs.Verdict.{Verdict, pass, refuse, low, ask}
+use Rattle.hill.specs.VerdictLaws.{low-fst, low-snd}
+use Rattle.hill.specs.Log.{Record, startLevel, openedOf, logFault}
+use Rattle.hill.specs.Tree.{nil, tree, write, value}
+use Rattle.hill.specs.TreeLaws.{hillOf-write}
+use Rattle.hill.specs.Figure.{figureOf}
+use Rattle.hill.specs.FigureLaws.{TreeOfLog, log-tree}
+use Rattle.hill.specs.Summary.{hill, middle}
+use Rattle.hill.specs.Building.{hillOf}
+use Rattle.hill.specs.Finish.{outcome}
+use Rattle.figure.specs.FourModes.{Amounts}
+use Rattle.figure.specs.Mode.{modeOf}
+use Rattle.figure.specs.Stored.{IsStored, amounts, none}
+use Rattle.slopes.specs.Arrays.{Sound}
+use Rattle.slopes.specs.Laws.{counts, emptied}
+use Rattle.summary.specs.Values.{tells-range}
+use Rattle.summary.specs.Outcomes.{recordOf, chunkOf}
+use Rattle.text.specs.declared.Figures.{Figures}
+use Rattle.day.specs.declared.Tally.{Tally}
+use Rattle.day.specs.Day.{figureIn, figuresOf, dayOutcome}
+use Rattle.day.specs.DayLaws.{unreadable, readable}
+use Rattle.day.specs.Levels.{verdictOf, Noted, Tallied, none-yet, tallied, was-none, meets, opened-length, no-record, log-fault, fault-none, fault-some}
+use Rattle.day.specs.Pass.{rising, Stands, Standing, Ready, Applied}
+
+-- ---- records one after the other
+
+chunk-more : (fs : List Fields) (f : Fields) → chunkOf (fs ++ (f ∷ [])) ≡ chunkOf fs ++ (recordOf f ∷ [])
+chunk-more [] f = refl
+chunk-more (g ∷ fs) f = ap (λ (xs : List (Record Amounts)). recordOf g ∷ xs) (chunk-more fs f)
+
+chunk-length : (fs : List Fields) → length (chunkOf fs) ≡ length fs
+chunk-length [] = refl
+chunk-length (f ∷ fs) = ap suc (chunk-length fs)
+
+-- ---- the figures
+
+-- At level 0 a log without fault has its figure for the middle value, and no slopes.
+figure-is : (m : ℕ) (xs : List (Record Amounts)) {vs fs cs hs : List ℤ} {mid : ℤ} → logFault xs ≡ pass → Stands xs 0 vs fs cs m hs mid → mid ≡ figureIn m xs
+unfolding IsStored figureIn
+figure-is m xs v s =
+    let t = log-tree (modeOf m .algebra) (modeOf m .laws) xs v in
+    sym (s .stored .mid) ∙
+    ap (modeOf m .store)
+    (ap middle (s .is ∙ ap (hillOf (modeOf m .algebra)) (sym (t .traversal)) ∙ hillOf-write (modeOf m .algebra) (modeOf m .laws) 0 (tree (t .root) (t .below) nil)) ∙ sym (t .its-figure))
+
+all-figures : (xs : List (Record Amounts)) {mid : Figures} {vs fs cs ns hs es ss : List ℤ} → logFault xs ≡ pass → Standing xs 0 mid vs fs cs ns hs es ss → mid ≡ figuresOf xs
+unfolding figuresOf
+all-figures xs {mid} v s =
+    four (figure-is 1 xs v (s .net)) (figure-is 2 xs v (s .heaviest)) (figure-is 3 xs v (s .eaten)) (figure-is 4 xs v (s .stamp))
+  where
+    four : {n h e s : ℤ} → mid .net ≡ n → mid .heaviest ≡ h → mid .eaten ≡ e → mid .stamp ≡ s → mid ≡ record { net = n; heaviest = h; eaten = e; stamp = s }
+    four a b c d = rw (sym a, sym b, sym c, sym d)
+
+-- ---- the invariant
+
+-- Of the log, at most 65,536 bytes, the records `done` are read and `rest` is left; their levels are noted, and as long as there is no fault
+-- the arrays stand for their hill in each mode.
+pub record Inv (log rest : List ℕ) (t : Tally) (mid : Figures) (vs fs cs ns hs es ss : List ℤ) : Type 0 where
+  pub short : length log ≤ 65_536
+  pub done : List Fields
+  pub handed : Handed log rest done
+  pub noted : Tallied t (chunkOf done)
+  pub standing : t .fault ≡ 0 → Standing (chunkOf done) (t .level) mid vs fs cs ns hs es ss
+
+-- arrays of 64, and nothing in them yet
+pub record Fresh (mid : Figures) (vs fs cs ns hs es ss : List ℤ) : Type 0 where
+  pub values : length vs ≡ 64
+  pub floors : length fs ≡ 64
+  pub ceilings : length cs ≡ 64
+  pub held-net : length ns ≡ 64
+  pub held-heaviest : length hs ≡ 64
+  pub held-eaten : length es ≡ 64
+  pub held-stamp : length ss ≡ 64
+  pub net : mid .net ≡ none (modeOf 1)
+  pub heaviest : mid .heaviest ≡ none (modeOf 2)
+  pub eaten : mid .eaten ≡ none (modeOf 3)
+  pub stamp : mid .stamp ≡ none (modeOf 4)
+
+stands-none : (m : ℕ) {vs fs cs hs : List ℤ} {mid : ℤ} → length vs ≡ 64 → length fs ≡ 64 → length cs ≡ 64 → length hs ≡ 64 → mid ≡ none (modeOf m) → Stands [] 0 vs fs cs m hs mid
+stands-none m {vs} {fs} {cs} {hs} {mid} ev ef ec eh e =
+    emptied (modeOf m) (rising vs fs cs hs) mid (record { left = ev; values = ev; floors = ef; ceilings = ec; held = eh; nl≤ = omega arith; n≤ = omega arith }) e
+
+pub begin : {log : List ℕ} {t : Tally} {mid : Figures} {vs fs cs ns hs es ss : List ℤ} → length log ≤ 65_536 → t .begun ≡ false → t .level ≡ 0 → t .fault ≡ 0 → Fresh mid vs fs cs ns hs es ss
+    → Inv log log t mid vs fs cs ns hs es ss
+begin {log} short b l f e = record {
+  short = short;
+  done = [];
+  handed = handing.start log;
+  noted = none-yet b l f;
+  standing = λ _. rw l record {
+    net = stands-none 1 (e .values) (e .floors) (e .ceilings) (e .held-net) (e .net);
+    heaviest = stands-none 2 (e .values) (e .floors) (e .ceilings) (e .held-heaviest) (e .heaviest);
+    eaten = stands-none 3 (e .values) (e .floors) (e .ceilings) (e .held-eaten) (e .eaten);
+    stamp = stands-none 4 (e .values) (e .floors) (e .ceilings) (e .held-stamp) (e .stamp);
+  };
+}
+
+module _ {log rest : List ℕ} {t : Tally} {mid : Figures} {vs fs cs ns hs es ss : List ℤ} (i : Inv log rest t mid vs fs cs ns hs es ss) where
+  few : length (chunkOf (i .done)) ≤ 100_000
+  few = omega (arith, i .short, i .handed .few, chunk-length (i .done))
+
+  -- ---- one turn
+
+  module _ {f : Fields} (e : readOf rest ≡ result f) where
+    pub read-deep : f .depth ≤ 63
+    read-deep = tells-range (f .depth) (amounts (f .value) (f .floor) (f .ceiling)) .from (sound rest f e .ranged) .0
+
+    standing-before : {t′ : Tally} → Noted t (recordOf f) t′ → t′ .fault ≡ 0 → Standing (chunkOf (i .done)) (startLevel (recordOf f)) mid vs fs cs ns hs es ss
+    standing-before n z = rw (sym (meets (i .noted) n z)) (i .standing (was-none (i .noted) n z))
+
+    pub ready : {t′ : Tally} → Noted t (recordOf f) t′ → Ready (t′ .fault) f mid vs fs cs ns hs es ss
+    ready n = record {
+      records = chunkOf (i .done);
+      few = omega (arith, few, opened-length (chunkOf (i .done)));
+      standing = standing-before n;
+      deep = read-deep;
+      in-range = tells-range (f .depth) (amounts (f .value) (f .floor) (f .ceiling)) .from (sound rest f e .ranged) .1;
+    }
+
+    pub next : {t′ : Tally} {mid′ : Figures} {vs′ fs′ cs′ ns′ hs′ es′ ss′ : List ℤ} → Noted t (recordOf f) t′ → Applied (t′ .fault) f mid vs fs cs ns hs es ss mid′ vs′ fs′ cs′ ns′ hs′ es′ ss′
+        → Inv log (take (length rest - f .length) (drop (f .length) rest)) t′ mid′ vs′ fs′ cs′ ns′ hs′ es′ ss′
+    next n a = record {
+      short = i .short;
+      done = i .done ++ (f ∷ []);
+      handed = handing.next (i .handed) f e;
+      noted = rw (chunk-more (i .done) f) (tallied (i .noted) n);
+      standing = λ z. rw (chunk-more (i .done) f, n .level) (a z (chunkOf (i .done)) (standing-before n z));
+    }
+
+  pub stopped : 0 < length rest → readOf rest ≡ refused 3 → dayOutcome log ≡ refused 3
+  stopped h e = unreadable log (i .short) 3 (handing.unreadable (i .handed) h e)
+
+  -- ---- the end
+
+  module _ (h : length rest ≤ 0) where
+    judged : dayOutcome log ≡ outcome (logFault (chunkOf (i .done))) (figuresOf (chunkOf (i .done)))
+    judged = readable log (i .short) (i .done) (handing.finished (i .handed) h)
+
+    by-verdict : {v : Verdict} → logFault (chunkOf (i .done)) ≡ v → dayOutcome log ≡ outcome v (figuresOf (chunkOf (i .done)))
+    by-verdict e = judged ∙ ap (λ v. outcome v (figuresOf (chunkOf (i .done)))) e
+
+    pub empty-log : t .begun ≡ false → dayOutcome log ≡ refused 10
+    empty-log b = by-verdict (ap logFault (no-record (chunkOf (i .done)) (i .noted) b))
+
+    module _ (a : ℕ) (b : t .begun ≡ true) (e : verdictOf a ≡ low (verdictOf (t .fault)) (ask 11 (eqb (t .level) 0))) where
+      verdict-is : verdictOf a ≡ logFault (chunkOf (i .done))
+      verdict-is = e ∙ log-fault (chunkOf (i .done)) (i .noted) b few
+
+      pub faulty : (a ≡ 0 → ⊥) → dayOutcome log ≡ refused a
+      faulty nz = by-verdict (fault-some a verdict-is nz)
+
+      level-is : a ≡ 0 → t .level ≡ 0
+      level-is z = go (eqb (t .level) 0) refl (low-snd (verdictOf (t .fault)) (ask 11 (eqb (t .level) 0)) (fault-none e z))
+        where
+          go : (c : Bool) → eqb (t .level) 0 ≡ c → ask 11 c ≡ pass → t .level ≡ 0
+          go true p q = eqb-true (t .level) 0 p
+          go false p q = cc
+
+      fault-is : a ≡ 0 → t .fault ≡ 0
+      fault-is z = go (t .fault) (low-fst (verdictOf (t .fault)) (ask 11 (eqb (t .level) 0)) (fault-none e z))
+        where
+          go : (k : ℕ) → verdictOf k ≡ pass → k ≡ 0
+          go zero p = refl
+          go (suc k) p = cc
+
+      pub figured : a ≡ 0 → dayOutcome log ≡ result mid
+      figured z =
+          let st : Standing (chunkOf (i .done)) 0 mid vs fs cs ns hs es ss = subst (λ (l : ℕ). Standing (chunkOf (i .done)) l mid vs fs cs ns hs es ss) (level-is z) (i .standing (fault-is z)) in
+          by-verdict (fault-none verdict-is z) ∙ ap result (sym (all-figures (chunkOf (i .done)) (fault-none verdict-is z) st))

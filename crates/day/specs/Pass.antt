@@ -1,0 +1,167 @@
+-- The pass over a log in four modes: the arrays stand for the hills of the records so far, as long as there is no fault. Assumes nothing.
+use mathlib.Core.Path.{_≡_, refl, sym, subst}
+use mathlib.Core.List.{List, [], _∷_, _++_}
+use Prim.Native.Nat.{ℕ, suc, _+_, _*_, _^_, _≤_, _<_}
+use native.Mathlib.Omega.{arith}
+use lib.IntN.{ℤ}
+use lib.ListN.{length}
+use borrow.Author.Tests.{eq-eqb, ne-eqb}
+use Rattle.hill.specs.Log.{Record, opening, closing, startLevel, endLevel, openedOf}
+use Rattle.hill.specs.Summary.{Hill}
+use Rattle.hill.specs.Building.{empty, close, step, hillOf, run-append}
+use Rattle.hill.specs.Growth.{opened-append}
+use Rattle.figure.specs.FourModes.{Amounts, limit, InRange}
+use Rattle.figure.specs.Mode.{Mode, modeOf}
+use Rattle.figure.specs.Stored.{amounts, none}
+use Rattle.slopes.specs.Arrays.{Arrays, arrays, Fig, slopesOf, weightOf, Sound, Able, StandsFor}
+use Rattle.slopes.specs.Actions.{Pushed}
+use Rattle.slopes.specs.Laws.{counts, able, restate, opened, after, after-more, emptied}
+use Rattle.record.specs.declared.Fields.{Fields}
+use Rattle.summary.specs.Outcomes.{recordOf}
+use Rattle.text.specs.declared.Figures.{Figures}
+
+-- ---- definitions
+
+-- A log starts at level 0, so there are no left values: any list can stand in their place. The record of depth d is at index d.
+abbrev pub rising : (vs fs cs hs : List ℤ) → Arrays
+rising vs fs cs hs = arrays vs vs fs cs hs
+
+-- In mode m the arrays stand for the hill of the records xs, whose last one ended at this level.
+abbrev pub Stands : List (Record Amounts) → (level : ℕ) (vs fs cs : List ℤ) (m : ℕ) (hs : List ℤ) (mid : ℤ) → Type 0
+Stands xs level vs fs cs m hs mid = StandsFor (modeOf m) (rising vs fs cs hs) (counts 0 level mid) (hillOf (modeOf m .algebra) xs) (limit * openedOf xs)
+
+pub record Standing (xs : List (Record Amounts)) (level : ℕ) (mid : Figures) (vs fs cs ns hs es ss : List ℤ) : Type 0 where
+  pub net : Stands xs level vs fs cs 1 ns (mid .net)
+  pub heaviest : Stands xs level vs fs cs 2 hs (mid .heaviest)
+  pub eaten : Stands xs level vs fs cs 3 es (mid .eaten)
+  pub stamp : Stands xs level vs fs cs 4 ss (mid .stamp)
+
+-- What `open_at` leaves.
+pub record Opened (d : ℕ) (v f c : ℤ) (vs fs cs ns hs es ss vs′ fs′ cs′ ns′ hs′ es′ ss′ : List ℤ) : Type 0 where
+  pub net : Pushed d v f c (none (modeOf 1)) vs fs cs ns vs′ fs′ cs′ ns′
+  pub heaviest : Pushed d v f c (none (modeOf 2)) vs fs cs hs vs′ fs′ cs′ hs′
+  pub eaten : Pushed d v f c (none (modeOf 3)) vs fs cs es vs′ fs′ cs′ es′
+  pub stamp : Pushed d v f c (none (modeOf 4)) vs fs cs ss vs′ fs′ cs′ ss′
+
+-- What `close_at` leaves in mode m: the record at depth d, the deepest one, is closed.
+abbrev pub Closed : (m d : ℕ) (vs fs cs hs : List ℤ) (mid : ℤ) (hs′ : List ℤ) (mid′ : ℤ) → Type 0
+Closed m d vs fs cs hs mid hs′ mid′ =
+    StandsFor (modeOf m) (rising vs fs cs hs′) (counts 0 d mid′) (close (modeOf m .algebra) (slopesOf (modeOf m) (rising vs fs cs hs) (counts 0 (suc d) mid)))
+    (weightOf (modeOf m) (slopesOf (modeOf m) (rising vs fs cs hs) (counts 0 (suc d) mid)))
+
+-- What `apply` asks, and what it leaves, where there is no fault.
+pub record Ready (fault : ℕ) (f : Fields) (mid : Figures) (vs fs cs ns hs es ss : List ℤ) : Type 0 where
+  pub records : List (Record Amounts)
+  pub few : openedOf records ≤ 100_000
+  pub standing : fault ≡ 0 → Standing records (startLevel (recordOf f)) mid vs fs cs ns hs es ss
+  pub deep : f .depth ≤ 63
+  pub in-range : InRange (amounts (f .value) (f .floor) (f .ceiling))
+
+abbrev pub Applied : ℕ → Fields → (mid : Figures) (vs fs cs ns hs es ss : List ℤ) (mid′ : Figures) (vs′ fs′ cs′ ns′ hs′ es′ ss′ : List ℤ) → Type 0
+Applied fault f mid vs fs cs ns hs es ss mid′ vs′ fs′ cs′ ns′ hs′ es′ ss′ =
+    fault ≡ 0 → (xs : List (Record Amounts)) → Standing xs (startLevel (recordOf f)) mid vs fs cs ns hs es ss
+    → Standing (xs ++ (recordOf f ∷ [])) (endLevel (recordOf f)) mid′ vs′ fs′ cs′ ns′ hs′ es′ ss′
+
+-- ---- a record that was read
+
+pub is-open : (f : Fields) → f .kind ≡ 1 → recordOf f ≡ opening (f .depth) (amounts (f .value) (f .floor) (f .ceiling))
+is-open f e = rw (eq-eqb (f .kind) 1 e)
+
+pub is-close : (f : Fields) → (f .kind ≡ 1 → ⊥) → recordOf f ≡ closing (f .depth)
+is-close f e = rw (ne-eqb (f .kind) 1 e)
+
+-- ---- one mode
+
+-- with no left values, the place for them is free
+free-left : {M : Mode} {ls ls′ vs fs cs hs : List ℤ} {n : ℕ} {mid : ℤ} {h : Hill (Fig M) Amounts} {b : ℕ} → length ls′ ≡ 64
+    → StandsFor M (arrays ls vs fs cs hs) (counts 0 n mid) h b → StandsFor M (arrays ls′ vs fs cs hs) (counts 0 n mid) h b
+free-left e s = record {
+  sound = record { left = e; values = s .sound .values; floors = s .sound .floors; ceilings = s .sound .ceilings; held = s .sound .held; nl≤ = s .sound .nl≤; n≤ = s .sound .n≤ };
+  stored = record { left = λ i l. absurd (omega arith); mid = s .stored .mid; held = s .stored .held };
+  is = s .is;
+  fine = s .fine;
+  light = s .light;
+}
+
+module _ (m : ℕ) (xs : List (Record Amounts)) where
+  pub stands-able : {level : ℕ} {vs fs cs hs : List ℤ} {mid : ℤ} → openedOf xs ≤ 100_000 → Stands xs level vs fs cs m hs mid → Able (modeOf m) (rising vs fs cs hs) (counts 0 level mid)
+  stands-able few s = able s (omega arith)
+
+  hill-more : (y : Record Amounts) → step (modeOf m .algebra) (hillOf (modeOf m .algebra) xs) y ≡ hillOf (modeOf m .algebra) (xs ++ (y ∷ []))
+  hill-more y = sym (run-append (modeOf m .algebra) (empty (modeOf m .algebra)) xs (y ∷ []))
+
+  pub stands-open : (d : ℕ) (r : Amounts) {vs fs cs hs : List ℤ} {mid : ℤ} {vs′ fs′ cs′ hs′ : List ℤ} → d < 64 → InRange r → Able (modeOf m) (rising vs fs cs hs) (counts 0 d mid)
+      → Pushed d (r .value) (r .floor) (r .ceiling) (none (modeOf m)) vs fs cs hs vs′ fs′ cs′ hs′
+      → Stands xs d vs fs cs m hs mid → Stands (xs ++ (opening d r ∷ [])) (suc d) vs′ fs′ cs′ m hs′ mid
+  stands-open d r {vs} {fs} {cs} {hs} lt g a p s =
+      let y = opening d r in
+      let t = opened {M = modeOf m} {A = rising vs fs cs hs} a d r lt g refl refl refl p in
+      free-left (t .sound .values)
+      (restate (after-more s (λ h. step (modeOf m .algebra) h y) (modeOf m .sizes .unit) t) (limit * openedOf (xs ++ (y ∷ []))) (hill-more y) (omega (arith, opened-append xs (y ∷ []), modeOf m .unit-small)))
+
+  pub stands-close : (d : ℕ) {vs fs cs hs : List ℤ} {mid : ℤ} {hs′ : List ℤ} {mid′ : ℤ} → Closed m d vs fs cs hs mid hs′ mid′
+      → Stands xs (suc d) vs fs cs m hs mid → Stands (xs ++ (closing d ∷ [])) d vs fs cs m hs′ mid′
+  stands-close d t s =
+      restate (after s (close (modeOf m .algebra)) t) (limit * openedOf (xs ++ (closing d ∷ []))) (hill-more (closing d)) (omega (arith, opened-append xs (closing d ∷ [])))
+
+-- ---- all four
+
+module _ {mid : Figures} {vs fs cs ns hs es ss : List ℤ} where
+  at-open : (f : Fields) (xs : List (Record Amounts)) → f .kind ≡ 1 → Standing xs (startLevel (recordOf f)) mid vs fs cs ns hs es ss → Standing xs (f .depth) mid vs fs cs ns hs es ss
+  at-open f xs k s = subst (λ (y : Record Amounts). Standing xs (startLevel y) mid vs fs cs ns hs es ss) (is-open f k) s
+
+  at-close : (f : Fields) (xs : List (Record Amounts)) → (f .kind ≡ 1 → ⊥) → Standing xs (startLevel (recordOf f)) mid vs fs cs ns hs es ss → Standing xs (suc (f .depth)) mid vs fs cs ns hs es ss
+  at-close f xs k s = subst (λ (y : Record Amounts). Standing xs (startLevel y) mid vs fs cs ns hs es ss) (is-close f k) s
+
+  module _ {fault : ℕ} {f : Fields} (r : Ready fault f mid vs fs cs ns hs es ss) (z : fault ≡ 0) where
+    -- an open is put on top in each mode
+    pub applied-open : {vs′ fs′ cs′ ns′ hs′ es′ ss′ : List ℤ} → f .kind ≡ 1 → Opened (f .depth) (f .value) (f .floor) (f .ceiling) vs fs cs ns hs es ss vs′ fs′ cs′ ns′ hs′ es′ ss′
+        → Applied fault f mid vs fs cs ns hs es ss mid vs′ fs′ cs′ ns′ hs′ es′ ss′
+    applied-open {vs′} {fs′} {cs′} {ns′} {hs′} {es′} {ss′} k o _ xs s =
+        let d = f .depth in
+        let a : Amounts = amounts (f .value) (f .floor) (f .ceiling) in
+        let lt : f .depth < 64 = omega (arith, r .deep) in
+        let g = at-open f (r .records) k (r .standing z) in
+        let t = at-open f xs k s in
+        subst (λ (y : Record Amounts). Standing (xs ++ (y ∷ [])) (endLevel y) mid vs′ fs′ cs′ ns′ hs′ es′ ss′) (sym (is-open f k))
+        (record {
+          net = stands-open 1 xs d a lt (r .in-range) (stands-able 1 (r .records) (r .few) (g .net)) (o .net) (t .net);
+          heaviest = stands-open 2 xs d a lt (r .in-range) (stands-able 2 (r .records) (r .few) (g .heaviest)) (o .heaviest) (t .heaviest);
+          eaten = stands-open 3 xs d a lt (r .in-range) (stands-able 3 (r .records) (r .few) (g .eaten)) (o .eaten) (t .eaten);
+          stamp = stands-open 4 xs d a lt (r .in-range) (stands-able 4 (r .records) (r .few) (g .stamp)) (o .stamp) (t .stamp);
+        })
+
+    module _ (k : f .kind ≡ 1 → ⊥) where
+      top : Standing (r .records) (suc (f .depth)) mid vs fs cs ns hs es ss
+      top = at-close f (r .records) k (r .standing z)
+
+      -- what `close_at` asks in each mode, of the middle values as the code has them
+      pub asks-net : {m : ℤ} → m ≡ mid .net → Able (modeOf 1) (rising vs fs cs ns) (counts 0 (suc (f .depth)) m)
+      asks-net e = rw e (stands-able 1 (r .records) (r .few) (top .net))
+
+      pub asks-heaviest : {m : ℤ} → m ≡ mid .heaviest → Able (modeOf 2) (rising vs fs cs hs) (counts 0 (suc (f .depth)) m)
+      asks-heaviest e = rw e (stands-able 2 (r .records) (r .few) (top .heaviest))
+
+      pub asks-eaten : {m : ℤ} → m ≡ mid .eaten → Able (modeOf 3) (rising vs fs cs es) (counts 0 (suc (f .depth)) m)
+      asks-eaten e = rw e (stands-able 3 (r .records) (r .few) (top .eaten))
+
+      pub asks-stamp : {m : ℤ} → m ≡ mid .stamp → Able (modeOf 4) (rising vs fs cs ss) (counts 0 (suc (f .depth)) m)
+      asks-stamp e = rw e (stands-able 4 (r .records) (r .few) (top .stamp))
+
+      -- a close closes the deepest record in each mode
+      pub applied-close : {mid′ : Figures} {ns′ hs′ es′ ss′ : List ℤ} {mn mh me ms n h e s : ℤ}
+          → mn ≡ mid .net → mid′ .net ≡ n → Closed 1 (f .depth) vs fs cs ns mn ns′ n
+          → mh ≡ mid .heaviest → mid′ .heaviest ≡ h → Closed 2 (f .depth) vs fs cs hs mh hs′ h
+          → me ≡ mid .eaten → mid′ .eaten ≡ e → Closed 3 (f .depth) vs fs cs es me es′ e
+          → ms ≡ mid .stamp → mid′ .stamp ≡ s → Closed 4 (f .depth) vs fs cs ss ms ss′ s
+          → Applied fault f mid vs fs cs ns hs es ss mid′ vs fs cs ns′ hs′ es′ ss′
+      applied-close {mid′} {ns′} {hs′} {es′} {ss′} p p′ n q q′ h u u′ e v v′ s _ xs st =
+          let d = f .depth in
+          let t = at-close f xs k st in
+          subst (λ (y : Record Amounts). Standing (xs ++ (y ∷ [])) (endLevel y) mid′ vs fs cs ns′ hs′ es′ ss′) (sym (is-close f k))
+          (record {
+            net = rw p′ (stands-close 1 xs d n (rw p (t .net)));
+            heaviest = rw q′ (stands-close 2 xs d h (rw q (t .heaviest)));
+            eaten = rw u′ (stands-close 3 xs d e (rw u (t .eaten)));
+            stamp = rw v′ (stands-close 4 xs d s (rw v (t .stamp)));
+          })

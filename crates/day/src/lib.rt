@@ -1,0 +1,265 @@
+// The day's figures: net, heaviest, eaten and stamp of one log, in one pass over its records.
+ghost use mathlib.Core.Path.{_≡_};
+ghost use Prim.Native.Nat.{suc, _≤_, _<_};
+ghost use lib.ListN.{length};
+ghost use lib.Seq.{sets};
+ghost use lib.Dec.{eqb};
+ghost use Rattle.hill.specs.Verdict.{low, ask};
+ghost use Rattle.figure.specs.Mode.{modeOf};
+ghost use Rattle.slopes.specs.Arrays.{Able};
+ghost use Rattle.slopes.specs.Laws.{counts};
+ghost use Rattle.summary.specs.Outcomes.{recordOf};
+ghost use Rattle.text.specs.Line.{dayLine};
+ghost use Rattle.day.specs.Day.{dayOutcome, dayAnswer};
+ghost use Rattle.day.specs.Levels.{verdictOf, meeting, Noted};
+ghost use Rattle.day.specs.Pass.{rising, Opened, Closed, Ready, Applied};
+use record::Fields;
+use record::Read;
+use text::Figures;
+
+// The answer of `figures`. `dayAnswer` says what each case means.
+pub enum Day {
+    Figures(Figures),
+    Refused(u8),
+}
+
+// The levels of the records so far: whether there is any, the level where the last one ended (0 before the first), and the lowest fault
+// of questions 7, 8 and, for the first level, 11; 0 where there is none. Question 9 cannot get a "no": 65,536 bytes have too few records.
+pub struct Tally {
+    pub begun: bool,
+    pub level: usize,
+    pub fault: u8,
+}
+
+// Question 11 of one level: a log begins and ends at level 0.
+fn ground(level: usize) -> u8
+    ensures { λ r. ⌜ verdictOf r ≡ ask 11 (eqb level 0) ⌝ }
+{
+    if level == 0 { 0 } else { 11 }
+}
+
+// The fault where a record starts at level `start`.
+fn meet(begun: bool, level: usize, start: usize) -> u8
+    ensures { λ r. ⌜ verdictOf r ≡ meeting begun level start ⌝ }
+{
+    if begun {
+        if level != start {
+            return 7;
+        }
+        if level == 0 {
+            return 8;
+        }
+        return 0;
+    }
+    ground(start)
+}
+
+// The lower of two faults.
+fn lower(a: u8, b: u8) -> u8
+    ensures { λ r. ⌜ verdictOf r ≡ low (verdictOf a) (verdictOf b) ⌝ }
+{
+    if a == 0 {
+        return b;
+    }
+    if b == 0 {
+        return a;
+    }
+    if a < b { a } else { b }
+}
+
+// A record goes from one level to another.
+fn note(t: Tally, f: Fields) -> Tally
+    requires { ⌜ f .depth ≤ 63 ⌝ }
+    ensures { λ r. ⌜ Noted t (recordOf f) r ⌝ }
+{
+    let depth = f.depth as usize;
+    if f.kind == 1 {
+        return Tally {
+            begun: true,
+            level: depth + 1,
+            fault: lower(t.fault, meet(t.begun, t.level, depth)),
+        };
+    }
+    Tally {
+        begun: true,
+        level: depth,
+        fault: lower(t.fault, meet(t.begun, t.level, depth + 1)),
+    }
+}
+
+// An open: the record stands at its depth, and holds nothing yet in each mode.
+fn open_at(
+    depth: usize,
+    value: i32,
+    floor: i32,
+    ceiling: i32,
+    values: &mut [i32; 64],
+    floors: &mut [i32; 64],
+    ceilings: &mut [i32; 64],
+    net: &mut [i64; 64],
+    heaviest: &mut [i64; 64],
+    eaten: &mut [i64; 64],
+    stamp: &mut [i64; 64],
+)
+    requires { ⌜ depth < 64 ⌝ }
+    ensures { λ _. ⌜ Opened depth value floor ceiling
+        (now (values .entry)) (now (floors .entry)) (now (ceilings .entry)) (now (net .entry)) (now (heaviest .entry)) (now (eaten .entry)) (now (stamp .entry))
+        (now (values .exit)) (now (floors .exit)) (now (ceilings .exit)) (now (net .exit)) (now (heaviest .exit)) (now (eaten .exit)) (now (stamp .exit)) ⌝ }
+{
+    values[depth] = value;
+    floors[depth] = floor;
+    ceilings[depth] = ceiling;
+    net[depth] = figure::nothing(1);
+    heaviest[depth] = figure::nothing(2);
+    eaten[depth] = figure::nothing(3);
+    stamp[depth] = figure::nothing(4);
+}
+
+// A close in one mode: the figure of the record at this depth joins the level below. The answer is the middle value.
+fn close_at(
+    mode: u16,
+    depth: usize,
+    values: &[i32; 64],
+    floors: &[i32; 64],
+    ceilings: &[i32; 64],
+    held: &mut [i64; 64],
+    mid: i64,
+) -> i64
+    requires { ⌜ Able (modeOf mode) (rising (now values) (now floors) (now ceilings) (now held)) (counts 0 (suc depth) mid) ⌝ }
+    ensures { λ r. ⌜ Closed mode depth (now (values .entry)) (now (floors .entry)) (now (ceilings .entry)) (now (held .entry)) mid (now (held .exit)) r ⌝ }
+{
+    let figure = figure::through(
+        mode,
+        values[depth],
+        floors[depth],
+        ceilings[depth],
+        held[depth],
+    );
+    slopes::add(mode, held, depth, mid, figure)
+}
+
+// One record in all four modes, as long as there is no fault. The answer are the middle values.
+fn apply(
+    fault: u8,
+    f: Fields,
+    mid: Figures,
+    values: &mut [i32; 64],
+    floors: &mut [i32; 64],
+    ceilings: &mut [i32; 64],
+    net: &mut [i64; 64],
+    heaviest: &mut [i64; 64],
+    eaten: &mut [i64; 64],
+    stamp: &mut [i64; 64],
+) -> Figures
+    requires { ⌜ Ready fault f mid (now values) (now floors) (now ceilings) (now net) (now heaviest) (now eaten) (now stamp) ⌝ }
+    ensures { λ r. ⌜ Applied fault f
+        mid (now (values .entry)) (now (floors .entry)) (now (ceilings .entry)) (now (net .entry)) (now (heaviest .entry)) (now (eaten .entry)) (now (stamp .entry))
+        r (now (values .exit)) (now (floors .exit)) (now (ceilings .exit)) (now (net .exit)) (now (heaviest .exit)) (now (eaten .exit)) (now (stamp .exit)) ⌝ }
+{
+    if fault != 0 {
+        return mid;
+    }
+    let depth = f.depth as usize;
+    if f.kind == 1 {
+        open_at(
+            depth,
+            f.value,
+            f.floor,
+            f.ceiling,
+            values,
+            floors,
+            ceilings,
+            net,
+            heaviest,
+            eaten,
+            stamp,
+        );
+        return mid;
+    }
+    let n = close_at(1, depth, &*values, &*floors, &*ceilings, net, mid.net);
+    let h = close_at(
+        2,
+        depth,
+        &*values,
+        &*floors,
+        &*ceilings,
+        heaviest,
+        mid.heaviest,
+    );
+    let e = close_at(3, depth, &*values, &*floors, &*ceilings, eaten, mid.eaten);
+    let s = close_at(4, depth, &*values, &*floors, &*ceilings, stamp, mid.stamp);
+    Figures {
+        net: n,
+        heaviest: h,
+        eaten: e,
+        stamp: s,
+    }
+}
+
+// The day's four figures, or the first question that gets a "no".
+pub fn figures(log: &[u8]) -> Day
+    ensures { λ r. ⌜ dayAnswer r ≡ dayOutcome (now (log .entry)) ⌝ }
+{
+    if 65536 < log.len() {
+        return Day::Refused(2);
+    }
+    let mut values = [0i32; 64];
+    let mut floors = [0i32; 64];
+    let mut ceilings = [0i32; 64];
+    let mut net = [0i64; 64];
+    let mut heaviest = [0i64; 64];
+    let mut eaten = [0i64; 64];
+    let mut stamp = [0i64; 64];
+    let mut mid = Figures {
+        net: figure::nothing(1),
+        heaviest: figure::nothing(2),
+        eaten: figure::nothing(3),
+        stamp: figure::nothing(4),
+    };
+    let mut t = Tally {
+        begun: false,
+        level: 0,
+        fault: 0,
+    };
+    let mut rest = log;
+    while 0 < rest.len() {
+        let Read::Record(f) = record::read_first(rest) else {
+            return Day::Refused(3);
+        };
+        let length = f.length as usize;
+        t = note(t, f);
+        mid = apply(
+            t.fault,
+            f,
+            mid,
+            &mut values,
+            &mut floors,
+            &mut ceilings,
+            &mut net,
+            &mut heaviest,
+            &mut eaten,
+            &mut stamp,
+        );
+        rest = &rest[length..];
+    }
+    if t.begun {
+        let fault = lower(t.fault, ground(t.level));
+        if fault != 0 {
+            return Day::Refused(fault);
+        }
+        return Day::Figures(mid);
+    }
+    Day::Refused(10)
+}
+
+// The line that the day program prints for a log, from the buffer's start; the answer is its length.
+pub fn text(log: &[u8], out: &mut [u8; 128]) -> usize
+    ensures answer { λ r. ⌜ r ≡ length (dayLine (dayOutcome (now (log .entry)))) ⌝ }
+    ensures buffer { λ _. ⌜ now (out .exit) ≡ sets (now (out .entry)) 0 (dayLine (dayOutcome (now (log .entry)))) ⌝ }
+    ensures fits { λ r. ⌜ r ≤ 128 ⌝ }
+{
+    match figures(log) {
+        Day::Figures(f) => text::write_line(f, out),
+        Day::Refused(n) => text::write_refusal(n, out),
+    }
+}
