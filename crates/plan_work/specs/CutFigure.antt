@@ -18,7 +18,7 @@ use Rattle.hill.specs.Summary.{closedIn, done, pending}
 use Rattle.hill.specs.Row.{joined}
 use Rattle.hill.specs.Spell.{Meets, joints-meet}
 use Rattle.hill.specs.Places.{places-same, places-iff, Selected, select-places}
-use Rattle.hill.specs.HeldPlaces.{opening-closing, opens-inside, first-close, opensAt, endsAt, heldFrom, held-listed, held-figure}
+use Rattle.hill.specs.HeldPlaces.{closed-once, opening-closing, opens-inside, first-close, opensAt, endsAt, heldFrom, held-listed, held-figure}
 use Rattle.hill.specs.Crossings.{Meeting, joints-meeting, falls}
 use Rattle.hill.specs.ChunkPlaces.{value-listed, value-places, unclosed-places}
 use Rattle.join_plan.specs.ByRecords.{place}
@@ -36,12 +36,6 @@ module _ {R : Type 0} where
       go : Dec (c ≡ l) → Dec ((s : R) × (_≡_ {A = Record R} (opening c r) (opening l s)))
       go (yes e) = yes (r, ap (λ k. opening k r) e)
       go (no n) = no (λ h. n (ap depth (h .1)))
-
-  -- The close that closes a record is one.
-  pub closed-once : (log : List (Record R)) (p c e d : ℕ) → ClosedBy log p c d → ClosedBy log p e d → c ≡ e
-  closed-once log p c e d a b =
-      dite (decLt c e) (λ l. absurd (b .first c (a .order) l (a .closed)))
-      (λ l. dite (decLt e c) (λ m. absurd (a .first e (b .order) m (b .closed))) (λ m. omega arith))
 
   module _ (cs : List (List (Record R))) (w : WellFormedLog (joined cs)) where
     abbrev log : List (Record R)

@@ -1,75 +1,31 @@
 -- The work along the plan and the merge of the row, hill after hill, go together. Assumes nothing.
 use mathlib.Core.Path.{_≡_, refl, sym, ap, _∙_, subst}
-use mathlib.Core.Bool.{Bool, true, false, _&&_, cond}
-use mathlib.Core.List.{List, [], _∷_, _++_}
-use mathlib.Core.Logic.{_≢_, dite}
+use mathlib.Core.List.{List, [], _∷_}
+use mathlib.Core.Logic.{dite}
 use Prim.Native.Nat.{ℕ, zero, suc, _-_, min, max, _≤_, _<_}
 use native.Mathlib.Nat.{le-refl}
 use native.Mathlib.Decide.{decLt, decLe}
 use native.Mathlib.Omega.{arith}
-use lib.Dec.{leb, eqb}
-use borrow.Author.Tests.{le-leb, lt-leb, eq-eqb, ne-eqb}
+use borrow.Author.Tests.{le-leb}
 use Rattle.algebra.specs.Algebra.{Algebra, Laws, Commutative}
-use Rattle.algebra.specs.Run.{through}
 use Rattle.hill.specs.Summary.{Summary, middle}
 use Rattle.join_plan.specs.Plan.{Line}
 use Rattle.join_plan.specs.Scan.{walk, plan}
 use Rattle.join_plan.specs.PlanFacts.{walk-stop}
-use Rattle.plan_work.specs.Runs.{leftAt, openFrom, runLevels}
+use Rattle.plan_work.specs.Runs.{leftAt, openFrom}
 use Rattle.plan_work.specs.Work.{Done, outcomesAt, given, worked, lastOutcome}
+use Rattle.plan_work.specs.WorkLaws.{gives, gives-all, gives-before, gives-other, outs-nil, outs-cons, work, worked-nil, worked-cons, worked-append}
 use Rattle.plan_work.specs.GateExact.{Begins}
 use Rattle.plan_work.specs.Fold.{down, down-none, down-step, down-split, down-cong}
 use Rattle.plan_work.specs.Stack.{shut, own}
 use Rattle.plan_work.specs.Merged.{Meeting, closed, state, pit, state-own, state-peak, state-under}
 use Rattle.plan_work.specs.RowLevels.{chunk, level, floor, sides, meeting, lines-nil, lines-skip, lines-join, plan-zero, plan-suc, middles, middles-none, middles-add, middles-other, run-down}
 
-and-no : (t : Bool) → t && false ≡ false
-and-no true = refl
-and-no false = refl
-
--- The clauses of Work's definitions, as equations to rewrite by.
 module _ {R : Type 0} (𝒜 : Algebra R) where
   open Algebra 𝒜 using (Fig, ι, _⊗_)
 
   infixl 70 _⊗_
-  -- what an earlier line gives to the x of a line from i to j
-  abbrev gives : (i j l : ℕ) → Done Fig → Fig
-  gives i j l d = cond (leb i (d .line .i) && leb (d .line .j) j && eqb (d .line .lowest) l) (d .out) ι
-
-  gives-all : (i j l : ℕ) (d : Done Fig) → i ≤ d .line .i → d .line .j ≤ j → d .line .lowest ≡ l → gives i j l d ≡ d .out
-  gives-all i j l d a b c = rw (le-leb i (d .line .i) a, le-leb (d .line .j) j b, eq-eqb (d .line .lowest) l c)
-
-  gives-before : (i j l : ℕ) (d : Done Fig) → d .line .i < i → gives i j l d ≡ ι
-  gives-before i j l d a = rw (lt-leb i (d .line .i) a)
-
-  gives-other : (i j l : ℕ) (d : Done Fig) → d .line .lowest ≢ l → gives i j l d ≡ ι
-  gives-other i j l d c = rw (ne-eqb (d .line .lowest) l c, and-no (leb i (d .line .i) && leb (d .line .j) j))
-
-  outs-nil : (i j l : ℕ) → outcomesAt 𝒜 i j l [] ≡ ι
-  unfolding outcomesAt
-  outs-nil i j l = refl
-
-  outs-cons : (i j l : ℕ) (d : Done Fig) (ds : List (Done Fig)) → outcomesAt 𝒜 i j l (d ∷ ds) ≡ gives i j l d ⊗ outcomesAt 𝒜 i j l ds
-  unfolding outcomesAt
-  outs-cons i j l d ds = refl
-
   module _ (row : List (Summary Fig R)) where
-    -- a line, worked after ds
-    abbrev pub work : Line → List (Done Fig) → Done Fig
-    work e ds = record { line = e; out = through 𝒜 (runLevels 𝒜 row e) (given 𝒜 row e ds) }
-
-    worked-nil : (ds : List (Done Fig)) → worked 𝒜 row [] ds ≡ ds
-    unfolding worked
-    worked-nil ds = refl
-
-    worked-cons : (e : Line) (es : List Line) (ds : List (Done Fig)) → worked 𝒜 row (e ∷ es) ds ≡ worked 𝒜 row es (work e ds ∷ ds)
-    unfolding worked
-    worked-cons e es ds = refl
-
-    worked-append : (es fs : List Line) (ds : List (Done Fig)) → worked 𝒜 row (es ++ fs) ds ≡ worked 𝒜 row fs (worked 𝒜 row es ds)
-    worked-append [] fs ds = rw worked-nil
-    worked-append (e ∷ es) fs ds = rw (worked-cons e (es ++ fs), worked-cons e es) (worked-append es fs (work e ds ∷ ds))
-
     -- lines that join only hills before j, with the bounds that every line keeps
     abbrev Ok : ℕ → List (Done Fig) → Type 0
     Ok j [] = Unit {0}
@@ -105,19 +61,19 @@ module _ {R : Type 0} (𝒜 : Algebra R) where
       last : (y : Fig) → c < level 𝒜 row j → lastOutcome 𝒜 ds y ≡ got j c
 
     outs-none : Laws 𝒜 → (i j l : ℕ) (ds : List (Done Fig)) → Ok j ds → ((k : ℕ) → i < k → k < j → l < floor 𝒜 row k) → outcomesAt 𝒜 i j l ds ≡ ι
-    outs-none ℒ i j l [] o f = outs-nil i j l
-    outs-none ℒ i j l (d ∷ ds) o f = rw (outs-cons i j l d ds, outs-none ℒ i j l ds (o .3) f, ℒ .unit-r) (dite (decLe i (d .line .i)) after before)
+    outs-none ℒ i j l [] o f = outs-nil 𝒜 i j l
+    outs-none ℒ i j l (d ∷ ds) o f = rw (outs-cons 𝒜 i j l d ds, outs-none ℒ i j l ds (o .3) f, ℒ .unit-r) (dite (decLe i (d .line .i)) after before)
       where
-        after : i ≤ d .line .i → gives i j l d ≡ ι
-        after c = let h : l < floor 𝒜 row (d .line .j) = f (d .line .j) (omega (arith, o .0)) (o .1) in gives-other i j l d (omega (arith, o .2))
+        after : i ≤ d .line .i → gives 𝒜 i j l d ≡ ι
+        after c = let h : l < floor 𝒜 row (d .line .j) = f (d .line .j) (omega (arith, o .0)) (o .1) in gives-other 𝒜 i j l d (omega (arith, o .2))
 
-        before : (i ≤ d .line .i → ⊥) → gives i j l d ≡ ι
-        before c = gives-before i j l d (omega arith)
+        before : (i ≤ d .line .i → ⊥) → gives 𝒜 i j l d ≡ ι
+        before c = gives-before 𝒜 i j l d (omega arith)
 
     outs-wide : (i j l : ℕ) (ds : List (Done Fig)) → Ok (suc j) ds → outcomesAt 𝒜 i j l ds ≡ outcomesAt 𝒜 i (suc j) l ds
-    outs-wide i j l [] o = rw (outs-nil i j l, outs-nil i (suc j) l)
+    outs-wide i j l [] o = rw (outs-nil 𝒜 i j l, outs-nil 𝒜 i (suc j) l)
     outs-wide i j l (d ∷ ds) o =
-        rw (outs-cons i j l d ds, outs-cons i (suc j) l d ds, outs-wide i j l ds (o .3), le-leb (d .line .j) j (omega (arith, o .1)), le-leb (d .line .j) (suc j) (omega (arith, o .1)))
+        rw (outs-cons 𝒜 i j l d ds, outs-cons 𝒜 i (suc j) l d ds, outs-wide i j l ds (o .3), le-leb (d .line .j) j (omega (arith, o .1)), le-leb (d .line .j) (suc j) (omega (arith, o .1)))
 
     ok-wide : (j : ℕ) (ds : List (Done Fig)) → Ok j ds → Ok (suc j) ds
     ok-wide j [] o = tt

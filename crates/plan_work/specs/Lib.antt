@@ -1,7 +1,11 @@
--- Definitions: the runs, the work along the plan, and the gate of a row.
+-- Definitions: the runs, the work along the plan, the gate of a row, and the runs by the records of a log.
 pub mod Runs
 pub mod Work
 pub mod Gate
+pub mod RunsByRecords
+-- Rows computed, and the definitions' clauses.
+pub mod Examples
+pub mod WorkLaws
 -- The gate finds the fault that finishing the merged row answers.
 pub mod GateExact
 -- The merge of a row, level by level, and the row and its plan so read.
@@ -16,10 +20,7 @@ pub mod LogWork
 -- Each line has its run.
 pub mod RunsExact
 -- The run of a line is the figure of its lowest-depth record as a function of x.
-pub mod RunsByRecords
 pub mod ChunkFigures
 pub mod PlaceLists
 pub mod CutFigure
 pub mod RunOfLog
--- Rows computed.
-pub mod Examples

@@ -9,8 +9,8 @@ use native.Mathlib.Omega.{arith}
 use native.Mathlib.Decide.{decLt}
 use lib.Dec.{eqb}
 use borrow.Author.Tests.{eq-eqb, ne-eqb}
-use lib.ListN.{length, getD, take, drop, length-take, List·getD-map, length-map, List·getD-eq-default, drop-of-length-le}
-use lib.Seq.{take-suc, take-all, drop-append-le, length-take-le}
+use lib.ListN.{length, getD, take, drop, List·getD-map, length-map, List·getD-eq-default}
+use lib.Seq.{take-all}
 use Rattle.algebra.specs.Algebra.{Algebra, Laws}
 use Rattle.algebra.specs.Run.{through}
 use Rattle.hill.specs.Summary.{Hill, Summary, spoilt, whole, blank, part, rise, fall, middle}
@@ -21,6 +21,7 @@ use Rattle.join_plan.specs.PlanExact.{planOf-scan}
 use Rattle.join_plan.specs.PlanFacts.{walk-stop}
 use Rattle.plan_work.specs.Runs.{peakOf, slopesOf, summaryAt, runLevels}
 use Rattle.plan_work.specs.Work.{middlesAt}
+use Rattle.plan_work.specs.WorkLaws.{middles-start, middles-step}
 use Rattle.plan_work.specs.GateExact.{Chain, Begins}
 use Rattle.plan_work.specs.Fold.{down}
 use Rattle.plan_work.specs.Stack.{own, through-levels}
@@ -186,20 +187,13 @@ module _ {R : Type 0} (𝒜 : Algebra R) (row : List (Summary (𝒜 .Fig) R)) wh
   module _ (ℒ : Laws 𝒜) where
     open Laws ℒ using (assoc, unit-l, unit-r)
 
-    middlesAt-snoc : (l : ℕ) (ss : List (Summary Fig R)) (s : Summary Fig R) → middlesAt 𝒜 l (ss ++ (s ∷ [])) ≡ middlesAt 𝒜 l ss ⊗ cond (eqb (peakOf 𝒜 s) l) (middle (slopesOf 𝒜 s)) ι
-    unfolding middlesAt
-    middlesAt-snoc l [] s = unit-r _ ∙ sym (unit-l _)
-    middlesAt-snoc l (t ∷ ss) s = ap (λ (y : Fig). cond (eqb (peakOf 𝒜 t) l) (middle (slopesOf 𝒜 t)) ι ⊗ y) (middlesAt-snoc l ss s) ∙ sym (assoc _ _ _)
-
     -- The next hill, and where there is none yet.
     middles-next : (i k l : ℕ) → i < k → middles i (suc k) l ≡ middles i k l ⊗ middleIf k l
     unfolding middles floor
     middles-next i k l a = dite (decLt k (length row)) inside outside
       where
         inside : k < length row → middlesAt 𝒜 l (drop (suc i) (take (suc k) row)) ≡ middlesAt 𝒜 l (drop (suc i) (take k row)) ⊗ middleIf k l
-        inside b =
-            rw (take-suc row k blank b, drop-append-le (suc i) (take k row) (summaryAt 𝒜 row k ∷ []) (rw (length-take-le k row (omega arith)) a), middlesAt-snoc l (drop (suc i) (take k row)) (summaryAt 𝒜 row k))
-            (ap (λ (y : Fig). middlesAt 𝒜 l (drop (suc i) (take k row)) ⊗ y) (middle-floor (summaryAt 𝒜 row k) (level k) l))
+        inside b = middles-step 𝒜 ℒ row i k l a b ∙ ap (λ (y : Fig). middlesAt 𝒜 l (drop (suc i) (take k row)) ⊗ y) (middle-floor (summaryAt 𝒜 row k) (level k) l)
 
         outside : (k < length row → ⊥) → middlesAt 𝒜 l (drop (suc i) (take (suc k) row)) ≡ middlesAt 𝒜 l (drop (suc i) (take k row)) ⊗ middleIf k l
         outside b =
@@ -207,8 +201,8 @@ module _ {R : Type 0} (𝒜 : Algebra R) (row : List (Summary (𝒜 .Fig) R)) wh
             (sym (unit-r (middlesAt 𝒜 l (drop (suc i) row))))
 
     middles-first : (i j l : ℕ) → j ≤ suc i → middles i j l ≡ ι
-    unfolding middles middlesAt
-    middles-first i j l a = rw (drop-of-length-le (take j row) {i = suc i} (rw (length-take j row) (omega arith)))
+    unfolding middles
+    middles-first i j l a = middles-start 𝒜 row i j l a
 
     pub middles-none : (i j l : ℕ) → ((k : ℕ) → i < k → k < j → l < floor k) → middles i j l ≡ ι
     middles-none i zero l f = middles-first i zero l (omega arith)

@@ -18,6 +18,7 @@ use Rattle.hill.specs.Summary.{Hill, Summary, blank, summaryOf, done, pending, 
 use Rattle.hill.specs.Merge.{mergeSummary}
 use Rattle.hill.specs.Row.{joined}
 use Rattle.hill.specs.RowLaws.{inOrder, mergeRow-inOrder, mergeRow-summaries}
+use Rattle.hill.specs.HeldPlaces.{closed-once}
 use Rattle.hill.specs.ChunkPlaces.{unclosed-exists, unclosed-places, so-far-listed}
 use Rattle.join_plan.specs.Plan.{Levels, Line, planOfRow, levelsOfSummary, rowOf}
 use Rattle.join_plan.specs.Joins.{Opens, Closes, Joins, IsLine}
@@ -29,7 +30,7 @@ use Rattle.join_plan.specs.LogJoins.{place-le, closed-high, joins-exact}
 use Rattle.plan_work.specs.Runs.{peakOf as peakOfSummary, slopesOf, leftAt, openFrom, levelOf, levelsDown, summaryAt, runLevels}
 use Rattle.plan_work.specs.RunsExact.{RunOf}
 use Rattle.plan_work.specs.RunsByRecords.{Links, Apart}
-use Rattle.plan_work.specs.CutFigure.{Quiet, closed-once, held-closes, held-late, linked-figure, apart-some}
+use Rattle.plan_work.specs.CutFigure.{Quiet, held-closes, held-late, linked-figure, apart-some}
 
 quiet-of : {R : Type 0} (c : List (Record R)) → chunkFault c ≡ pass → Quiet c
 quiet-of [] v = tt
