@@ -77,7 +77,7 @@ module _ (M : Mode) where
   entry-readable true d r h = h
   entry-readable false d r h = h .0
 
-  start-low : (x : Record Amounts) → Readable (M .algebra) (M .sizes) x → startLevel x ≤ 64
+  pub start-low : (x : Record Amounts) → Readable (M .algebra) (M .sizes) x → startLevel x ≤ 64
   start-low (opening d r) h = omega (arith, h .0)
   start-low (closing d) h = omega arith
 
@@ -87,7 +87,7 @@ module _ (M : Mode) where
 
   -- ---- a hill's slopes go from its peak to the start and to the end
 
-  count-few : (n : ℕ) → n ≤ 100000 → count n ≡ pass
+  pub count-few : (n : ℕ) → n ≤ 100000 → count n ≡ pass
   unfolding count
   count-few n h = rw (le-leb n 100000 h)
 
@@ -132,15 +132,15 @@ module _ (M : Mode) where
   pub record Inv (s rest : List ℕ) (A : Arrays) (c : Counts) (t : Tally) : Type 0 where
     pub done : List Fields
     pub handed : Handed s rest done
-    pub readable : AllRead (chunkOf done)
     pub summed : Summed M A c t (chunkOf done)
 
   pub begin : (s : List ℕ) (A : Arrays) (z : ℤ) (t : Tally) → Lent A → z ≡ none M → Fresh t → Inv s s A (counts 0 0 z) t
   begin s A z t l e f = record {
     done = [];
     handed = handed.start s;
-    readable = tt;
     summed = record {
+      readable = tt;
+      few = omega arith;
       tallied = f;
       hill = λ _. restate (emptied M A z (record { left = l .left; values = l .values; floors = l .floors; ceilings = l .ceilings; held = l .held; nl≤ = omega arith; n≤ = omega arith }) e)
           (M .sizes .unit * 0) refl (omega arith);
@@ -148,11 +148,8 @@ module _ (M : Mode) where
   }
 
   module _ {s rest : List ℕ} {A : Arrays} {c : Counts} {t : Tally} (i : Inv s rest A c t) (short : length s ≤ 65536) where
-    few : openedOf (chunkOf (i .done)) ≤ 10922
-    few = omega (arith, opened-few (i .done), i .handed .few)
-
     pub opened-low : t .opened ≤ 65536
-    opened-low = omega (arith, opened-is (chunkOf (i .done)) t (i .summed .tallied), few)
+    opened-low = omega (arith, opened-is (chunkOf (i .done)) t (i .summed .tallied), i .summed .few)
 
     module _ (f : Fields) (r : readOf rest ≡ result f) where
       abbrev a : Amounts
@@ -169,13 +166,13 @@ module _ (M : Mode) where
         quiet e = faultless y u e (chunkOf (i .done)) t (i .summed .tallied) v
 
         light : M .sizes .unit * openedOf (chunkOf (i .done)) < 2 ^ 62
-        light = unit-bound M (openedOf (chunkOf (i .done))) (omega (arith, few))
+        light = unit-bound M (openedOf (chunkOf (i .done))) (omega (arith, i .summed .few))
 
         pub grows : Grows M (u .fault) f A c
         grows = record {
           able = λ e. able (i .summed .hill (quiet e)) light;
           room = λ e. fits-room (eqb (f .kind) 1) (f .depth) a in-range
-              (hill-fits y t u e (chunkOf (i .done)) (omega (arith, few)) (i .readable) (i .summed .hill (quiet e)) (i .summed .tallied) v);
+              (hill-fits y t u e (chunkOf (i .done)) (omega (arith, i .summed .few)) (i .summed .readable) (i .summed .hill (quiet e)) (i .summed .tallied) v);
         }
 
         pub again : {A′ : Arrays} {c′ : Counts} → Grown M (u .fault) f A c A′ c′ → Inv s (take (length rest - f .length) (drop (f .length) rest)) A′ c′ u
@@ -185,8 +182,9 @@ module _ (M : Mode) where
             record {
               done = i .done ++ (f ∷ []);
               handed = handed.next (i .handed) f r;
-              readable = rw e (readable-append (M .algebra) (M .sizes) xs (y ∷ []) (i .readable) (entry-readable (eqb (f .kind) 1) (f .depth) a in-range, tt));
               summed = rw e record {
+                readable = readable-append (M .algebra) (M .sizes) xs (y ∷ []) (i .summed .readable) (entry-readable (eqb (f .kind) 1) (f .depth) a in-range, tt);
+                few = rw (← e) (omega (arith, opened-few (i .done ++ (f ∷ [])), handed.next (i .handed) f r .few));
                 tallied = v;
                 hill = λ z. restate (after-more (i .summed .hill (quiet z)) (λ h. step (M .algebra) h (recordOf f)) (cost M (eqb (f .kind) 1)) (g z))
                     (M .sizes .unit * openedOf (xs ++ (y ∷ [])))

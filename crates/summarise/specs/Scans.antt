@@ -1,7 +1,7 @@
 -- What the functions of a pass over a chunk ask and leave. Definitions only.
 use mathlib.Core.Path.{_≡_}
 use mathlib.Core.List.{List}
-use Prim.Native.Nat.{ℕ, _+_, _*_}
+use Prim.Native.Nat.{ℕ, _+_, _*_, _≤_}
 use lib.Dec.{eqb}
 use lib.ListN.{length}
 use Rattle.gate.specs.Outcome.{refused, result}
@@ -9,6 +9,7 @@ use Rattle.record.specs.Record.{recordsOf}
 use Rattle.record.specs.declared.Fields.{Fields}
 use Rattle.hill.specs.Log.{Record, openedOf}
 use Rattle.hill.specs.Building.{step, hillOf}
+use Rattle.hill.specs.Valid.{AllReadable}
 use Rattle.figure.specs.FourModes.{Amounts}
 use Rattle.figure.specs.Mode.{Mode}
 use Rattle.figure.specs.Stored.{amounts}
@@ -41,6 +42,8 @@ pub record Lent (A : Arrays) : Type 0 where
 
 -- What is known of the records xs: t tells of them, and where there is no fault the arrays stand for their hill.
 pub record Summed (M : Mode) (A : Arrays) (c : Counts) (t : Tally) (xs : List (Record Amounts)) : Type 0 where
+  pub readable : AllReadable (M .algebra) (M .sizes) xs
+  pub few : openedOf xs ≤ 65536
   pub tallied : Tallied xs t
   pub hill : t .fault ≡ 0 → StandsFor M A c (hillOf (M .algebra) xs) (M .sizes .unit * openedOf xs)
 
@@ -48,3 +51,7 @@ pub record Summed (M : Mode) (A : Arrays) (c : Counts) (t : Tally) (xs : List (R
 abbrev pub Scanned : Mode → List ℕ → Arrays → Scan → Type 0
 Scanned M s A Refused = recordsOf s ≡ refused 3
 Scanned M s A (Done t c) = (fs : List Fields) × (recordsOf s ≡ result fs) × Summed M A c t (chunkOf fs)
+
+-- What is left in the arrays and in t is what is known of some records.
+abbrev pub Concludes : Mode → Arrays → Counts → Tally → Type 0
+Concludes M A c t = (xs : List (Record Amounts)) × Summed M A c t xs

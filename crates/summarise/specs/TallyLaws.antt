@@ -53,15 +53,15 @@ no-fault (suc n) e = cc
 abbrev pub tally : (start level fault opened : ℕ) → Tally
 tally s l f o = record { begun = true; start = s; level = l; fault = f; opened = o }
 
-not-begun : (b : Bool) → not b ≡ true → b ≡ false
+pub not-begun : (b : Bool) → not b ≡ true → b ≡ false
 not-begun true e = sym e
 not-begun false e = refl
 
-begun : (b : Bool) → not b ≡ false → b ≡ true
+pub begun : (b : Bool) → not b ≡ false → b ≡ true
 begun true e = refl
 begun false e = sym e
 
-not-both : {b : Bool} → b ≡ true → b ≡ false → ⊥
+pub not-both : {b : Bool} → b ≡ true → b ≡ false → ⊥
 not-both e f = subst T (sym e ∙ f) tt
 
 module _ (y : Record Amounts) {from to o : ℕ} (es : startLevel y ≡ from) (ee : endLevel y ≡ to) (eo : opens y ≡ o) (t : Tally) where
