@@ -1,0 +1,98 @@
+-- Question 12 and the three cases of a chunk's summary. Assumes nothing.
+use mathlib.Core.Path.{_≡_, refl, sym, ap, subst, _∙_}
+use mathlib.Core.Bool.{Bool, true, false, not}
+use mathlib.Core.List.{List, [], _∷_}
+use Prim.Native.Nat.{ℕ, zero, suc, _+_, _-_, _*_, _≤_, _<_}
+use native.Mathlib.Omega.{arith}
+use lib.Dec.{leb}
+use lib.ListN.{length}
+use borrow.Author.Tests.{le-leb, lt-leb}
+use Rattle.gate.specs.Outcome.{Outcome, result, written}
+use Rattle.gate.specs.declared.Written.{Written}
+use Rattle.gate.specs.declared.Written.the-variants.{Bytes, Refused}
+use Rattle.codec.specs.Contracts.{Wrote}
+use Rattle.hill.specs.Verdict.{Verdict, pass, refuse, low, count, cut}
+use Rattle.hill.specs.VerdictLaws.{low-pass, cut-few}
+use Rattle.hill.specs.Log.{Record, startLevel, endOf, peakOf, openedOf, joints, faultOf}
+use Rattle.hill.specs.Summary.{Hill, Part, Summary, blank, part, spoilt, whole, judged, rise, partOf, summaryOf}
+use Rattle.hill.specs.Building.{hillOf}
+use Rattle.hill.specs.SummaryLaws.{partOf-built}
+use Rattle.figure.specs.FourModes.{Amounts}
+use Rattle.figure.specs.Mode.{Mode, modeOf}
+use Rattle.slopes.specs.declared.Counts.{Counts}
+use Rattle.slopes.specs.Arrays.{Arrays, slopesOf, Fig}
+use Rattle.slopes.specs.Laws.{rise-slopes, fall-slopes, rise-is}
+use Rattle.summary.specs.Layout.{SummaryIn, encode}
+use Rattle.summary.specs.Accepted.{encode-length}
+use Rattle.summary.specs.Outcomes.{summaryBytes}
+use Rattle.summarise.specs.declared.Tally.{Tally}
+use Rattle.summarise.specs.Tallies.{verdictOf, Tells, Tallied}
+use Rattle.summarise.specs.TallyLaws.{begun, not-begun, not-both, joints-pass}
+use Rattle.summarise.specs.Scans.{Summed}
+use Rattle.summarise.specs.ScanLaws.{count-few, start-low, start-is, part-whole}
+use Rattle.summarise.specs.Answered.{Answers, Writable}
+
+-- ---- question 12
+
+pub too-long : (w before : List ℕ) (n : ℕ) → length w ≡ n → length before < n → Answers (written (length before) w) (Refused 12) before before
+too-long w before n e h = rw (lt-leb (length w) (length before) (omega arith)) record { answer = refl; buffer = refl }
+
+pub fitting : (w before after : List ℕ) (k n : ℕ) → length w ≡ n → n ≤ length before → Wrote w before after k → Answers (written (length before) w) (Bytes k) before after
+fitting w before after k n e h s = rw (le-leb (length w) (length before) (omega arith)) record { answer = ap result (s .answered); buffer = s .buffer }
+
+pub become : (n : ℕ) {w v : List ℕ} {r : Written} {before after : List ℕ} → w ≡ v → Answers (written n w) r before after → Answers (written n v) r before after
+become n {w} {v} {r} {before} {after} e s = subst (λ (u : List ℕ). Answers (written n u) r before after) e s
+
+pub hill-length-is : (m p o : ℕ) (A : Arrays) (c : Counts) → length (encode m (part (whole p o (slopesOf (modeOf m) A c)))) ≡ 24 + 8 * c .nl + 20 * c .n
+hill-length-is m p o A c = encode-length m (part (whole p o (slopesOf (modeOf m) A c))) ∙ rw (rise-slopes (modeOf m) A c, fall-slopes (modeOf m) A c)
+
+-- ---- blank, spoilt or hill
+
+judged-spoilt : {Fig R : Type 0} (k s e o p : ℕ) (h : Hill Fig R) → (k ≡ 0 → ⊥) → o ≤ 100000 → judged (verdictOf k) s e o p h ≡ spoilt k s e o
+judged-spoilt zero s e o p h nz le = absurd (nz refl)
+judged-spoilt (suc k) s e o p h nz le = ap (spoilt (suc k) s e) (cut-few o le)
+
+module _ (m : ℕ) where
+  abbrev M : Mode
+  M = modeOf m
+
+module _ (m : ℕ) (t : Tally) where
+  pub blank-is : (xs : List (Record Amounts)) → not (t .begun) ≡ true → Tallied xs t → encode m blank ≡ summaryBytes m xs
+  unfolding summaryBytes
+  blank-is [] b s = refl
+  blank-is (x ∷ xs) b s = absurd (not-both (s .begun) (not-begun (t .begun) b))
+
+  module _ (b : not (t .begun) ≡ false) where
+    part-spoilt : (x : Record Amounts) (xs : List (Record Amounts)) → (t .fault ≡ 0 → ⊥) → openedOf (x ∷ xs) ≤ 65536 → Tells x xs t
+        → spoilt (t .fault) (t .start) (t .level) (t .opened) ≡ partOf (M m .algebra) x xs
+    part-spoilt x xs nz few s =
+        let v : faultOf x xs ≡ verdictOf (t .fault) = rw (count-few (M m) (openedOf (x ∷ xs)) (omega arith), ← s .fault) (low-pass (verdictOf (t .fault))) in
+        sym (partOf-built (M m .algebra) (M m .laws) x xs
+        ∙ rw (v, ← s .start, ← s .level, ← s .opened) (judged-spoilt (t .fault) (t .start) (t .level) (t .opened) (peakOf x xs) (hillOf (M m .algebra) (x ∷ xs)) nz (omega (arith, s .opened))))
+
+    pub spoilt-is : {A : Arrays} {c : Counts} (xs : List (Record Amounts)) → (t .fault ≡ 0 → ⊥) → Summed (M m) A c t xs → encode m (part (spoilt (t .fault) (t .start) (t .level) (t .opened))) ≡ summaryBytes m xs
+    unfolding summaryBytes
+    spoilt-is [] nz s = absurd (not-both (begun (t .begun) b) (s .tallied .begun))
+    spoilt-is (x ∷ xs) nz s = ap (λ (p : Part (Fig (M m)) Amounts). encode m (part p)) (part-spoilt x xs nz (s .few) (s .tallied))
+
+    module _ (z : t .fault ≡ 0) where
+      -- the peak is as many levels below the start as there are left values
+      pub rises : {A : Arrays} {c : Counts} (xs : List (Record Amounts)) → Summed (M m) A c t xs → (c .nl ≤ t .start) × (t .start ≤ 64)
+      rises [] s = absurd (not-both (begun (t .begun) b) (s .tallied .begun))
+      rises (x ∷ xs) s =
+          let w = s .tallied in
+          let p = start-is (M m) x xs (joints-pass x xs t w z) (omega (arith, s .few)) in
+          omega (arith, rise-is (s .hill z), w .start, start-low (M m) x (s .readable .0))
+
+      pub writable : {A : Arrays} {c : Counts} (xs : List (Record Amounts)) (peak : ℕ) → peak ≡ t .start - c .nl → Summed (M m) A c t xs → Writable (M m) A c peak
+      writable xs peak e s = record { sound = s .hill z .sound; stored = s .hill z .stored; level = omega (arith, rises xs s) }
+
+      pub hill-is : {A : Arrays} {c : Counts} (xs : List (Record Amounts)) (peak : ℕ) → peak ≡ t .start - c .nl → Summed (M m) A c t xs → encode m (part (whole peak (t .opened) (slopesOf (M m) A c))) ≡ summaryBytes m xs
+      unfolding summaryBytes
+      hill-is [] peak e s = absurd (not-both (begun (t .begun) b) (s .tallied .begun))
+      hill-is (x ∷ xs) peak e s =
+          let w = s .tallied in
+          let j = joints-pass x xs t w z in
+          let p = start-is (M m) x xs j (omega (arith, s .few)) in
+          let q : peak ≡ peakOf x xs = omega (arith, rise-is (s .hill z), w .start) in
+          ap (λ (p : Part (Fig (M m)) Amounts). encode m (part p)) (rw (q, w .opened, s .hill z .is) (sym (part-whole (M m) x xs j (omega (arith, s .few)))))

@@ -1,0 +1,57 @@
+-- What the functions of a pass over a chunk ask and leave. Definitions only.
+use mathlib.Core.Path.{_≡_}
+use mathlib.Core.List.{List}
+use Prim.Native.Nat.{ℕ, _+_, _*_, _≤_}
+use lib.Dec.{eqb}
+use lib.ListN.{length}
+use Rattle.gate.specs.Outcome.{refused, result}
+use Rattle.record.specs.Record.{recordsOf}
+use Rattle.record.specs.declared.Fields.{Fields}
+use Rattle.hill.specs.Log.{Record, openedOf}
+use Rattle.hill.specs.Building.{step, hillOf}
+use Rattle.hill.specs.Valid.{AllReadable}
+use Rattle.figure.specs.FourModes.{Amounts}
+use Rattle.figure.specs.Mode.{Mode}
+use Rattle.figure.specs.Stored.{amounts}
+use Rattle.slopes.specs.declared.Counts.{Counts}
+use Rattle.slopes.specs.Arrays.{Arrays, slopesOf, weightOf, Able, StandsFor}
+use Rattle.slopes.specs.Actions.{Room, cost}
+use Rattle.summary.specs.Outcomes.{recordOf, chunkOf}
+use Rattle.summarise.specs.declared.Tally.{Tally}
+use Rattle.summarise.specs.declared.Scan.{Scan}
+use Rattle.summarise.specs.declared.Scan.the-variants.{Refused, Done}
+use Rattle.summarise.specs.Tallies.{Tallied}
+
+-- Where there is no fault, the arrays can take the record f.
+pub record Grows (M : Mode) (fault : ℕ) (f : Fields) (A : Arrays) (c : Counts) : Type 0 where
+  pub able : fault ≡ 0 → Able M A c
+  pub room : fault ≡ 0 → Room (eqb (f .kind) 1) (amounts (f .value) (f .floor) (f .ceiling)) c
+
+-- Where there is no fault, they have taken it.
+abbrev pub Grown : Mode → ℕ → Fields → Arrays → Counts → Arrays → Counts → Type 0
+Grown M fault f A c A′ c′ =
+    fault ≡ 0 → StandsFor M A′ c′ (step (M .algebra) (slopesOf M A c) (recordOf f)) (weightOf M (slopesOf M A c) + cost M (eqb (f .kind) 1))
+
+-- The arrays are whole.
+pub record Lent (A : Arrays) : Type 0 where
+  pub left : length (A .left) ≡ 64
+  pub values : length (A .values) ≡ 64
+  pub floors : length (A .floors) ≡ 64
+  pub ceilings : length (A .ceilings) ≡ 64
+  pub held : length (A .held) ≡ 64
+
+-- What is known of the records xs: t tells of them, and where there is no fault the arrays stand for their hill.
+pub record Summed (M : Mode) (A : Arrays) (c : Counts) (t : Tally) (xs : List (Record Amounts)) : Type 0 where
+  pub readable : AllReadable (M .algebra) (M .sizes) xs
+  pub few : openedOf xs ≤ 65536
+  pub tallied : Tallied xs t
+  pub hill : t .fault ≡ 0 → StandsFor M A c (hillOf (M .algebra) xs) (M .sizes .unit * openedOf xs)
+
+-- What reading a chunk to its end says of it: "is every record readable?", and the records that were read.
+abbrev pub Scanned : Mode → List ℕ → Arrays → Scan → Type 0
+Scanned M s A Refused = recordsOf s ≡ refused 3
+Scanned M s A (Done t c) = (fs : List Fields) × (recordsOf s ≡ result fs) × Summed M A c t (chunkOf fs)
+
+-- What is left in the arrays and in t is what is known of some records.
+abbrev pub Concludes : Mode → Arrays → Counts → Tally → Type 0
+Concludes M A c t = (xs : List (Record Amounts)) × Summed M A c t xs

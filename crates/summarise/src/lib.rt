@@ -1,0 +1,295 @@
+// A chunk's summary, and what a summary comes to as that of a whole log.
+ghost use mathlib.Core.Path.{_≡_};
+ghost use mathlib.Core.List.{List, [], _∷_, _++_};
+ghost use Prim.Native.Nat.{ℕ, _≤_};
+ghost use lib.ListN.{length};
+ghost use Rattle.hill.specs.Log.{Record, startLevel, endLevel, opens as openedBy};
+ghost use Rattle.hill.specs.Verdict.{low, between};
+ghost use Rattle.figure.specs.FourModes.{Amounts};
+ghost use Rattle.figure.specs.Mode.{modeOf};
+ghost use Rattle.figure.specs.Stored.{amounts};
+ghost use Rattle.slopes.specs.Actions.{entry};
+ghost use Rattle.gate.specs.Outcome.{bufferAfter, written};
+ghost use Rattle.gate.specs.Answers.{writtenAnswer, lengthAnswered};
+ghost use Rattle.summary.specs.Layout.{encode};
+ghost use Rattle.summary.specs.Outcomes.{summariseOutcome, summaryBytes};
+ghost use Rattle.hill.specs.Summary.{blank, part, spoilt, whole};
+ghost use Rattle.slopes.specs.Arrays.{arrays, slopesOf};
+ghost use Rattle.summarise.specs.Tallies.{verdictOf, Tallied};
+ghost use Rattle.summarise.specs.Scans.{Grows, Grown, Lent, Summed, Scanned, Concludes};
+ghost use Rattle.summarise.specs.Answered.{Answers, Writable};
+use gate::Written;
+use record::Fields;
+use record::Read;
+use slopes::Counts;
+
+// What a pass over records keeps beside their hill: whether there was one, the start level, the level reached, the lowest of faults 7 and 8 (0 is none)
+// and the opened records.
+pub struct Tally {
+    pub begun: bool,
+    pub start: u16,
+    pub level: u16,
+    pub fault: u16,
+    pub opened: u32,
+}
+
+pub enum Scan {
+    Refused,
+    Done(Tally, Counts),
+}
+
+// Questions 7 and 8 between a record that ends at one level and the next, which starts at another: the lowest "no", or 0.
+fn joint(end: u16, start: u16) -> u16
+    ensures { λ r. ⌜ verdictOf r ≡ between end start ⌝ }
+{
+    if end != start {
+        return 7;
+    }
+    if end == 0 {
+        return 8;
+    }
+    0
+}
+
+// The lower of two faults.
+fn lower(a: u16, b: u16) -> u16
+    ensures { λ r. ⌜ verdictOf r ≡ low (verdictOf a) (verdictOf b) ⌝ }
+{
+    if a == 0 {
+        return b;
+    }
+    if b == 0 {
+        return a;
+    }
+    if a < b {
+        return a;
+    }
+    b
+}
+
+// One record more, which goes from one level to another.
+fn passed(t: Tally, from: u16, to: u16, opens: u32) -> Tally
+    requires { ⌜ (t .opened ≤ 65536) × (opens ≤ 1) ⌝ }
+    ensures { λ r. ⌜ ((xs : List (Record Amounts)) (y : Record Amounts) → Tallied xs t → startLevel y ≡ from → endLevel y ≡ to → openedBy y ≡ opens → Tallied (xs ++ (y ∷ [])) r) ⌝ }
+{
+    if !t.begun {
+        return Tally {
+            begun: true,
+            start: from,
+            level: to,
+            fault: 0,
+            opened: opens,
+        };
+    }
+    Tally {
+        begun: true,
+        start: t.start,
+        level: to,
+        fault: lower(t.fault, joint(t.level, from)),
+        opened: t.opened + opens,
+    }
+}
+
+fn note(t: Tally, opens: bool, depth: u16) -> Tally
+    requires { ⌜ (t .opened ≤ 65536) × (depth ≤ 63) ⌝ }
+    ensures { λ r. ⌜ ((xs : List (Record Amounts)) (a : Amounts) → Tallied xs t → Tallied (xs ++ (entry opens depth a ∷ [])) r) ⌝ }
+{
+    if opens {
+        return passed(t, depth, depth + 1, 1);
+    }
+    passed(t, depth + 1, depth, 0)
+}
+
+// The hill takes a record as long as there is no fault: a chunk with one has no hill.
+fn grow(
+    mode: u16,
+    fault: u16,
+    f: Fields,
+    left: &mut [i64; 64],
+    values: &mut [i32; 64],
+    floors: &mut [i32; 64],
+    ceilings: &mut [i32; 64],
+    held: &mut [i64; 64],
+    c: Counts,
+) -> Counts
+    requires { ⌜ Grows (modeOf mode) fault f (arrays (now left) (now values) (now floors) (now ceilings) (now held)) c ⌝ }
+    ensures { λ r. ⌜ Grown (modeOf mode) fault f (arrays (now (left .entry)) (now (values .entry)) (now (floors .entry)) (now (ceilings .entry)) (now (held .entry))) c
+        (arrays (now (left .exit)) (now (values .exit)) (now (floors .exit)) (now (ceilings .exit)) (now (held .exit))) r ⌝ }
+{
+    if fault != 0 {
+        return c;
+    }
+    slopes::apply(
+        mode,
+        f.kind == 1,
+        f.value,
+        f.floor,
+        f.ceiling,
+        left,
+        values,
+        floors,
+        ceilings,
+        held,
+        c,
+    )
+}
+
+// Reads a chunk to its end.
+fn read_chunk(
+    mode: u16,
+    chunk: &[u8],
+    left: &mut [i64; 64],
+    values: &mut [i32; 64],
+    floors: &mut [i32; 64],
+    ceilings: &mut [i32; 64],
+    held: &mut [i64; 64],
+) -> Scan
+    requires { ⌜ length (now chunk) ≤ 65536 ⌝ }
+    requires { ⌜ Lent (arrays (now left) (now values) (now floors) (now ceilings) (now held)) ⌝ }
+    ensures { λ r. ⌜ Scanned (modeOf mode) (now (chunk .entry)) (arrays (now (left .exit)) (now (values .exit)) (now (floors .exit)) (now (ceilings .exit)) (now (held .exit))) r ⌝ }
+{
+    let mut t = Tally {
+        begun: false,
+        start: 0,
+        level: 0,
+        fault: 0,
+        opened: 0,
+    };
+    let mut c = Counts {
+        nl: 0,
+        n: 0,
+        mid: figure::nothing(mode),
+    };
+    let mut rest = chunk;
+    while 0 < rest.len() {
+        let Read::Record(f) = record::read_first(rest) else {
+            return Scan::Refused;
+        };
+        let length = f.length as usize;
+        t = note(t, f.kind == 1, f.depth);
+        c = grow(mode, t.fault, f, left, values, floors, ceilings, held, c);
+        rest = &rest[length..];
+    }
+    Scan::Done(t, c)
+}
+
+// ---- the summary written, where it fits: question 12
+
+fn put_blank(mode: u16, out: &mut [u8]) -> Written
+    ensures { λ r. ⌜ Answers (written (length (now (out .entry))) (encode mode blank)) r (now (out .entry)) (now (out .exit)) ⌝ }
+{
+    if out.len() < 6 {
+        return Written::Refused(12);
+    }
+    Written::Bytes(codec::write_blank(mode, out))
+}
+
+fn put_spoilt(mode: u16, t: Tally, out: &mut [u8]) -> Written
+    ensures { λ r. ⌜ Answers (written (length (now (out .entry))) (encode mode (part (spoilt (t .fault) (t .start) (t .level) (t .opened))))) r (now (out .entry)) (now (out .exit)) ⌝ }
+{
+    if out.len() < 16 {
+        return Written::Refused(12);
+    }
+    Written::Bytes(codec::write_spoilt(mode, t.fault, t.start, t.level, t.opened, out))
+}
+
+fn put_hill(
+    mode: u16,
+    peak: u16,
+    opened: u32,
+    left: &[i64; 64],
+    values: &[i32; 64],
+    floors: &[i32; 64],
+    ceilings: &[i32; 64],
+    held: &[i64; 64],
+    c: Counts,
+    out: &mut [u8],
+) -> Written
+    requires { ⌜ Writable (modeOf mode) (arrays (now left) (now values) (now floors) (now ceilings) (now held)) c peak ⌝ }
+    ensures { λ r. ⌜ Answers (written (length (now (out .entry))) (encode mode (part (whole peak opened (slopesOf (modeOf mode)
+        (arrays (now (left .entry)) (now (values .entry)) (now (floors .entry)) (now (ceilings .entry)) (now (held .entry))) c))))) r (now (out .entry)) (now (out .exit)) ⌝ }
+{
+    if out.len() < 24 + 8 * c.nl + 20 * c.n {
+        return Written::Refused(12);
+    }
+    Written::Bytes(codec::write_hill(
+        mode,
+        peak,
+        opened,
+        left,
+        values,
+        floors,
+        ceilings,
+        held,
+        c,
+        out,
+    ))
+}
+
+// Blank where no record was read, spoilt where there is a fault, else the hill: its peak is as many levels below the start as it has left values.
+fn conclude(
+    mode: u16,
+    t: Tally,
+    left: &[i64; 64],
+    values: &[i32; 64],
+    floors: &[i32; 64],
+    ceilings: &[i32; 64],
+    held: &[i64; 64],
+    c: Counts,
+    out: &mut [u8],
+) -> Written
+    requires { ⌜ Concludes (modeOf mode) (arrays (now left) (now values) (now floors) (now ceilings) (now held)) c t ⌝ }
+    ensures { λ r. ⌜ ((xs : List (Record Amounts)) → Summed (modeOf mode) (arrays (now (left .entry)) (now (values .entry)) (now (floors .entry)) (now (ceilings .entry)) (now (held .entry))) c t xs
+        → Answers (written (length (now (out .entry))) (summaryBytes mode xs)) r (now (out .entry)) (now (out .exit))) ⌝ }
+{
+    if !t.begun {
+        return put_blank(mode, out);
+    }
+    if t.fault != 0 {
+        return put_spoilt(mode, t, out);
+    }
+    let peak = t.start - (c.nl as u16);
+    put_hill(
+        mode,
+        peak,
+        t.opened,
+        left,
+        values,
+        floors,
+        ceilings,
+        held,
+        c,
+        out,
+    )
+}
+
+// The summary of a chunk in a mode, written into `out`.
+pub fn summarise(chunk: &[u8], mode: u32, out: &mut [u8]) -> Written
+    ensures answer { λ r. ⌜ writtenAnswer r ≡ lengthAnswered (summariseOutcome (now (chunk .entry)) mode (length (now (out .entry)))) ⌝ }
+    ensures buffer { λ _. ⌜ now (out .exit) ≡ bufferAfter (summariseOutcome (now (chunk .entry)) mode (length (now (out .entry)))) (now (out .entry)) ⌝ }
+{
+    if !figure::in_use(mode) {
+        return Written::Refused(1);
+    }
+    if 65536 < chunk.len() {
+        return Written::Refused(2);
+    }
+    let m = mode as u16;
+    let mut left = [0i64; 64];
+    let mut values = [0i32; 64];
+    let mut floors = [0i32; 64];
+    let mut ceilings = [0i32; 64];
+    let mut held = [0i64; 64];
+    let Scan::Done(t, c) = read_chunk(
+        m,
+        chunk,
+        &mut left,
+        &mut values,
+        &mut floors,
+        &mut ceilings,
+        &mut held,
+    ) else {
+        return Written::Refused(3);
+    };
+    conclude(m, t, &left, &values, &floors, &ceilings, &held, c, out)
+}
