@@ -1,14 +1,26 @@
--- What the C functions answer and leave in the lent buffers, from what the calls come to.
+-- What the C functions answer and leave in the lent buffers, from what the calls come to. Definitions only.
 use mathlib.Core.List.{List, [], _∷_}
+use Prim.Native.Nat.{ℕ, _^_, _<_}
 use lib.Seq.{sets}
 use lib.IntN.{ℤ, pos, negℤ}
 use Rattle.gate.specs.Outcome.{Outcome, refused, result}
 use Rattle.record.specs.declared.Fields.{Fields}
+use Rattle.text.specs.declared.Figures.{Figures}
 
--- A refusal is the question's number, negative; a call that is done answers 0.
+-- A refusal is the question's number, negative; a call that is done answers 0, ..
 abbrev pub statusOf : {A : Type 0} → Outcome A → ℤ
 statusOf (refused n) = negℤ (pos n)
 statusOf (result a) = pos 0
+
+-- .. or, where it wrote bytes, how many.
+abbrev pub lengthStatus : Outcome ℕ → ℤ
+lengthStatus (refused n) = negℤ (pos n)
+lengthStatus (result n) = pos n
+
+-- A length that is a signed 64-bit number.
+abbrev pub Short : Outcome ℕ → Type 0
+Short (refused n) = Unit {0}
+Short (result n) = n < 2 ^ 63
 
 -- The six numbers that a record is told by: the fields in the order of document 01.
 abbrev pub numbersOf : Fields → List ℤ
@@ -18,3 +30,8 @@ numbersOf f = pos (f .kind) ∷ pos (f .length) ∷ pos (f .depth) ∷ f .value 
 abbrev pub fieldsAfter : Outcome Fields → List ℤ → List ℤ
 fieldsAfter (refused n) fields = fields
 fieldsAfter (result f) fields = sets fields 0 (numbersOf f)
+
+-- The buffer of four with the day's figures, or as it was.
+abbrev pub figuresAfter : Outcome Figures → List ℤ → List ℤ
+figuresAfter (refused n) figures = figures
+figuresAfter (result f) figures = sets figures 0 (f .net ∷ f .heaviest ∷ f .eaten ∷ f .stamp ∷ [])

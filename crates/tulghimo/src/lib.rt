@@ -1,8 +1,50 @@
 // The C interface: thin functions over the library's calls, declared in include/tulghimo.h.
 ghost use mathlib.Core.Path.{_≡_};
+ghost use lib.IntN.{pos, negℤ};
+ghost use lib.ListN.{length};
+ghost use Rattle.gate.specs.Outcome.{result, bufferAfter};
+ghost use Rattle.gate.specs.Answers.{writtenAnswer, lengthAnswered};
 ghost use Rattle.record.specs.Record.{readOf};
-ghost use Rattle.tulghimo.specs.Interface.{statusOf, fieldsAfter};
+ghost use Rattle.summary.specs.Outcomes.{summariseOutcome};
+ghost use Rattle.day.specs.Day.{dayOutcome};
+ghost use Rattle.tulghimo.specs.Interface.{statusOf, lengthStatus, Short, fieldsAfter, figuresAfter};
+use day::Day;
+use gate::Written;
 use record::Read;
+use text::Figures;
+
+// A refusal, as the C functions answer it.
+fn refusal(n: u8) -> i64
+    ensures { λ r. ⌜ r ≡ negℤ (pos n) ⌝ }
+{
+    0 - (n as i64)
+}
+
+// What a call that writes bytes answers, as one number.
+fn status(w: Written) -> i64
+    requires { ⌜ Short (writtenAnswer w) ⌝ }
+    ensures { λ r. ⌜ r ≡ lengthStatus (writtenAnswer w) ⌝ }
+{
+    match w {
+        Written::Bytes(n) => n as i64,
+        Written::Refused(n) => refusal(n),
+    }
+}
+
+// The four figures, stored in their order.
+fn put_figures(f: Figures, figures: &mut [i64; 4]) -> i64
+    ensures { λ r. ⌜ (r ≡ pos 0) × (now (figures .exit) ≡ figuresAfter (result f) (now (figures .entry))) ⌝ }
+{
+    let net = f.net;
+    let heaviest = f.heaviest;
+    let eaten = f.eaten;
+    let stamp = f.stamp;
+    figures[0] = net;
+    figures[1] = heaviest;
+    figures[2] = eaten;
+    figures[3] = stamp;
+    0
+}
 
 // Reads the first record of a chunk: 0 and its kind, length, depth, value, floor and ceiling, or -3 and `fields` as it was.
 #[no_mangle]
@@ -20,4 +62,26 @@ pub extern "C" fn tulghimo_read(chunk: &[u8], fields: &mut [i64; 6]) -> i64
     fields[4] = number::widen(f.floor);
     fields[5] = number::widen(f.ceiling);
     0
+}
+
+// Summarises a chunk in a mode: the summary's length, or -1, -2, -3 or -12 and `out` as it was.
+#[no_mangle]
+pub extern "C" fn tulghimo_summarise(chunk: &[u8], mode: u32, out: &mut [u8]) -> i64
+    ensures answer { λ r. ⌜ r ≡ lengthStatus (lengthAnswered (summariseOutcome (now (chunk .entry)) mode (length (now (out .entry))))) ⌝ }
+    ensures buffer { λ _. ⌜ now (out .exit) ≡ bufferAfter (summariseOutcome (now (chunk .entry)) mode (length (now (out .entry)))) (now (out .entry)) ⌝ }
+{
+    status(summarise::summarise(chunk, mode, out))
+}
+
+// The figures of a whole log: 0 and net, heaviest, eaten and stamp, or minus the refusal and `figures` as it was.
+#[no_mangle]
+pub extern "C" fn tulghimo_day(log: &[u8], figures: &mut [i64; 4]) -> i64
+    ensures answer { λ r. ⌜ r ≡ statusOf (dayOutcome (now (log .entry))) ⌝ }
+    ensures buffer { λ _. ⌜ now (figures .exit) ≡ figuresAfter (dayOutcome (now (log .entry))) (now (figures .entry)) ⌝ }
+{
+    let d = day::figures(log);
+    match d {
+        Day::Figures(f) => put_figures(f, figures),
+        Day::Refused(n) => refusal(n),
+    }
 }
