@@ -4,3 +4,4 @@ pub mod DayLaws
 pub mod Levels
 pub mod Pass
 pub mod Loop
+pub mod Examples
