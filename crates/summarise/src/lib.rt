@@ -30,15 +30,15 @@ use slopes::Counts;
 
 // What a pass over records keeps beside their hill: whether there was one, the start level, the level reached, the lowest of faults 7 and 8 (0 is none)
 // and the opened records.
-pub struct Tally {
-    pub begun: bool,
-    pub start: u16,
-    pub level: u16,
-    pub fault: u16,
-    pub opened: u32,
+struct Tally {
+    begun: bool,
+    start: u16,
+    level: u16,
+    fault: u16,
+    opened: u32,
 }
 
-pub enum Scan {
+enum Scan {
     Refused,
     Done(Tally, Counts),
 }
