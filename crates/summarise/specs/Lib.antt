@@ -6,3 +6,4 @@ pub mod TallyLaws
 pub mod ScanLaws
 pub mod AnsweredLaws
 pub mod CallLaws
+pub mod FinishLaws

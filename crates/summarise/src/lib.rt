@@ -4,36 +4,41 @@ ghost use mathlib.Core.List.{List, [], _∷_, _++_};
 ghost use Prim.Native.Nat.{ℕ, _≤_};
 ghost use lib.ListN.{length};
 ghost use Rattle.hill.specs.Log.{Record, startLevel, endLevel, opens as openedBy};
-ghost use Rattle.hill.specs.Verdict.{low, between};
-ghost use Rattle.figure.specs.FourModes.{Amounts};
+ghost use Rattle.hill.specs.Verdict.{low, between, ends};
+ghost use Rattle.hill.specs.Finish.{outcome};
+ghost use Rattle.figure.specs.FourModes.{Amounts, storeHeld};
 ghost use Rattle.figure.specs.Mode.{modeOf};
 ghost use Rattle.figure.specs.Stored.{amounts};
 ghost use Rattle.slopes.specs.Actions.{entry};
 ghost use Rattle.gate.specs.Outcome.{bufferAfter, written};
-ghost use Rattle.gate.specs.Answers.{writtenAnswer, lengthAnswered};
+ghost use Rattle.gate.specs.Answers.{writtenAnswer, lengthAnswered, finishedAnswer};
 ghost use Rattle.summary.specs.Layout.{encode};
-ghost use Rattle.summary.specs.Outcomes.{summariseOutcome, summaryBytes};
+ghost use Rattle.summary.specs.Outcomes.{summariseOutcome, summaryBytes, finishOutcome};
 ghost use Rattle.hill.specs.Summary.{blank, part, spoilt, whole};
 ghost use Rattle.slopes.specs.Arrays.{arrays, slopesOf};
 ghost use Rattle.summarise.specs.Tallies.{verdictOf, Tallied};
 ghost use Rattle.summarise.specs.Scans.{Grows, Grown, Lent, Summed, Scanned, Concludes};
 ghost use Rattle.summarise.specs.Answered.{Answers, Writable};
+use gate::Finished;
 use gate::Written;
+use judge::Head;
+use judge::HillHead;
+use judge::Judged;
 use record::Fields;
 use record::Read;
 use slopes::Counts;
 
 // What a pass over records keeps beside their hill: whether there was one, the start level, the level reached, the lowest of faults 7 and 8 (0 is none)
 // and the opened records.
-pub struct Tally {
-    pub begun: bool,
-    pub start: u16,
-    pub level: u16,
-    pub fault: u16,
-    pub opened: u32,
+struct Tally {
+    begun: bool,
+    start: u16,
+    level: u16,
+    fault: u16,
+    opened: u32,
 }
 
-pub enum Scan {
+enum Scan {
     Refused,
     Done(Tally, Counts),
 }
@@ -292,4 +297,35 @@ pub fn summarise(chunk: &[u8], mode: u32, out: &mut [u8]) -> Written
         return Written::Refused(3);
     };
     conclude(m, t, &left, &values, &floors, &ceilings, &held, c, out)
+}
+
+// ---- what a summary comes to as that of a whole log
+
+// Question 11 of a hill, and its middle value.
+fn finish_hill(h: HillHead) -> Finished
+    ensures { λ r. ⌜ finishedAnswer r ≡ outcome (ends (h .start) (h .end)) (storeHeld (h .middle)) ⌝ }
+{
+    if h.start != 0 {
+        return Finished::Refused(11);
+    }
+    if h.end != 0 {
+        return Finished::Refused(11);
+    }
+    let middle = h.middle;
+    Finished::Figure(figure::store_held(middle))
+}
+
+// The figure of the log whose summary this is, or the lowest of questions 5 and 7 to 11 that gets a "no".
+pub fn finish(summary: &[u8]) -> Finished
+    ensures { λ r. ⌜ finishedAnswer r ≡ finishOutcome (now (summary .entry)) ⌝ }
+{
+    let Judged::Summary(p) = judge::judge(summary) else {
+        return Finished::Refused(5);
+    };
+    let head = p.head;
+    match head {
+        Head::Blank => Finished::Refused(10),
+        Head::Spoilt(s) => Finished::Refused(s.fault as u8),
+        Head::Hill(h) => finish_hill(h),
+    }
 }
