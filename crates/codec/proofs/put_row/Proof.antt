@@ -1,0 +1,66 @@
+-- `codec::put_row` meets its contract. Assumes nothing.
+use denote.Ref.{now}
+use mir.Facts.{toZ-ofZ}
+use Rattle.codec.specs.WriteLaws.{row-stores}
+use borrow.Author.Needs.{needs}
+use Rattle.codec.proofs.put_row.Statement.{statement}
+use Rattle.codec.proofs.put_row.Tie as tie
+use Rattle.codec.proofs.put_row.Reads as reads
+use Rattle.codec.proofs.put_row.Lts as lts
+use Rattle.number.proofs.write_i32.Reads as write-i32-reads
+use Rattle.number.proofs.write_i64.Reads as write-i64-reads
+
+-- src/lib.rt:75:5
+write-i32-requires : tie.Need-write-i32-requires
+write-i32-requires c κs = search needs
+
+-- src/lib.rt:76:28
+add-write-i32 : tie.Need-add-write-i32
+add-write-i32 c = search needs
+
+-- src/lib.rt:76:5
+write-i32-requires-2 : tie.Need-write-i32-requires-2
+write-i32-requires-2 c κs = search needs
+
+-- src/lib.rt:77:28
+add-write-i32-2 : tie.Need-add-write-i32-2
+add-write-i32-2 c = search needs
+
+-- src/lib.rt:77:5
+write-i32-requires-3 : tie.Need-write-i32-requires-3
+write-i32-requires-3 c κs = search needs
+
+-- src/lib.rt:78:28
+add-write-i64 : tie.Need-add-write-i64
+add-write-i64 c = search needs
+
+-- src/lib.rt:78:5
+write-i64-requires : tie.Need-write-i64-requires
+write-i64-requires c κs = search needs
+
+-- src/lib.rt:71:1
+same-length : tie.Need-same-length
+same-length c = search needs
+
+-- src/lib.rt:71:1
+returns : tie.Need-returns
+returns c =
+    let a = c .before .before .before .before .before .before .before .before .before .before .before .before .before .before .before .before .before in
+    row-stores (now (a .args .out)) (c .before .before .before .before .before .before .before .before .before .before .before .before .before .before .write-i32 .last .0) (c .before .before .before .before .before .before .before .before .before .before .write-i322 .last .0) (c .before .before .before .before .before .before .write-i323 .last .0) _ (a .args .at)
+    (a .args .value) (a .args .floor) (a .args .ceiling) (a .args .held) _ _ _ _
+    (toZ-ofZ (a .fits .value)) (toZ-ofZ (a .fits .floor)) (toZ-ofZ (a .fits .ceiling)) (toZ-ofZ (a .fits .held))
+    (c .before .before .before .before .before .before .before .before .before .before .before .before .before .before .write-i32 .ensures) (c .before .before .before .before .before .before .before .before .before .before .write-i322 .ensures) (c .before .before .before .before .before .before .write-i323 .ensures) (c .before .before .write-i64 .ensures)
+
+pub put-row-spec : {M : Type 1} → statement M
+put-row-spec =
+    tie.close
+    (tie.spec
+    write-i32-requires
+    add-write-i32
+    write-i32-requires-2
+    add-write-i32-2
+    write-i32-requires-3
+    add-write-i64
+    write-i64-requires
+    same-length
+    returns)

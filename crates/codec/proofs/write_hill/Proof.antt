@@ -1,0 +1,127 @@
+-- `codec::write_hill` meets its contract: the front, the levels, the left values, the middle, the records. Assumes nothing.
+use mathlib.Core.Path.{_≡_, refl}
+use Prim.Native.Nat.{_<_, _^_}
+use lib.Signed.{mag}
+use denote.Ref.{now}
+use mir.Syntax.{w64}
+use mir.Val.{toZ, ofZ}
+use Rattle.number.specs.Word.{back}
+use Rattle.slopes.specs.Arrays.{Arrays, arrays}
+use Rattle.codec.specs.WriteLaws.{hill-written}
+use borrow.Author.Needs.{needs}
+use Rattle.codec.proofs.write_hill.Statement.{statement}
+use Rattle.codec.proofs.write_hill.Tie as tie
+use Rattle.codec.proofs.write_hill.Reads as reads
+use Rattle.codec.proofs.write_hill.Lts as lts
+use Rattle.codec.proofs.put_front.Reads as put-front-reads
+use Rattle.codec.proofs.put_levels.Reads as put-levels-reads
+use Rattle.codec.proofs.put_numbers.Reads as put-numbers-reads
+use Rattle.codec.proofs.put_rows.Reads as put-rows-reads
+use Rattle.number.proofs.write_i64.Reads as write-i64-reads
+
+-- the arrays at entry, and the middle value read back
+abbrev A : tie.Start → Arrays
+A a = arrays (now (a .args .left)) (now (a .args .values)) (now (a .args .floors)) (now (a .args .ceilings)) (now (a .args .held))
+
+mid-is : (c : tie.After-struct-told) → toZ w64 (ofZ w64 (c .before .before .args .c .mid)) ≡ c .before .before .args .c .mid
+mid-is c = let h : mag (c .before .before .args .c .mid) < 2 ^ 63 = search needs in back w64 (c .before .before .args .c .mid) h
+
+-- src/lib.rt:122:24
+mul-rows-at : tie.Need-mul-rows-at
+mul-rows-at c = search needs
+
+-- src/lib.rt:122:19
+add-rows-at : tie.Need-add-rows-at
+add-rows-at c = search needs
+
+-- src/lib.rt:123:27
+mul-total : tie.Need-mul-total
+mul-total c = search needs
+
+-- src/lib.rt:123:17
+add-total : tie.Need-add-total
+add-total c = search needs
+
+-- src/lib.rt:124:20
+cast-put-front : tie.Need-cast-put-front
+cast-put-front c = search needs
+
+-- src/lib.rt:124:5
+put-front-requires : tie.Need-put-front-requires
+put-front-requires c κs = search needs
+
+-- src/lib.rt:125:29
+cast-put-levels : tie.Need-cast-put-levels
+cast-put-levels c = search needs
+
+-- src/lib.rt:125:21
+add-put-levels : tie.Need-add-put-levels
+add-put-levels c = search needs
+
+-- src/lib.rt:125:55
+cast-put-levels-2 : tie.Need-cast-put-levels-2
+cast-put-levels-2 c = search needs
+
+-- src/lib.rt:125:47
+add-put-levels-2 : tie.Need-add-put-levels-2
+add-put-levels-2 c = search needs
+
+-- src/lib.rt:125:5
+put-levels-requires : tie.Need-put-levels-requires
+put-levels-requires c κs = search needs
+
+-- src/lib.rt:126:5
+put-numbers-requires : tie.Need-put-numbers-requires
+put-numbers-requires c κs = search needs
+
+-- src/lib.rt:127:33
+mul-write-i64 : tie.Need-mul-write-i64
+mul-write-i64 c = search needs
+
+-- src/lib.rt:127:28
+add-write-i64 : tie.Need-add-write-i64
+add-write-i64 c = search needs
+
+-- src/lib.rt:127:5
+write-i64-requires : tie.Need-write-i64-requires
+write-i64-requires c κs = search needs
+
+-- src/lib.rt:128:5
+put-rows-requires : tie.Need-put-rows-requires
+put-rows-requires c κs = search needs
+
+-- src/lib.rt:102:1
+same-length : tie.Need-same-length
+same-length c = search needs
+
+-- src/lib.rt:102:1
+returns : tie.Need-returns
+returns c =
+    let a = c .before .before .before .before .before .before .before .before .before .before .before .before .before .before .before .before .before .before .before .before .before .before in
+    hill-written (a .args .mode) (a .args .peak) (a .args .opened) (A a) (a .args .c) (now (a .args .out)) (a .pre)
+    (c .before .before .before .before .before .before .before .before .before .before .before .before .before .before .before .before .before .before .put-front .last .0) (c .before .before .before .before .before .before .before .before .before .before .before .before .before .before .put-levels .last .0) (c .before .before .before .before .before .before .before .before .before .before .put-numbers .last .1 .1 .0) (c .before .before .before .before .before .before .write-i64 .last .0) _ _ _ _ _ _
+    refl refl refl refl (mid-is (c .before .before .before .before .before .before .before .before .before .before .before .before .before .before .before .before .before .before .before .before))
+    (c .before .before .before .before .before .before .before .before .before .before .before .before .before .before .before .before .before .before .put-front .ensures) (c .before .before .before .before .before .before .before .before .before .before .before .before .before .before .put-levels .ensures) (c .before .before .before .before .before .before .before .before .before .before .put-numbers .ensures) (c .before .before .before .before .before .before .write-i64 .ensures) (c .before .before .put-rows .ensures)
+
+pub write-hill-spec : {M : Type 1} → statement M
+write-hill-spec =
+    tie.close
+    (tie.spec
+    mul-rows-at
+    add-rows-at
+    mul-total
+    add-total
+    cast-put-front
+    put-front-requires
+    cast-put-levels
+    add-put-levels
+    cast-put-levels-2
+    add-put-levels-2
+    put-levels-requires
+    put-numbers-requires
+    mul-write-i64
+    add-write-i64
+    write-i64-requires
+    put-rows-requires
+    same-length
+    returns)

@@ -1,0 +1,94 @@
+-- What each function of `codec` asks and leaves. Definitions only.
+use mathlib.Core.Path.{_≡_}
+use mathlib.Core.List.{List, [], _++_}
+use Prim.Native.Nat.{ℕ, zero, suc, _+_, _-_, _*_, _^_, _≤_, _<_}
+use lib.IntN.{ℤ}
+use lib.ListN.{length}
+use Rattle.number.specs.Bytes.{bytesOf}
+use Rattle.gate.specs.Outcome.{result, bufferAfter}
+use Rattle.figure.specs.FourModes.{Amounts, InRange}
+use Rattle.figure.specs.Mode.{Mode, modeOf}
+use Rattle.figure.specs.Stored.{IsStored}
+use Rattle.hill.specs.Summary.{Hill}
+use Rattle.hill.specs.Valid.{weightUp, weightDown}
+use Rattle.hill.specs.Building.{push}
+use Rattle.summary.specs.Layout.{i32Bytes, i64Bytes}
+use Rattle.summary.specs.Judge.{modeAt, riseAt, fallAt, leftAt, recordAt, heldAt, IsHill}
+use Rattle.summary.specs.Decode.{amountsAt, leftsIn, rightsIn, hillIn}
+use Rattle.slopes.specs.declared.Counts.{Counts}
+use Rattle.slopes.specs.Arrays.{Arrays, arrays, at, slopesOf, weightOf, Sound, Stored, Able, StandsFor}
+use Rattle.slopes.specs.Laws.{counts}
+
+-- ---- writing
+
+-- The bytes w stand at the front of the buffer, whose other bytes stay; the answer is their number.
+pub record Wrote (w before after : List ℕ) (answer : ℕ) : Type 0 where
+  pub answered : answer ≡ length w
+  pub buffer : after ≡ bufferAfter (result w) before
+
+-- "Each begins with length, kind and mode, 16 bits each."
+abbrev pub frontBytes : (n kind m : ℕ) → List ℕ
+frontBytes n kind m = bytesOf 2 n ++ (bytesOf 2 kind ++ bytesOf 2 m)
+
+-- Three numbers of 16 bits and one of 32 follow, in a spoilt summary as in a hill.
+abbrev pub levelBytes : (x y z o : ℕ) → List ℕ
+levelBytes x y z o = bytesOf 2 x ++ (bytesOf 2 y ++ (bytesOf 2 z ++ bytesOf 4 o))
+
+-- The first n numbers of an array, index 0 first.
+abbrev pub numbersBytes : List ℤ → ℕ → List ℕ
+numbersBytes xs zero = []
+numbersBytes xs (suc n) = numbersBytes xs n ++ i64Bytes (at xs n)
+
+-- One record, and the first n records of four arrays, index 0 first.
+abbrev pub rowBytes : (v f c h : ℤ) → List ℕ
+rowBytes v f c h = i32Bytes v ++ (i32Bytes f ++ (i32Bytes c ++ i64Bytes h))
+
+abbrev pub rowsBytes : (vs fs cs hs : List ℤ) → ℕ → List ℕ
+rowsBytes vs fs cs hs zero = []
+rowsBytes vs fs cs hs (suc n) = rowsBytes vs fs cs hs n ++ rowBytes (at vs n) (at fs n) (at cs n) (at hs n)
+
+-- "Length 24 + 8 × (start - peak) + 20 × (end - peak)"
+abbrev pub hillLength : Counts → ℕ
+hillLength c = 24 + 8 * c .nl + 20 * c .n
+
+-- What writing a hill asks: whole arrays of stored numbers, a level, and room for the bytes.
+pub record Writes (M : Mode) (A : Arrays) (c : Counts) (peak room : ℕ) : Type 0 where
+  pub sound : Sound A c
+  pub stored : Stored M A c
+  pub level : peak ≤ 64
+  pub fits : hillLength c ≤ room
+
+-- ---- loading
+
+-- What going through the first k left values of the bytes b asks of the arrays.
+pub record Sinks (M : Mode) (b : List ℕ) (k : ℕ) (A : Arrays) (c : Counts) : Type 0 where
+  pub able : Able M A c
+  pub bytes : 16 + 8 * k ≤ length b
+  pub stored : (i : ℕ) → i < k → IsStored M (leftAt b i)
+  -- the left slope has room for those that find no record to close
+  pub room : c .nl + (k - c .n) ≤ 64
+  pub light : weightOf M (slopesOf M A c) + weightUp (M .algebra) (M .sizes) (leftsIn (M .read) b k) < 2 ^ 62
+
+-- What putting the first k records of the bytes b on top asks of them and of the hill below.
+pub record Puts (M : Mode) (b : List ℕ) (k : ℕ) (A : Arrays) (c : Counts) : Type 0 where
+  pub able : Able M A c
+  pub ranges : (j : ℕ) → j < k → InRange (amountsAt b j)
+  pub stored : (j : ℕ) → j < k → IsStored M (heldAt b j)
+  pub light : weightOf M (slopesOf M A c) + weightDown (M .algebra) (M .sizes) (rightsIn (M .read) b k) < 2 ^ 62
+
+-- What it leaves, whatever the mode, the left values and the middle are: of the k records of the bytes, the first j stand on top of n others.
+abbrev pub Stacked : (b : List ℕ) (k j n : ℕ) (vs fs cs hs vs′ fs′ cs′ hs′ : List ℤ) → Type 0
+Stacked b k j n vs fs cs hs vs′ fs′ cs′ hs′ =
+    (m : ℕ) (ls : List ℤ) (nl : ℕ) (mid : ℤ) → Puts (modeOf m) b k (arrays ls vs fs cs hs) (counts nl n mid)
+    → StandsFor (modeOf m) (arrays ls vs′ fs′ cs′ hs′) (counts nl (n + j) mid)
+    (push (rightsIn (modeOf m .read) b j) (slopesOf (modeOf m) (arrays ls vs fs cs hs) (counts nl n mid)))
+    (weightOf (modeOf m) (slopesOf (modeOf m) (arrays ls vs fs cs hs) (counts nl n mid)) + weightDown (modeOf m .algebra) (modeOf m .sizes) (rightsIn (modeOf m .read) b j))
+
+-- What loading asks: the bytes b are a hill in mode m, both slopes of the merged hill have room, and what they weigh fits.
+pub record Loads (m : ℕ) (b : List ℕ) (A : Arrays) (c : Counts) : Type 0 where
+  pub able : Able (modeOf m) A c
+  pub hill : IsHill b
+  pub mode-is : modeAt b ≡ m
+  pub left-room : c .nl + (riseAt b - c .n) ≤ 64
+  pub right-room : fallAt b + (c .n - riseAt b) ≤ 64
+  pub light : weightOf (modeOf m) (slopesOf (modeOf m) A c) + weightOf (modeOf m) (hillIn (modeOf m .read) b) < 2 ^ 62

@@ -1,0 +1,252 @@
+// A summary between bytes and the arrays of a hill under construction, in any mode. Each caller shows that the bytes are there, and that they fit.
+ghost use mathlib.Core.Path.{_≡_};
+ghost use Prim.Native.Nat.{_+_, _*_, _≤_};
+ghost use lib.ListN.{length};
+ghost use lib.Seq.{sets};
+ghost use Rattle.figure.specs.Mode.{modeOf};
+ghost use Rattle.hill.specs.Summary.{blank, part, spoilt, whole};
+ghost use Rattle.hill.specs.Valid.{weightUp};
+ghost use Rattle.hill.specs.Building.{closes, merge};
+ghost use Rattle.summary.specs.Layout.{encode};
+ghost use Rattle.summary.specs.Judge.{riseAt};
+ghost use Rattle.summary.specs.Decode.{leftsIn, hillIn};
+ghost use Rattle.slopes.specs.Arrays.{arrays, slopesOf, weightOf, StandsFor};
+ghost use Rattle.codec.specs.Contracts.{Wrote, frontBytes, levelBytes, numbersBytes, rowBytes, rowsBytes, Writes, Sinks, Stacked, Loads};
+use slopes::Counts;
+
+// ---- writing
+
+// Length, kind and mode: the first 6 bytes.
+fn put_front(out: &mut [u8], n: u16, kind: u16, mode: u16)
+    requires { ⌜ 6 ≤ length (now out) ⌝ }
+    ensures { λ _. ⌜ now (out .exit) ≡ sets (now (out .entry)) 0 (frontBytes n kind mode) ⌝ }
+{
+    number::write_u16(out, 0, n);
+    number::write_u16(out, 2, kind);
+    number::write_u16(out, 4, mode);
+}
+
+// The next 10 bytes: three numbers, and the opened records.
+fn put_levels(out: &mut [u8], x: u16, y: u16, z: u16, opened: u32)
+    requires { ⌜ 16 ≤ length (now out) ⌝ }
+    ensures { λ _. ⌜ now (out .exit) ≡ sets (now (out .entry)) 6 (levelBytes x y z opened) ⌝ }
+{
+    number::write_u16(out, 6, x);
+    number::write_u16(out, 8, y);
+    number::write_u16(out, 10, z);
+    number::write_u32(out, 12, opened);
+}
+
+pub fn write_blank(mode: u16, out: &mut [u8]) -> usize
+    requires { ⌜ 6 ≤ length (now out) ⌝ }
+    ensures { λ r. ⌜ Wrote (encode mode blank) (now (out .entry)) (now (out .exit)) r ⌝ }
+{
+    put_front(out, 6, 16, mode);
+    6
+}
+
+pub fn write_spoilt(
+    mode: u16,
+    fault: u16,
+    start: u16,
+    end: u16,
+    opened: u32,
+    out: &mut [u8],
+) -> usize
+    requires { ⌜ 16 ≤ length (now out) ⌝ }
+    ensures { λ r. ⌜ Wrote (encode mode (part (spoilt fault start end opened))) (now (out .entry)) (now (out .exit)) r ⌝ }
+{
+    put_front(out, 16, 17, mode);
+    put_levels(out, fault, start, end, opened);
+    16
+}
+
+// The first n numbers of an array, from `at` on.
+fn put_numbers(xs: &[i64; 64], n: usize, out: &mut [u8], at: usize)
+    requires { ⌜ (n ≤ 64) × (at + 8 * n ≤ length (now out)) ⌝ }
+    ensures { λ _. ⌜ now (out .exit) ≡ sets (now (out .entry)) at (numbersBytes (now (xs .entry)) n) ⌝ }
+{
+    let mut i: usize = 0;
+    while i < n {
+        number::write_i64(out, at + 8 * i, xs[i]);
+        i += 1;
+    }
+}
+
+// One record, 20 bytes.
+fn put_row(out: &mut [u8], at: usize, value: i32, floor: i32, ceiling: i32, held: i64)
+    requires { ⌜ at + 20 ≤ length (now out) ⌝ }
+    ensures { λ _. ⌜ now (out .exit) ≡ sets (now (out .entry)) at (rowBytes value floor ceiling held) ⌝ }
+{
+    number::write_i32(out, at, value);
+    number::write_i32(out, at + 4, floor);
+    number::write_i32(out, at + 8, ceiling);
+    number::write_i64(out, at + 12, held);
+}
+
+// The first n records, from `at` on.
+fn put_rows(
+    values: &[i32; 64],
+    floors: &[i32; 64],
+    ceilings: &[i32; 64],
+    held: &[i64; 64],
+    n: usize,
+    out: &mut [u8],
+    at: usize,
+)
+    requires { ⌜ (n ≤ 64) × (at + 20 * n ≤ length (now out)) ⌝ }
+    ensures { λ _. ⌜ now (out .exit) ≡ sets (now (out .entry)) at (rowsBytes (now (values .entry)) (now (floors .entry)) (now (ceilings .entry)) (now (held .entry)) n) ⌝ }
+{
+    let mut i: usize = 0;
+    while i < n {
+        put_row(out, at + 20 * i, values[i], floors[i], ceilings[i], held[i]);
+        i += 1;
+    }
+}
+
+// The hill in the arrays, with its peak and its opened records.
+pub fn write_hill(
+    mode: u16,
+    peak: u16,
+    opened: u32,
+    left: &[i64; 64],
+    values: &[i32; 64],
+    floors: &[i32; 64],
+    ceilings: &[i32; 64],
+    held: &[i64; 64],
+    c: Counts,
+    out: &mut [u8],
+) -> usize
+    requires { ⌜ Writes (modeOf mode) (arrays (now left) (now values) (now floors) (now ceilings) (now held)) c peak (length (now out)) ⌝ }
+    ensures { λ r. ⌜ Wrote (encode mode (part (whole peak opened (slopesOf (modeOf mode)
+        (arrays (now (left .entry)) (now (values .entry)) (now (floors .entry)) (now (ceilings .entry)) (now (held .entry))) c))))
+        (now (out .entry)) (now (out .exit)) r ⌝ }
+{
+    let nl = c.nl;
+    let n = c.n;
+    let mid = c.mid;
+    let rows_at = 24 + 8 * nl;
+    let total = rows_at + 20 * n;
+    put_front(out, total as u16, 18, mode);
+    put_levels(out, peak + (nl as u16), peak, peak + (n as u16), opened);
+    put_numbers(left, nl, out, 16);
+    number::write_i64(out, 16 + 8 * nl, mid);
+    put_rows(values, floors, ceilings, held, n, out, rows_at);
+    total
+}
+
+// ---- loading
+
+// The first k left values of a hill's bytes, from the start level down: each joins its level, which is then closed.
+fn sink_all(
+    mode: u16,
+    b: &[u8],
+    k: usize,
+    left: &mut [i64; 64],
+    values: &[i32; 64],
+    floors: &[i32; 64],
+    ceilings: &[i32; 64],
+    held: &mut [i64; 64],
+    start: Counts,
+) -> Counts
+    requires { ⌜ Sinks (modeOf mode) (now b) k (arrays (now left) (now values) (now floors) (now ceilings) (now held)) start ⌝ }
+    ensures { λ r. ⌜ StandsFor (modeOf mode) (arrays (now (left .exit)) (now (values .entry)) (now (floors .entry)) (now (ceilings .entry)) (now (held .exit))) r
+        (closes (modeOf mode .algebra) (slopesOf (modeOf mode) (arrays (now (left .entry)) (now (values .entry)) (now (floors .entry)) (now (ceilings .entry)) (now (held .entry))) start)
+        (leftsIn (modeOf mode .read) (now (b .entry)) k))
+        (weightOf (modeOf mode) (slopesOf (modeOf mode) (arrays (now (left .entry)) (now (values .entry)) (now (floors .entry)) (now (ceilings .entry)) (now (held .entry))) start)
+        + weightUp (modeOf mode .algebra) (modeOf mode .sizes) (leftsIn (modeOf mode .read) (now (b .entry)) k)) ⌝ }
+{
+    let mut nl = start.nl;
+    let mut n = start.n;
+    let mut mid = start.mid;
+    let mut i: usize = 0;
+    while i < k {
+        let x = number::read_i64(b, 16 + 8 * i);
+        let c = slopes::sink(
+            mode,
+            x,
+            left,
+            values,
+            floors,
+            ceilings,
+            held,
+            Counts { nl, n, mid },
+        );
+        nl = c.nl;
+        n = c.n;
+        mid = c.mid;
+        i += 1;
+    }
+    Counts { nl, n, mid }
+}
+
+// The k records of a hill's bytes, which stand from `first` on, are put on top of n others.
+fn push_all(
+    b: &[u8],
+    first: usize,
+    k: usize,
+    values: &mut [i32; 64],
+    floors: &mut [i32; 64],
+    ceilings: &mut [i32; 64],
+    held: &mut [i64; 64],
+    n: usize,
+)
+    requires { ⌜ (first ≡ 24 + 8 * riseAt (now b)) × (first + 20 * k ≤ length (now b)) × (n + k ≤ 64) ⌝ }
+    ensures { λ _. ⌜ Stacked (now (b .entry)) k k n (now (values .entry)) (now (floors .entry)) (now (ceilings .entry)) (now (held .entry))
+        (now (values .exit)) (now (floors .exit)) (now (ceilings .exit)) (now (held .exit)) ⌝ }
+{
+    let mut j: usize = 0;
+    while j < k {
+        let at = first + 20 * j;
+        let value = number::read_i32(b, at);
+        let floor = number::read_i32(b, at + 4);
+        let ceiling = number::read_i32(b, at + 8);
+        let h = number::read_i64(b, at + 12);
+        slopes::push(
+            values,
+            floors,
+            ceilings,
+            held,
+            n + j,
+            value,
+            floor,
+            ceiling,
+            h,
+        );
+        j += 1;
+    }
+}
+
+// The hill of a summary's bytes joins the hill in the arrays, on its right.
+pub fn load(
+    mode: u16,
+    b: &[u8],
+    left: &mut [i64; 64],
+    values: &mut [i32; 64],
+    floors: &mut [i32; 64],
+    ceilings: &mut [i32; 64],
+    held: &mut [i64; 64],
+    c: Counts,
+) -> Counts
+    requires { ⌜ Loads mode (now b) (arrays (now left) (now values) (now floors) (now ceilings) (now held)) c ⌝ }
+    ensures { λ r. ⌜ StandsFor (modeOf mode) (arrays (now (left .exit)) (now (values .exit)) (now (floors .exit)) (now (ceilings .exit)) (now (held .exit))) r
+        (merge (modeOf mode .algebra) (slopesOf (modeOf mode) (arrays (now (left .entry)) (now (values .entry)) (now (floors .entry)) (now (ceilings .entry)) (now (held .entry))) c)
+        (hillIn (modeOf mode .read) (now (b .entry))))
+        (weightOf (modeOf mode) (slopesOf (modeOf mode) (arrays (now (left .entry)) (now (values .entry)) (now (floors .entry)) (now (ceilings .entry)) (now (held .entry))) c)
+        + weightOf (modeOf mode) (hillIn (modeOf mode .read) (now (b .entry)))) ⌝ }
+{
+    let peak = number::read_u16(b, 8) as usize;
+    let rise = (number::read_u16(b, 6) as usize) - peak;
+    let fall = (number::read_u16(b, 10) as usize) - peak;
+    let s = sink_all(mode, b, rise, left, &*values, &*floors, &*ceilings, held, c);
+    let nl = s.nl;
+    let n = s.n;
+    let x = number::read_i64(b, 16 + 8 * rise);
+    let mid = slopes::add(mode, held, n, s.mid, x);
+    push_all(b, 24 + 8 * rise, fall, values, floors, ceilings, held, n);
+    Counts {
+        nl,
+        n: n + fall,
+        mid,
+    }
+}
