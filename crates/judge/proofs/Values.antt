@@ -1,0 +1,107 @@
+-- A hill's 64-bit values: as the loops read them, and as question 5 has them. Assumes nothing.
+use mathlib.Core.Path.{_≡_, refl, sym, ap, ap₂, _∙_}
+use mathlib.Core.Bool.{Bool, true, false, cond, _&&_}
+use mathlib.Core.List.{List}
+use Prim.Native.Nat.{ℕ, zero, suc, _+_, _*_, min}
+use native.Mathlib.Numerals.{add-one}
+use native.Mathlib.Omega.{arith}
+use lib.Dec.{leb, ltb}
+use lib.IntN.{ℤ, pos, natAbs}
+use borrow.Author.Tests.{leb-true, leb-false, lt-ltb, le-ltb, eq-eqb, ne-eqb}
+use Rattle.number.specs.Bytes.{i64At}
+use Rattle.figure.specs.FourModes.{limit, nothing, storeHeld, isStamp as isStampFigure}
+use Rattle.figure.specs.Mode.{modeInUse, modeOf}
+use Rattle.figure.specs.Stored.{sizeOf, none}
+use Rattle.summary.specs.Judge.{modeAt, riseAt, fallAt, openedAt, leftAt, middleAt, heldAt, sumTo, same, nothingIn, counted, isStamp}
+use Rattle.summary.specs.Decide.{allTo, valuesFit}
+use Rattle.summary.specs.ModeValues.{numbered}
+use Rattle.judge.specs.Laid.{stampsFit, sizesFit, valueIn}
+use Rattle.judge.proofs.Loops.{all-same, sum-same}
+
+-- ---- by the mode's number, in use or not
+
+pub nothing-is : (m : ℕ) → none (modeOf m) ≡ nothingIn m
+unfolding none modeOf nothingIn storeHeld
+nothing-is zero = refl
+nothing-is (suc zero) = refl
+nothing-is (suc (suc zero)) = refl
+nothing-is (suc (suc (suc zero))) = refl
+nothing-is (suc (suc (suc (suc zero)))) = refl
+nothing-is (suc (suc (suc (suc (suc m))))) = sym (ap (λ (t : Bool). cond t nothing (pos 0)) (ne-eqb (suc (suc (suc (suc (suc m))))) 2 (λ e. omega arith)))
+
+size-two : (z : ℤ) → sizeOf (modeOf 2) z ≡ counted 2 z
+unfolding modeInUse
+size-two z = numbered 2 refl .size-is (λ e. omega arith) z
+
+size-is : (m : ℕ) → (m ≡ 4 → ⊥) → (z : ℤ) → sizeOf (modeOf m) z ≡ counted m z
+unfolding sizeOf modeOf counted
+size-is zero n z = refl
+size-is (suc zero) n z = refl
+size-is (suc (suc zero)) n z = size-two z
+size-is (suc (suc (suc zero))) n z = refl
+size-is (suc (suc (suc (suc zero)))) n z = absurd (n refl)
+size-is (suc (suc (suc (suc (suc m))))) n z = sym (ap (λ (t : Bool). cond (t && same z nothing) 0 (natAbs z)) (ne-eqb (suc (suc (suc (suc (suc m))))) 2 (λ e. omega arith)))
+
+stamp-is : (z : ℤ) → modeOf 4 .isFigure z ≡ isStamp z
+unfolding modeOf isStamp isStampFigure
+stamp-is z = refl
+
+-- a sum up to one more than n tells whether the whole is at most n
+under-cap : (x n : ℕ) → ltb (min (n + 1) x) (n + 1) ≡ leb x n
+under-cap x n = go (leb x n) refl
+  where
+    go : (t : Bool) → leb x n ≡ t → ltb (min (n + 1) x) (n + 1) ≡ t
+    go true e = lt-ltb (min (n + 1) x) (n + 1) (omega (arith, leb-true x n e))
+    go false e = le-ltb (min (n + 1) x) (n + 1) (omega (arith, leb-false x n e))
+
+module _ (b : List ℕ) where
+  -- where what a record holds stands
+  held-at : (j : ℕ) → valueIn b (36 + 8 * riseAt b) 20 j ≡ heldAt b j
+  held-at j = ap (i64At b) (omega arith)
+
+  -- ---- mode 4
+
+  pub stamps-fit : (left right opened : ℕ) (l r : Bool) → left ≡ riseAt b → right ≡ fallAt b → opened ≡ openedAt b
+      → l ≡ allTo (left + 1) (λ i. modeOf 4 .isFigure (valueIn b 16 8 i))
+      → r ≡ allTo right (λ j. modeOf 4 .isFigure (valueIn b (36 + 8 * left) 20 j))
+      → l && r && leb right opened ≡ stampsFit b
+  unfolding allTo
+  stamps-fit left right opened l r x y o p q =
+      let lefts : l ≡ allTo (riseAt b) (λ i. isStamp (leftAt b i)) && isStamp (middleAt b) =
+      p ∙ ap (λ (k : ℕ). allTo k (λ i. modeOf 4 .isFigure (valueIn b 16 8 i))) (add-one left ∙ ap suc x) ∙ all-same _ _ (λ i. stamp-is (valueIn b 16 8 i)) (suc (riseAt b)) in
+      let rights : r ≡ allTo (fallAt b) (λ j. isStamp (heldAt b j)) =
+      q ∙ ap₂ (λ (n k : ℕ). allTo k (λ j. modeOf 4 .isFigure (valueIn b (36 + 8 * n) 20 j))) x y ∙ all-same _ _ (λ j. stamp-is (valueIn b (36 + 8 * riseAt b) 20 j) ∙ ap isStamp (held-at j)) (fallAt b) in
+      ap₂ _&&_ (ap₂ _&&_ lefts rights) (ap₂ leb y o)
+
+  -- ---- modes 1 to 3
+
+  pub sizes-fit : (m left right opened cap unclosed lefts all : ℕ) → left ≡ riseAt b → right ≡ fallAt b → opened ≡ openedAt b
+      → cap ≡ limit * opened + 1
+      → unclosed ≡ min cap (0 + limit * right)
+      → lefts ≡ min cap (unclosed + sumTo (left + 1) (λ i. sizeOf (modeOf m) (valueIn b 16 8 i)))
+      → all ≡ min cap (lefts + sumTo right (λ j. sizeOf (modeOf m) (valueIn b (36 + 8 * left) 20 j)))
+      → ltb all cap ≡ sizesFit m b
+  unfolding sumTo
+  sizes-fit m left right opened cap unclosed lefts all x y o c u l a =
+      let s : sumTo (left + 1) (λ i. sizeOf (modeOf m) (valueIn b 16 8 i)) ≡ sumTo (riseAt b) (λ i. sizeOf (modeOf m) (leftAt b i)) + sizeOf (modeOf m) (middleAt b) =
+      ap (λ (k : ℕ). sumTo k (λ i. sizeOf (modeOf m) (valueIn b 16 8 i))) (add-one left ∙ ap suc x) in
+      let t : sumTo right (λ j. sizeOf (modeOf m) (valueIn b (36 + 8 * left) 20 j)) ≡ sumTo (fallAt b) (λ j. sizeOf (modeOf m) (heldAt b j)) =
+      ap₂ (λ (n k : ℕ). sumTo k (λ j. sizeOf (modeOf m) (valueIn b (36 + 8 * n) 20 j))) x y ∙ sum-same _ _ (λ j. ap (sizeOf (modeOf m)) (held-at j)) (fallAt b) in
+      let full : ℕ = limit * fallAt b + (sumTo (riseAt b) (λ i. sizeOf (modeOf m) (leftAt b i)) + sizeOf (modeOf m) (middleAt b) + sumTo (fallAt b) (λ j. sizeOf (modeOf m) (heldAt b j))) in
+      let e : all ≡ min (limit * openedAt b + 1) full = omega arith in
+      let k : cap ≡ limit * openedAt b + 1 = omega arith in
+      ap₂ ltb e k ∙ under-cap full (limit * openedAt b)
+
+  -- ---- both
+
+  pub values-stamps : modeAt b ≡ 4 → stampsFit b ≡ valuesFit b
+  unfolding valuesFit
+  values-stamps e = rw (eq-eqb (modeAt b) 4 e)
+
+  pub values-sizes : (modeAt b ≡ 4 → ⊥) → sizesFit (modeAt b) b ≡ valuesFit b
+  unfolding valuesFit
+  values-sizes n =
+      let l = sum-same (λ i. sizeOf (modeOf (modeAt b)) (leftAt b i)) (λ i. counted (modeAt b) (leftAt b i)) (λ i. size-is (modeAt b) n (leftAt b i)) (riseAt b) in
+      let m = size-is (modeAt b) n (middleAt b) in
+      let h = sum-same (λ j. sizeOf (modeOf (modeAt b)) (heldAt b j)) (λ j. counted (modeAt b) (heldAt b j)) (λ j. size-is (modeAt b) n (heldAt b j)) (fallAt b) in
+      rw (ne-eqb (modeAt b) 4 n) (ap (λ (x : ℕ). leb (limit * fallAt b + x) (limit * openedAt b)) (ap₂ _+_ (ap₂ _+_ l m) h))

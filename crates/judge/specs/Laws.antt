@@ -1,0 +1,145 @@
+-- What a caller of `judge` may conclude from its answer. Assumes nothing.
+use mathlib.Core.Path.{_≡_, refl, sym, ap, _∙_}
+use mathlib.Core.Bool.{Bool, true, false, cond}
+use mathlib.Core.List.{List}
+use Prim.Native.Nat.{ℕ}
+use native.Mathlib.Omega.{arith}
+use lib.Dec.{eqb}
+use lib.IntN.{ℤ}
+use borrow.Author.Tests.{ne-eqb}
+use Rattle.gate.specs.Outcome.{refused, result}
+use Rattle.figure.specs.FourModes.{readHeld, storeHeld}
+use Rattle.figure.specs.StoreLaws.{held-stored}
+use Rattle.figure.specs.declared.Held.the-variants.{Figure}
+use Rattle.summary.specs.Judge.{kindAt, HasLayout, IsSpoilt, IsHill, IsSummary, isBlank, isSpoilt, isHill}
+use Rattle.summary.specs.Decide.{layoutFits, isSummary}
+use Rattle.summary.specs.DecideLaws.{decide-summary}
+use Rattle.judge.specs.Judged.{judgedAnswer, heldIn, spoiltHeadAt, hillHeadAt, headAt, pieceAt, judgedOf}
+use Rattle.judge.specs.Laid.{isSpoiltTest, isHillTest, Laid}
+use Rattle.judge.specs.declared.SpoiltHead.{SpoiltHead}
+use Rattle.judge.specs.declared.HillHead.{HillHead}
+use Rattle.judge.specs.declared.Head.the-variants.{Blank, Spoilt, Hill}
+use Rattle.judge.specs.declared.Piece.{Piece}
+use Rattle.judge.specs.declared.Judged.{Judged}
+use Rattle.judge.specs.declared.Judged.the-variants.{Summary, NotOne}
+
+-- ---- what is held
+
+pub held-two : (m : ℕ) (z : ℤ) → m ≡ 2 → heldIn m z ≡ readHeld z
+unfolding heldIn
+held-two m z e = rw e
+
+pub held-other : (m : ℕ) (z : ℤ) → (m ≡ 2 → ⊥) → heldIn m z ≡ Figure z
+unfolding heldIn
+held-other m z n = rw (ne-eqb m 2 n)
+
+-- stored again it is the number that was read
+pub held-back : (m : ℕ) (z : ℤ) → storeHeld (heldIn m z) ≡ z
+unfolding heldIn storeHeld
+held-back m z = go (eqb m 2)
+  where
+    go : (t : Bool) → storeHeld (cond t (readHeld z) (Figure z)) ≡ z
+    go true = held-stored z
+    go false = refl
+
+-- ---- by the kind
+
+module _ (b : List ℕ) where
+  pub head-blank : kindAt b ≡ 16 → headAt b ≡ Blank
+  unfolding headAt
+  head-blank e = rw e
+
+  pub head-spoilt : kindAt b ≡ 17 → headAt b ≡ Spoilt (spoiltHeadAt b)
+  unfolding headAt
+  head-spoilt e = rw e
+
+  pub head-hill : (kindAt b ≡ 16 → ⊥) → (kindAt b ≡ 17 → ⊥) → headAt b ≡ Hill (hillHeadAt b)
+  unfolding headAt
+  head-hill m n = rw (ne-eqb (kindAt b) 16 m, ne-eqb (kindAt b) 17 n)
+
+  pub test-blank : kindAt b ≡ 16 → isSummary b ≡ layoutFits b 16 6
+  unfolding isSummary
+  test-blank e = rw e
+
+  pub test-spoilt : kindAt b ≡ 17 → isSummary b ≡ isSpoiltTest b
+  unfolding isSummary
+  test-spoilt e = rw e
+
+  pub test-hill : (kindAt b ≡ 16 → ⊥) → (kindAt b ≡ 17 → ⊥) → isSummary b ≡ isHillTest b
+  unfolding isSummary
+  test-hill m n = rw (ne-eqb (kindAt b) 16 m, ne-eqb (kindAt b) 17 n)
+
+  -- ---- by the test
+
+  pub judged-yes : isSummary b ≡ true → judgedOf b ≡ result (pieceAt b)
+  unfolding judgedOf
+  judged-yes e = rw e
+
+  pub judged-no : isSummary b ≡ false → judgedOf b ≡ refused 5
+  unfolding judgedOf
+  judged-no e = rw e
+
+-- ---- from the answer
+
+-- p is the summary that the bytes b are
+pub record Judges (b : List ℕ) (p : Piece) : Type 0 where
+  pub test : isSummary b ≡ true
+  pub summary : IsSummary b
+  pub piece : p ≡ pieceAt b
+
+module _ (b : List ℕ) (r : Judged) (e : judgedAnswer r ≡ judgedOf b) where
+  pub judges : (p : Piece) → r ≡ Summary p → Judges b p
+  judges p q = go (isSummary b) refl
+    where
+      go : (t : Bool) → isSummary b ≡ t → Judges b p
+      go true y = record {
+        test = y;
+        summary = decide-summary b .from y;
+        piece = let f : result p ≡ result (pieceAt b) = sym (ap judgedAnswer q) ∙ e ∙ judged-yes b y in cc;
+      }
+      go false n =
+          let f : result p ≡ refused 5 = sym (ap judgedAnswer q) ∙ e ∙ judged-no b n in
+          let z : _≡_ {A = ℕ} 0 1 = cc in
+          absurd (omega arith)
+
+  pub judges-not : r ≡ NotOne → isSummary b ≡ false
+  judges-not q = go (isSummary b) refl
+    where
+      go : (t : Bool) → isSummary b ≡ t → t ≡ false
+      go true y =
+          let f : refused 5 ≡ result (pieceAt b) = sym (ap judgedAnswer q) ∙ e ∙ judged-yes b y in
+          let z : _≡_ {A = ℕ} 0 1 = cc in
+          absurd (omega arith)
+      go false n = refl
+
+-- by the head
+module _ {b : List ℕ} {p : Piece} (j : Judges b p) where
+  pub blank-is : p .head ≡ Blank → HasLayout b 16 6
+  blank-is q = go (j .summary)
+    where
+      go : IsSummary b → HasLayout b 16 6
+      go (isBlank f) = f
+      go (isSpoilt v) = let z : _≡_ {A = ℕ} 0 1 = cc (head-spoilt b (v .layout .kind-fits), ap (λ (x : Piece). x .head) (j .piece), q) in absurd (omega arith)
+      go (isHill v) = let z : _≡_ {A = ℕ} 0 1 = cc (head-hill b (omega (arith, v .layout .kind-fits)) (omega (arith, v .layout .kind-fits)), ap (λ (x : Piece). x .head) (j .piece), q) in absurd (omega arith)
+
+  pub spoilt-is : (h : SpoiltHead) → p .head ≡ Spoilt h → IsSpoilt b × (h ≡ spoiltHeadAt b)
+  spoilt-is h q = go (j .summary)
+    where
+      go : IsSummary b → IsSpoilt b × (h ≡ spoiltHeadAt b)
+      go (isBlank f) = let z : _≡_ {A = ℕ} 0 1 = cc (head-blank b (f .kind-fits), ap (λ (x : Piece). x .head) (j .piece), q) in absurd (omega arith)
+      go (isSpoilt v) = (v, cc (head-spoilt b (v .layout .kind-fits), ap (λ (x : Piece). x .head) (j .piece), q))
+      go (isHill v) = let z : _≡_ {A = ℕ} 0 1 = cc (head-hill b (omega (arith, v .layout .kind-fits)) (omega (arith, v .layout .kind-fits)), ap (λ (x : Piece). x .head) (j .piece), q) in absurd (omega arith)
+
+  pub hill-is : (h : HillHead) → p .head ≡ Hill h → IsHill b × (h ≡ hillHeadAt b)
+  hill-is h q = go (j .summary)
+    where
+      go : IsSummary b → IsHill b × (h ≡ hillHeadAt b)
+      go (isBlank f) = let z : _≡_ {A = ℕ} 0 1 = cc (head-blank b (f .kind-fits), ap (λ (x : Piece). x .head) (j .piece), q) in absurd (omega arith)
+      go (isSpoilt v) = let z : _≡_ {A = ℕ} 0 1 = cc (head-spoilt b (v .layout .kind-fits), ap (λ (x : Piece). x .head) (j .piece), q) in absurd (omega arith)
+      go (isHill v) = (v, cc (head-hill b (omega (arith, v .layout .kind-fits)) (omega (arith, v .layout .kind-fits)), ap (λ (x : Piece). x .head) (j .piece), q))
+
+-- all the bytes that a hill's numbers stand in are there
+pub hill-laid : {b : List ℕ} → IsHill b → Laid b
+hill-laid v =
+    let n = v .layout .length-fits in
+    record { levels = record { long = omega arith; start-high = v .start-high; end-high = v .end-high; peak-start = v .peak-start; peak-end = v .peak-end }; whole = omega arith }
