@@ -1,0 +1,190 @@
+-- The questions of the calls, one for each way out. Assumes nothing.
+use mathlib.Core.Path.{_≡_, refl, ap, sym, subst, _∙_}
+use mathlib.Core.Bool.{Bool, true, false, _&&_}
+use mathlib.Core.List.{List, [], _∷_, map}
+use Prim.Native.Nat.{ℕ, _-_, _≤_, _<_, min}
+use native.Mathlib.Omega.{arith}
+use lib.Dec.{eqb}
+use lib.ListN.{length, take, drop, length-drop}
+use borrow.Author.Tests.{eq-eqb, eqb-true, ne-eqb}
+use Rattle.gate.specs.Outcome.{Outcome, refused, result, question, onward, written, bufferAfter}
+use Rattle.gate.specs.Answers.{writtenAnswer, lengthAnswered}
+use Rattle.gate.specs.declared.Written.{Written}
+use Rattle.number.specs.Laws.{part-rest}
+use Rattle.row.specs.Row.{firstLength, rowPieces}
+use Rattle.row.specs.Laws.{first-within, pieces-nil, pieces-next}
+use Rattle.summary.specs.Judge.{modeAt}
+use Rattle.summary.specs.Decode.{decode}
+use Rattle.summary.specs.Decide.{isSummary}
+use Rattle.summary.specs.DecideLaws.{decide-summary}
+use Rattle.summary.specs.Accepted.{IsSummaryIn}
+use Rattle.summary.specs.Outcomes.{mergeOutcome}
+use Rattle.outcome.specs.Outcomes.{allSummaries, allOf, firstMode, Summaries, askRow, mergedBytes, mergeRowOutcome}
+use Rattle.outcome.specs.Laws.{AllIn, ask-4, ask-all, two-to-64, too-many, too-few}
+use Rattle.judge.specs.declared.Piece.{Piece}
+use Rattle.judge.specs.Laws.{Judges}
+use Rattle.merge.specs.Asks.{Answers}
+use Rattle.merge.specs.RowAsks.{Row, rowMerged, modeOfAll, Passed}
+
+-- ---- a call that is refused, and one that is not
+
+module _ {o : Outcome (List ℕ)} where
+  pub refusal : {n : ℕ} (b : List ℕ) → o ≡ refused n → (refused n ≡ lengthAnswered o) × (b ≡ bufferAfter o b)
+  refusal b e = rw e (refl, refl)
+
+  pub answered : {u : Outcome (List ℕ)} {b b′ : List ℕ} {r : Written} → o ≡ u → Answers u b b′ r → (writtenAnswer r ≡ lengthAnswered o) × (b′ ≡ bufferAfter o b)
+  answered e a = rw e (a .answered, a .buffer)
+
+-- ---- merge: 5, 6
+
+pub judged-mode : {b : List ℕ} {p : Piece} → Judges b p → p .mode ≡ modeAt b
+judged-mode j = ap (λ (x : Piece). x .mode) (j .piece)
+
+module _ (a b : List ℕ) (cap : ℕ) where
+  pub left-5 : isSummary a ≡ false → mergeOutcome a b cap ≡ refused 5
+  unfolding mergeOutcome
+  left-5 e = rw e
+
+  pub right-5 : isSummary a ≡ true → isSummary b ≡ false → mergeOutcome a b cap ≡ refused 5
+  unfolding mergeOutcome
+  right-5 e f = rw (e, f)
+
+  pub modes-6 : isSummary a ≡ true → isSummary b ≡ true → (modeAt a ≡ modeAt b → ⊥) → mergeOutcome a b cap ≡ refused 6
+  unfolding mergeOutcome
+  modes-6 e f n = rw (e, f, ne-eqb (modeAt a) (modeAt b) n)
+
+module _ {a b : List ℕ} {p q : Piece} (i : Judges a p) (j : Judges b q) where
+  pub other-mode : (p .mode ≡ q .mode → ⊥) → (cap : ℕ) → mergeOutcome a b cap ≡ refused 6
+  other-mode n cap = modes-6 a b cap (i .test) (j .test) (λ e. n (judged-mode i ∙ e ∙ sym (judged-mode j)))
+
+  pub both-in : p .mode ≡ q .mode → IsSummaryIn (p .mode) a × IsSummaryIn (p .mode) b
+  both-in e = (record { is = i .summary; mode-is = sym (judged-mode i) }, record { is = j .summary; mode-is = sym (judged-mode j) ∙ sym e })
+
+-- ---- a row: 5, 6, piece by piece
+
+and-assoc : (x y z : Bool) → (x && y) && z ≡ x && (y && z)
+and-assoc true y z = refl
+and-assoc false y z = refl
+
+and-true : (x : Bool) → x && true ≡ x
+and-true true = refl
+and-true false = refl
+
+-- the first piece of what is left, and the rest as the logic gives a part
+module _ (s : List ℕ) {k : ℕ} (l : 0 < length s) (e : k ≡ firstLength s) where
+  next-pieces : rowPieces s ≡ take k s ∷ rowPieces (take (length s - k) (drop k s))
+  next-pieces = rw (part-rest k s) (subst (λ (i : ℕ). rowPieces s ≡ take i s ∷ rowPieces (drop i s)) (sym e) (pieces-next s l))
+
+  pub not-5 : isSummary (take k s) ≡ false → allSummaries (rowPieces s) ≡ false
+  not-5 n = rw (next-pieces, n)
+
+  pub inside : k ≤ length s
+  inside = rw e (first-within s .inside)
+
+  pub shorter : length (take (length s - k) (drop k s)) < length s
+  shorter = rw (part-rest k s) (omega (arith, length-drop k s, rw (sym e) at (first-within s .some l)))
+
+  pub pass-first : {n : ℕ} → isSummary (take k s) ≡ true → n ≡ modeAt (take k s) → Passed s (take (length s - k) (drop k s)) n true
+  pass-first y en = rw en record {
+    summaries = rw (next-pieces, y);
+    modes = rw (next-pieces, eq-eqb (modeAt (take k s)) (modeAt (take k s)) refl);
+    mode-is = rw next-pieces;
+  }
+
+module _ {row s : List ℕ} {m : ℕ} {t : Bool} (h : Passed row s m t) where
+  pub pass-next : {k n : ℕ} → 0 < length s → k ≡ firstLength s → isSummary (take k s) ≡ true → n ≡ modeAt (take k s) →
+      Passed row (take (length s - k) (drop k s)) m (t && eqb m n)
+  pass-next {k} {n} l e y en = record {
+    summaries = sym (rw (next-pieces s l e, y) refl) ∙ h .summaries;
+    modes = rw en (and-assoc t (eqb m (modeAt (take k s))) (allOf m (rowPieces (take (length s - k) (drop k s)))) ∙ sym (ap (λ (ps : List (List ℕ)). t && allOf m ps) (next-pieces s l e)) ∙ h .modes);
+    mode-is = h .mode-is;
+  }
+
+  pub pass-5 : allSummaries (rowPieces s) ≡ false → modeOfAll (rowPieces row) ≡ refused 5
+  unfolding modeOfAll
+  pass-5 n = rw (sym (h .summaries) ∙ n)
+
+  none-left : length s ≤ 0 → rowPieces s ≡ []
+  none-left l = go s l
+    where
+      go : (s : List ℕ) → length s ≤ 0 → rowPieces s ≡ []
+      go [] l = pieces-nil
+      go (b ∷ s) l = absurd (omega arith)
+
+  all-passed : length s ≤ 0 → allSummaries (rowPieces row) ≡ true
+  all-passed l = sym (h .summaries) ∙ ap allSummaries (none-left l)
+
+  same-is : length s ≤ 0 → t ≡ allOf (firstMode (rowPieces row)) (rowPieces row)
+  same-is l = sym (and-true t) ∙ sym (ap (λ (ps : List (List ℕ)). t && allOf m ps) (none-left l)) ∙ h .modes
+
+  pub pass-6 : length s ≤ 0 → t ≡ false → modeOfAll (rowPieces row) ≡ refused 6
+  unfolding modeOfAll
+  pass-6 l n = rw (all-passed l, sym (same-is l) ∙ n)
+
+  pub pass-all : length s ≤ 0 → t ≡ true → modeOfAll (rowPieces row) ≡ result m
+  unfolding modeOfAll
+  pass-all l y = rw (all-passed l, sym (same-is l) ∙ y) (ap result (sym (h .mode-is)))
+
+pub first-5 : (ps : List (List ℕ)) → allSummaries ps ≡ false → modeOfAll ps ≡ refused 5
+unfolding modeOfAll
+first-5 ps n = rw n
+
+each-in : (m : ℕ) (ps : List (List ℕ)) → allSummaries ps ≡ true → allOf m ps ≡ true → AllIn m ps
+each-in m [] a b = tt
+each-in m (p ∷ ps) a b = go (isSummary p) refl a (eqb m (modeAt p)) refl b (λ x y. each-in m ps x y)
+  where
+    go : (x : Bool) → isSummary p ≡ x → x && allSummaries ps ≡ true → (y : Bool) → eqb m (modeAt p) ≡ y → y && allOf m ps ≡ true → (allSummaries ps ≡ true → allOf m ps ≡ true → AllIn m ps) → AllIn m (p ∷ ps)
+    go true ex a true ey b ih = (record { is = decide-summary p .from ex; mode-is = sym (eqb-true m (modeAt p) ey) }, ih a b)
+    go true ex a false ey b ih = let z : _≡_ {A = ℕ} 0 1 = cc in absurd (omega arith)
+    go false ex a y ey b ih = let z : _≡_ {A = ℕ} 0 1 = cc in absurd (omega arith)
+
+-- ---- merging a row: 4, 5, 6
+
+module _ (row : List ℕ) (cap : ℕ) {n : ℕ} (e : n ≡ min 65 (length (rowPieces row))) where
+  pub few-4 : n < 2 → mergeRowOutcome row cap ≡ refused 4
+  unfolding mergeRowOutcome
+  few-4 l = rw (ask-4 (rowPieces row) (too-few (rowPieces row) (omega arith)))
+
+  pub many-4 : 64 < n → mergeRowOutcome row cap ≡ refused 4
+  unfolding mergeRowOutcome
+  many-4 l = rw (ask-4 (rowPieces row) (too-many (rowPieces row) (omega arith)))
+
+  module _ (lo : 2 ≤ n) (hi : n ≤ 64) where
+    pub some-bytes : 0 < length row
+    some-bytes = go row e
+      where
+        go : (s : List ℕ) → n ≡ min 65 (length (rowPieces s)) → 0 < length s
+        go [] e = absurd (omega (arith, ap length pieces-nil))
+        go (b ∷ s) e = omega arith
+
+    pub row-refused : {k : ℕ} → refused k ≡ modeOfAll (rowPieces row) → mergeRowOutcome row cap ≡ refused k
+    unfolding mergeRowOutcome modeOfAll askRow
+    row-refused {k} q =
+        rw (two-to-64 (rowPieces row) (omega arith) (omega arith))
+        (go (allSummaries (rowPieces row)) (allOf (firstMode (rowPieces row)) (rowPieces row)) q)
+      where
+        go : (x y : Bool) → refused k ≡ question 5 x (question 6 y (result (firstMode (rowPieces row)))) →
+            onward (question 5 x (question 6 y (result (record { mode = firstMode (rowPieces row); row = map (decode (firstMode (rowPieces row))) (rowPieces row) })))) (λ s. written cap (mergedBytes s)) ≡ refused k
+        go false y q = cc
+        go true false q = cc
+        go true true q = cc
+
+    module _ {m : ℕ} (q : result m ≡ modeOfAll (rowPieces row)) where
+      all-in : AllIn m (rowPieces row)
+      unfolding modeOfAll
+      all-in = go (allSummaries (rowPieces row)) refl (allOf (firstMode (rowPieces row)) (rowPieces row)) refl q
+        where
+          go : (x : Bool) → allSummaries (rowPieces row) ≡ x → (y : Bool) → allOf (firstMode (rowPieces row)) (rowPieces row) ≡ y →
+              result m ≡ question 5 x (question 6 y (result (firstMode (rowPieces row)))) → AllIn m (rowPieces row)
+          go true ex true ey q =
+              let f : firstMode (rowPieces row) ≡ m = cc in
+              subst (λ (k : ℕ). AllIn k (rowPieces row)) f (each-in (firstMode (rowPieces row)) (rowPieces row) ex ey)
+          go true ex false ey q = let z : _≡_ {A = ℕ} 0 1 = cc in absurd (omega arith)
+          go false ex y ey q = let z : _≡_ {A = ℕ} 0 1 = cc in absurd (omega arith)
+
+      pub is-row : Row m row n
+      is-row = record { all = all-in; count-is = omega arith; some = omega arith; few = hi }
+
+      pub row-is : mergeRowOutcome row cap ≡ written cap (rowMerged m row)
+      unfolding mergeRowOutcome mergedBytes rowMerged
+      row-is = ap (λ (o : Outcome Summaries). onward o (λ s. written cap (mergedBytes s))) (ask-all m (rowPieces row) all-in (omega arith) (omega arith))

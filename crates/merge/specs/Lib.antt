@@ -1,0 +1,10 @@
+-- What the functions of `merge` ask and leave; then the laws, one for each way through a function.
+pub mod Stretch
+pub mod Asks
+pub mod RowAsks
+pub mod FaultLaws
+pub mod SayLaws
+pub mod HillLaws
+pub mod AnswerLaws
+pub mod CallLaws
+pub mod RowLaws
