@@ -31,6 +31,11 @@ abbrev pub fieldsAfter : Outcome Fields → List ℤ → List ℤ
 fieldsAfter (refused n) fields = fields
 fieldsAfter (result f) fields = sets fields 0 (numbersOf f)
 
+-- The buffer of one with the figure, or as it was.
+abbrev pub figureAfter : Outcome ℤ → List ℤ → List ℤ
+figureAfter (refused n) figure = figure
+figureAfter (result z) figure = sets figure 0 (z ∷ [])
+
 -- The buffer of four with the day's figures, or as it was.
 abbrev pub figuresAfter : Outcome Figures → List ℤ → List ℤ
 figuresAfter (refused n) figures = figures

@@ -5,11 +5,11 @@ ghost use lib.ListN.{length};
 ghost use Rattle.gate.specs.Outcome.{result, bufferAfter};
 ghost use Rattle.gate.specs.Answers.{writtenAnswer, lengthAnswered};
 ghost use Rattle.record.specs.Record.{readOf};
-ghost use Rattle.summary.specs.Outcomes.{summariseOutcome};
+ghost use Rattle.summary.specs.Outcomes.{summariseOutcome, finishOutcome};
 ghost use Rattle.day.specs.Day.{dayOutcome};
-ghost use Rattle.tulghimo.specs.Interface.{statusOf, lengthStatus, Short, fieldsAfter, figuresAfter};
+ghost use Rattle.tulghimo.specs.Interface.{statusOf, lengthStatus, Short, fieldsAfter, figureAfter, figuresAfter};
 use day::Day;
-use gate::Written;
+use gate::{Finished, Written};
 use record::Read;
 use text::Figures;
 
@@ -29,6 +29,14 @@ fn status(w: Written) -> i64
         Written::Bytes(n) => n as i64,
         Written::Refused(n) => refusal(n),
     }
+}
+
+// One figure, stored.
+fn put_figure(z: i64, figure: &mut [i64; 1]) -> i64
+    ensures { λ r. ⌜ (r ≡ pos 0) × (now (figure .exit) ≡ figureAfter (result z) (now (figure .entry))) ⌝ }
+{
+    figure[0] = z;
+    0
 }
 
 // The four figures, stored in their order.
@@ -71,6 +79,19 @@ pub extern "C" fn tulghimo_summarise(chunk: &[u8], mode: u32, out: &mut [u8]) ->
     ensures buffer { λ _. ⌜ now (out .exit) ≡ bufferAfter (summariseOutcome (now (chunk .entry)) mode (length (now (out .entry)))) (now (out .entry)) ⌝ }
 {
     status(summarise::summarise(chunk, mode, out))
+}
+
+// Finishes one summary: 0 and its figure, or minus the refusal and `figure` as it was.
+#[no_mangle]
+pub extern "C" fn tulghimo_finish(summary: &[u8], figure: &mut [i64; 1]) -> i64
+    ensures answer { λ r. ⌜ r ≡ statusOf (finishOutcome (now (summary .entry))) ⌝ }
+    ensures buffer { λ _. ⌜ now (figure .exit) ≡ figureAfter (finishOutcome (now (summary .entry))) (now (figure .entry)) ⌝ }
+{
+    let d = summarise::finish(summary);
+    match d {
+        Finished::Figure(z) => put_figure(z, figure),
+        Finished::Refused(n) => refusal(n),
+    }
 }
 
 // The figures of a whole log: 0 and net, heaviest, eaten and stamp, or minus the refusal and `figures` as it was.

@@ -33,3 +33,45 @@ pub fn numbers_outcome<const N: usize>(expected: Result<[i64; N], u8>) -> (i64, 
         Err(number) => (-i64::from(number), [UNTOUCHED; N]),
     }
 }
+
+/// Bytes lent to a call, between guards. They are filled with a pattern, so that a byte that was not written shows.
+pub struct LentBytes {
+    all: Vec<u8>,
+    capacity: usize,
+}
+
+const GUARD: usize = 64;
+
+impl LentBytes {
+    pub fn new(capacity: usize) -> LentBytes {
+        let all = (0..capacity + 2 * GUARD).map(|place| (place * 37 + 11) as u8).collect();
+        LentBytes { all, capacity }
+    }
+
+    /// The call's answer, with every byte of the buffer and of the guards held to what the call must come to: the result at the
+    /// front and the rest as it was, or all as it was.
+    pub fn check(mut self, expected: &Result<Vec<u8>, u8>, call: impl FnOnce(&mut [u8]) -> i64) {
+        let mut wanted = self.all.clone();
+        let wanted_answer = match expected {
+            Ok(written) => {
+                wanted[GUARD..GUARD + written.len()].copy_from_slice(written);
+                written.len() as i64
+            }
+            Err(number) => -i64::from(*number),
+        };
+        let answer = call(&mut self.all[GUARD..GUARD + self.capacity]);
+        assert_eq!(answer, wanted_answer);
+        assert!(self.all == wanted, "a byte differs");
+    }
+}
+
+/// Buffers around the length of a result: empty, one short, exact, one longer, much longer.
+pub fn capacities(ample: &Result<Vec<u8>, u8>) -> Vec<usize> {
+    match ample {
+        Ok(written) => {
+            let exact = written.len();
+            vec![0, exact.saturating_sub(1), exact, exact + 1, exact + 300]
+        }
+        Err(_) => vec![0, 6, 300],
+    }
+}
