@@ -67,7 +67,7 @@ enum-told c = search needs
 returns : tie.Need-returns Inv-loop μ-loop
 returns c =
     let l = c .before .before .before in
-    unreadable (l .before .loop .inv .handed) (l .loop-test .taken) (sym (c .before .before .read-first .ensures) ∙ ap answerOf (c .enum-told .given .1))
+    unreadable (l .before .loop .inv .handed) (omega (arith, l .loop-test .taken)) (sym (c .before .before .read-first .ensures) ∙ ap answerOf (c .enum-told .given .1))
 
 cast-length : tie.Need-cast-length Inv-loop μ-loop
 cast-length c = search needs
