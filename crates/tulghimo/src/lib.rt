@@ -9,7 +9,8 @@ ghost use Rattle.summary.specs.Outcomes.{summariseOutcome, finishOutcome};
 ghost use Rattle.day.specs.Day.{dayOutcome};
 ghost use Rattle.tulghimo.specs.Interface.{statusOf, lengthStatus, Short, fieldsAfter, figureAfter, figuresAfter};
 use day::Day;
-use gate::{Finished, Written};
+use gate::Finished;
+use gate::Written;
 use record::Read;
 use text::Figures;
 

@@ -1,3 +1,5 @@
+-- `tulghimo::refusal` meets its contract: minus a number of one byte.
+-- Assumes nothing.
 use mathlib.Core.Path.{_≡_, _∙_}
 use Prim.Native.Nat.{ℕ, zero, suc, _<_, _^_}
 use native.Mathlib.Omega.{arith}
@@ -8,8 +10,6 @@ use Rattle.number.specs.IntegerLaws.{sfits-abs}
 use borrow.Author.Needs.{needs}
 use Rattle.tulghimo.proofs.refusal.Statement.{statement}
 use Rattle.tulghimo.proofs.refusal.Tie as tie
-use Rattle.tulghimo.proofs.refusal.Reads as reads
-use Rattle.tulghimo.proofs.refusal.Lts as lts
 
 minus-pos : (n : ℕ) → pos 0 -ℤ pos n ≡ negℤ (pos n)
 minus-pos n = +ℤ-idl (negℤ (pos n))
@@ -18,15 +18,12 @@ small : (n : ℕ) → n < 256 → natAbs (negℤ (pos n)) < 2 ^ 63
 small zero h = omega arith
 small (suc n) h = omega arith
 
--- src/lib.rt:20:10
 cast-result : tie.Need-cast-result
 cast-result c = search needs
 
--- src/lib.rt:20:5
 sub-result : tie.Need-sub-result
 sub-result c = rw (toZ-pos w64 {n = c .args .n} (omega arith), minus-pos (c .args .n)) (sfits-abs w64 (negℤ (pos (c .args .n))) (small (c .args .n) (omega arith)))
 
--- src/lib.rt:17:1
 returns : tie.Need-returns
 returns c = toZ-ofZ (sub-result c) ∙ rw (toZ-pos w64 {n = c .args .n} (omega arith)) (minus-pos (c .args .n))
 

@@ -1,3 +1,5 @@
+-- `tulghimo::tulghimo_day` meets its contract: the call says which case it is, and the four figures are stored in their order.
+-- Assumes nothing.
 use mathlib.Core.Path.{_≡_, refl, sym, ap, _∙_}
 use mir.Syntax.{w64}
 use Rattle.gate.specs.Outcome.{refused, result}
@@ -6,40 +8,28 @@ use Rattle.day.specs.Day.{dayOutcome, dayAnswer}
 use borrow.Author.Needs.{needs}
 use Rattle.tulghimo.proofs.tulghimo_day.Statement.{statement}
 use Rattle.tulghimo.proofs.tulghimo_day.Tie as tie
-use Rattle.tulghimo.proofs.tulghimo_day.Reads as reads
-use Rattle.tulghimo.proofs.tulghimo_day.Lts as lts
-use Rattle.day.proofs.figures.Reads as figures-reads
-use Rattle.tulghimo.proofs.put_figures.Reads as put-figures-reads
-use Rattle.tulghimo.proofs.refusal.Reads as refusal-reads
 
--- src/lib.rt:82:9
 figures-requires : tie.Need-figures-requires
 figures-requires c κs = search needs
 
--- src/lib.rt:84:22
 enum-known-d : tie.Need-enum-known-d
 enum-known-d c = search needs
 
--- src/lib.rt:84:28
 put-figures-requires : tie.Need-put-figures-requires
 put-figures-requires c κs = search needs
 
--- src/lib.rt:85:22
 enum-known-d-2 : tie.Need-enum-known-d-2
 enum-known-d-2 c = search needs
 
--- src/lib.rt:85:28
 refusal-requires : tie.Need-refusal-requires
 refusal-requires c κs = search needs
 
--- src/lib.rt:77:1
 returns : tie.Need-returns
 returns c =
     let known = c .before .before .before in
     let e : dayOutcome (known .before .before .before .before .args .log .now) ≡ result (known .d .given .0 .0) = sym (known .before .before .figures .ensures) ∙ ap dayAnswer (known .d .given .1) in
     rw e (back w64 (c .put-figures .result) (c .put-figures .ok) ∙ c .put-figures .ensures .0, c .put-figures .ensures .1)
 
--- src/lib.rt:77:1
 returns-2 : tie.Need-returns-2
 returns-2 c =
     let known = c .before .before in

@@ -1,4 +1,6 @@
-use mathlib.Core.Path.{_≡_, sym, ap, subst, _∙_}
+-- `tulghimo::tulghimo_summarise` meets its contract: the call's own two equations, and that a summary is short.
+-- Assumes nothing.
+use mathlib.Core.Path.{sym, ap, subst, _∙_}
 use mir.Syntax.{w64}
 use Rattle.number.specs.Word.{back}
 use Rattle.tulghimo.specs.Interface.{Short, lengthStatus}
@@ -6,24 +8,16 @@ use Rattle.tulghimo.specs.Lengths.{short-summary}
 use borrow.Author.Needs.{needs}
 use Rattle.tulghimo.proofs.tulghimo_summarise.Statement.{statement}
 use Rattle.tulghimo.proofs.tulghimo_summarise.Tie as tie
-use Rattle.tulghimo.proofs.tulghimo_summarise.Reads as reads
-use Rattle.tulghimo.proofs.tulghimo_summarise.Lts as lts
-use Rattle.summarise.proofs.summarise.Reads as summarise-reads
-use Rattle.tulghimo.proofs.status.Reads as status-reads
 
--- src/lib.rt:69:12
 summarise-requires : tie.Need-summarise-requires
 summarise-requires c κs = search needs
 
--- src/lib.rt:69:5
 status-requires : tie.Need-status-requires
 status-requires c κs = subst Short (sym (c .before .before .summarise .ensures .0)) (short-summary _ _ _)
 
--- src/lib.rt:64:1
 same-length : tie.Need-same-length
 same-length c = search needs
 
--- src/lib.rt:64:1
 returns : tie.Need-returns
 returns c = (back w64 (c .status .result) (c .status .ok) ∙ c .status .ensures ∙ ap lengthStatus (c .before .before .before .summarise .ensures .0), c .before .before .before .summarise .ensures .1)
 
