@@ -85,7 +85,7 @@ enum-told : tie.Need-enum-told Inv-loop μ-loop
 enum-told c = search needs
 
 returns-2 : tie.Need-returns-2 Inv-loop μ-loop
-returns-2 c = sym (laws.stopped (c .before .before .before .before .loop .inv) (c .before .before .before .loop-test .taken) (sym (c .before .before .read-first .ensures) ∙ ap answerOf (c .enum-told .given .1)))
+returns-2 c = sym (laws.stopped (c .before .before .before .before .loop .inv) (omega (arith, c .before .before .before .loop-test .taken)) (sym (c .before .before .read-first .ensures) ∙ ap answerOf (c .enum-told .given .1)))
 
 cast-length : tie.Need-cast-length Inv-loop μ-loop
 cast-length c = search needs
