@@ -1,28 +1,24 @@
 -- The day's figures are the recursion's: demand 2 for the bytes of a whole log. Assumes nothing.
-use mathlib.Core.Path.{_≡_, refl, sym, ap, _∙_}
-use mathlib.Core.Bool.{true, false}
-use mathlib.Core.List.{List, [], _∷_}
+use mathlib.Core.Path.{_≡_, refl, ap, _∙_}
+use mathlib.Core.List.{List}
 use Prim.Native.Nat.{ℕ, _≤_, _<_}
 use native.Mathlib.Omega.{arith}
-use lib.Dec.{leb}
 use lib.ListN.{length}
 use borrow.Author.Tests.{le-leb, lt-leb}
-use Rattle.gate.specs.Outcome.{Outcome, refused, result, question, onward}
+use Rattle.gate.specs.Outcome.{refused, result}
 use Rattle.record.specs.Record.{recordsOf}
 use Rattle.record.specs.declared.Fields.{Fields}
 use Rattle.figure.specs.FourModes.{Amounts}
 use Rattle.figure.specs.Mode.{modeOf}
 use Rattle.hill.specs.Verdict.{Verdict, pass, refuse}
 use Rattle.hill.specs.Log.{Record, logFault}
-use Rattle.hill.specs.Questions.{NoOfLog, Lowest}
+use Rattle.hill.specs.Questions.{NoOfLog}
 use Rattle.hill.specs.Faults.{lowest-log}
 use Rattle.hill.specs.Tree.{Forest, nil, tree, write, value}
-use Rattle.hill.specs.Figure.{figureOf}
-use Rattle.hill.specs.FigureLaws.{TreeOfLog, log-tree}
+use Rattle.hill.specs.FigureLaws.{log-tree}
 use Rattle.hill.specs.Finish.{outcome}
-use Rattle.summary.specs.Outcomes.{chunkOf, logOutcome}
+use Rattle.summary.specs.Outcomes.{chunkOf}
 use Rattle.summary.specs.OutcomeLaws.{onward-outcome}
-use Rattle.text.specs.declared.Figures.{Figures}
 use Rattle.day.specs.Day.{wholeLog, figureIn, figuresOf, dayOutcome}
 
 -- ---- by questions

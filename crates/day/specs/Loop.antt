@@ -2,33 +2,31 @@
 use mathlib.Core.Path.{_≡_, refl, sym, ap, subst, _∙_}
 use mathlib.Core.Bool.{Bool, true, false}
 use mathlib.Core.List.{List, [], _∷_, _++_}
-use Prim.Native.Nat.{ℕ, zero, suc, _+_, _-_, _*_, _≤_, _<_}
+use Prim.Native.Nat.{ℕ, zero, suc, _-_, _≤_, _<_}
 use native.Mathlib.Omega.{arith}
 use lib.Dec.{eqb}
 use lib.IntN.{ℤ}
 use lib.ListN.{length, take, drop}
 use borrow.Author.Tests.{eqb-true}
-use Rattle.gate.specs.Outcome.{Outcome, refused, result}
-use Rattle.record.specs.Record.{readOf, recordsOf}
+use Rattle.gate.specs.Outcome.{refused, result}
+use Rattle.record.specs.Record.{readOf}
 use Rattle.record.specs.Laws.{sound}
 use Rattle.record.specs.Handed as handing
 use Rattle.record.specs.Handed.{Handed}
 use Rattle.record.specs.declared.Fields.{Fields}
-use Rattle.hill.specs.Verdict.{Verdict, pass, refuse, low, ask}
+use Rattle.hill.specs.Verdict.{Verdict, pass, low, ask}
 use Rattle.hill.specs.VerdictLaws.{low-fst, low-snd}
-use Rattle.hill.specs.Log.{Record, startLevel, openedOf, logFault}
-use Rattle.hill.specs.Tree.{nil, tree, write, value}
+use Rattle.hill.specs.Log.{Record, startLevel, logFault}
+use Rattle.hill.specs.Tree.{nil, tree, value}
 use Rattle.hill.specs.TreeLaws.{hillOf-write}
-use Rattle.hill.specs.Figure.{figureOf}
-use Rattle.hill.specs.FigureLaws.{TreeOfLog, log-tree}
-use Rattle.hill.specs.Summary.{hill, middle}
+use Rattle.hill.specs.FigureLaws.{log-tree}
+use Rattle.hill.specs.Summary.{middle}
 use Rattle.hill.specs.Building.{hillOf}
 use Rattle.hill.specs.Finish.{outcome}
 use Rattle.figure.specs.FourModes.{Amounts}
 use Rattle.figure.specs.Mode.{modeOf}
 use Rattle.figure.specs.Stored.{IsStored, amounts, none}
-use Rattle.slopes.specs.Arrays.{Sound}
-use Rattle.slopes.specs.Laws.{counts, emptied}
+use Rattle.slopes.specs.Laws.{emptied}
 use Rattle.summary.specs.Values.{tells-range}
 use Rattle.summary.specs.Outcomes.{recordOf, chunkOf}
 use Rattle.text.specs.declared.Figures.{Figures}

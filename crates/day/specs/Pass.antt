@@ -1,7 +1,7 @@
 -- The pass over a log in four modes: the arrays stand for the hills of the records so far, as long as there is no fault. Assumes nothing.
 use mathlib.Core.Path.{_≡_, refl, sym, subst}
 use mathlib.Core.List.{List, [], _∷_, _++_}
-use Prim.Native.Nat.{ℕ, suc, _+_, _*_, _^_, _≤_, _<_}
+use Prim.Native.Nat.{ℕ, suc, _*_, _≤_, _<_}
 use native.Mathlib.Omega.{arith}
 use lib.IntN.{ℤ}
 use lib.ListN.{length}
@@ -13,9 +13,9 @@ use Rattle.hill.specs.Growth.{opened-append}
 use Rattle.figure.specs.FourModes.{Amounts, limit, InRange}
 use Rattle.figure.specs.Mode.{Mode, modeOf}
 use Rattle.figure.specs.Stored.{amounts, none}
-use Rattle.slopes.specs.Arrays.{Arrays, arrays, Fig, slopesOf, weightOf, Sound, Able, StandsFor}
+use Rattle.slopes.specs.Arrays.{Arrays, arrays, Fig, slopesOf, weightOf, Able, StandsFor}
 use Rattle.slopes.specs.Actions.{Pushed}
-use Rattle.slopes.specs.Laws.{counts, able, restate, opened, after, after-more, emptied}
+use Rattle.slopes.specs.Laws.{counts, able, restate, opened, after, after-more}
 use Rattle.record.specs.declared.Fields.{Fields}
 use Rattle.summary.specs.Outcomes.{recordOf}
 use Rattle.text.specs.declared.Figures.{Figures}

@@ -2,7 +2,6 @@
 use mathlib.Core.Path.{_≡_}
 use Prim.Native.Nat.{_<_, _^_}
 use native.Mathlib.Omega.{arith}
-use lib.IntN.{ℤ}
 use lib.Signed.{mag}
 use mir.Syntax.{w32, w64}
 use mir.Val.{toZ, ofZ}
@@ -11,10 +10,6 @@ use Rattle.day.specs.Pass.{applied-open, asks-net, asks-heaviest, asks-e
 use borrow.Author.Needs.{needs}
 use Rattle.day.proofs.apply.Statement.{statement}
 use Rattle.day.proofs.apply.Tie as tie
-use Rattle.day.proofs.apply.Reads as reads
-use Rattle.day.proofs.apply.Lts as lts
-use Rattle.day.proofs.close_at.Reads as close-at-reads
-use Rattle.day.proofs.open_at.Reads as open-at-reads
 
 -- the numbers of the record, as the code reads them
 value-is : (c : tie.After-struct-told) → toZ w32 (ofZ w32 (c .before .before .before .before .before .before .before .before .before .before .before .before .args .f .value)) ≡ c .before .before .before .before .before .before .before .before .before .before .before .before .args .f .value

@@ -1,7 +1,6 @@
 -- `day::close_at` meets its contract: the record's figure joins the level below. Assumes nothing.
 use mathlib.Core.Path.{_≡_, refl}
-use Prim.Native.Nat.{ℕ, suc}
-use lib.IntN.{ℤ}
+use Prim.Native.Nat.{ℕ}
 use denote.Ref.{now}
 use mir.Syntax.{w32, w64}
 use mir.Val.{toZ, ofZ}
@@ -15,10 +14,6 @@ use Rattle.day.specs.Pass.{rising}
 use borrow.Author.Needs.{needs}
 use Rattle.day.proofs.close_at.Statement.{statement}
 use Rattle.day.proofs.close_at.Tie as tie
-use Rattle.day.proofs.close_at.Reads as reads
-use Rattle.day.proofs.close_at.Lts as lts
-use Rattle.figure.proofs.through.Reads as through-reads
-use Rattle.slopes.proofs.add.Reads as add-reads
 
 -- the mode, the arrays at entry, and the record's place
 abbrev M : tie.Start → Mode

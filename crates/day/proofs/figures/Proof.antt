@@ -7,7 +7,7 @@ use borrow.Author.Needs.{needs}
 use denote.Ref.{now}
 use mir.Syntax.{w64}
 use Rattle.number.specs.Word.{back}
-use Rattle.gate.specs.Outcome.{refused, result}
+use Rattle.gate.specs.Outcome.{result}
 use Rattle.record.specs.Record.{readOf, answerOf}
 use Rattle.record.specs.Laws.{sound}
 use Rattle.hill.specs.Verdict.{low, ask}
@@ -17,14 +17,6 @@ use Rattle.day.specs.Loop as laws
 use Rattle.day.specs.Loop.{Inv}
 use Rattle.day.proofs.figures.Statement.{statement}
 use Rattle.day.proofs.figures.Tie as tie
-use Rattle.day.proofs.figures.Reads as reads
-use Rattle.day.proofs.figures.Lts as lts
-use Rattle.day.proofs.apply.Reads as apply-reads
-use Rattle.day.proofs.ground.Reads as ground-reads
-use Rattle.day.proofs.lower.Reads as lower-reads
-use Rattle.day.proofs.note.Reads as note-reads
-use Rattle.figure.proofs.nothing.Reads as nothing-reads
-use Rattle.record.proofs.read_first.Reads as read-first-reads
 
 abbrev Inv-loop : tie.InvT-loop
 Inv-loop log values₀ floors₀ ceilings₀ net₀ heaviest₀ eaten₀ stamp₀ mid₀ t₀ rest₀ values floors ceilings net heaviest eaten stamp mid t rest =
@@ -85,7 +77,7 @@ enum-told : tie.Need-enum-told Inv-loop μ-loop
 enum-told c = search needs
 
 returns-2 : tie.Need-returns-2 Inv-loop μ-loop
-returns-2 c = sym (laws.stopped (c .before .before .before .before .loop .inv) (c .before .before .before .loop-test .taken) (sym (c .before .before .read-first .ensures) ∙ ap answerOf (c .enum-told .given .1)))
+returns-2 c = sym (laws.stopped (c .before .before .before .before .loop .inv) (omega (arith, c .before .before .before .loop-test .taken)) (sym (c .before .before .read-first .ensures) ∙ ap answerOf (c .enum-told .given .1)))
 
 cast-length : tie.Need-cast-length Inv-loop μ-loop
 cast-length c = search needs

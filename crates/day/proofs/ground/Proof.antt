@@ -3,11 +3,9 @@ use mathlib.Core.Path.{_≡_}
 use Prim.Native.Nat.{ℕ}
 use lib.Dec.{eqb}
 use borrow.Author.Tests.{eq-eqb, ne-eqb}
-use Rattle.hill.specs.Verdict.{Verdict, pass, refuse, ask}
+use Rattle.hill.specs.Verdict.{pass, refuse, ask}
 use Rattle.day.proofs.ground.Statement.{statement}
 use Rattle.day.proofs.ground.Tie as tie
-use Rattle.day.proofs.ground.Reads as reads
-use Rattle.day.proofs.ground.Lts as lts
 
 at-zero : (l : ℕ) → l ≡ 0 → pass ≡ ask 11 (eqb l 0)
 at-zero l e = rw (eq-eqb l 0 e)

@@ -2,14 +2,11 @@
 use mathlib.Core.Path.{_≡_, refl, sym, ap}
 use Prim.Native.Nat.{ℕ, zero, suc, _≤_, _<_}
 use native.Mathlib.Omega.{arith}
-use borrow.Author.Needs.{needs}
 use Rattle.hill.specs.Verdict.{refuse, low}
 use Rattle.hill.specs.VerdictLaws.{low-pass}
 use Rattle.day.specs.Levels.{verdictOf}
 use Rattle.day.proofs.lower.Statement.{statement}
 use Rattle.day.proofs.lower.Tie as tie
-use Rattle.day.proofs.lower.Reads as reads
-use Rattle.day.proofs.lower.Lts as lts
 
 first-none : (a b : ℕ) → a ≡ 0 → verdictOf b ≡ low (verdictOf a) (verdictOf b)
 first-none a b e = rw e

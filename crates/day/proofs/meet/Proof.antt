@@ -1,18 +1,15 @@
 -- `day::meet` meets its contract: question 11 for the first record, 7 and 8 for a later one. Assumes nothing.
-use mathlib.Core.Path.{_≡_, refl, sym}
+use mathlib.Core.Path.{_≡_, refl}
 use mathlib.Core.Bool.{Bool, true, false}
 use Prim.Native.Nat.{ℕ}
 use native.Mathlib.Omega.{arith}
 use lib.Dec.{eqb, ltb}
 use borrow.Author.Tests.{eq-eqb, ne-eqb, lt-ltb, le-ltb}
 use borrow.Author.Needs.{needs}
-use Rattle.hill.specs.Verdict.{Verdict, pass, refuse, low, ask, between}
+use Rattle.hill.specs.Verdict.{pass, refuse, low, ask, between}
 use Rattle.day.specs.Levels.{verdictOf, meeting}
 use Rattle.day.proofs.meet.Statement.{statement}
 use Rattle.day.proofs.meet.Tie as tie
-use Rattle.day.proofs.meet.Reads as reads
-use Rattle.day.proofs.meet.Lts as lts
-use Rattle.day.proofs.ground.Reads as ground-reads
 
 seven : (b : Bool) → refuse 7 ≡ low (refuse 7) (ask 8 b)
 seven true = refl

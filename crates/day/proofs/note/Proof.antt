@@ -12,10 +12,6 @@ use Rattle.day.specs.Pass.{is-open, is-close}
 use borrow.Author.Needs.{needs}
 use Rattle.day.proofs.note.Statement.{statement}
 use Rattle.day.proofs.note.Tie as tie
-use Rattle.day.proofs.note.Reads as reads
-use Rattle.day.proofs.note.Lts as lts
-use Rattle.day.proofs.lower.Reads as lower-reads
-use Rattle.day.proofs.meet.Reads as meet-reads
 
 -- the two ways, with the code's numbers given by equations
 module _ (t : Tally) (f : Fields) {t′ : Tally} (m s : ℕ) where

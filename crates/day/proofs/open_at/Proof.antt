@@ -4,20 +4,15 @@ use mathlib.Core.List.{List}
 use Prim.Native.Nat.{ℕ}
 use lib.IntN.{ℤ}
 use lib.ListN.{set}
-use denote.Ref.{now}
 use mir.Syntax.{w64}
 use mir.Facts.{toZ-ofZ}
 use Rattle.number.specs.Word.{back}
 use Rattle.figure.specs.Mode.{modeOf}
 use Rattle.figure.specs.Stored.{none}
-use Rattle.slopes.specs.Actions.{Pushed}
 use Rattle.day.specs.Pass.{Opened}
 use borrow.Author.Needs.{needs}
 use Rattle.day.proofs.open_at.Statement.{statement}
 use Rattle.day.proofs.open_at.Tie as tie
-use Rattle.day.proofs.open_at.Reads as reads
-use Rattle.day.proofs.open_at.Lts as lts
-use Rattle.figure.proofs.nothing.Reads as nothing-reads
 
 -- what the code stores, by equations
 stored : {d : ℕ} {v f c v′ f′ c′ n′ h′ e′ s′ : ℤ} {vs fs cs ns hs es ss : List ℤ} → v′ ≡ v → f′ ≡ f → c′ ≡ c

@@ -9,11 +9,6 @@ use Rattle.day.specs.Day.{dayAnswer, dayOutcome}
 use borrow.Author.Needs.{needs}
 use Rattle.day.proofs.text.Statement.{statement}
 use Rattle.day.proofs.text.Tie as tie
-use Rattle.day.proofs.text.Reads as reads
-use Rattle.day.proofs.text.Lts as lts
-use Rattle.day.proofs.figures.Reads as figures-reads
-use Rattle.text.proofs.write_line.Reads as write-line-reads
-use Rattle.text.proofs.write_refusal.Reads as write-refusal-reads
 
 -- what `figures` answered is the log's outcome
 figures-are : (c : tie.After-f) → result (c .f .given .0 .0) ≡ dayOutcome (now (c .before .before .before .before .args .log))

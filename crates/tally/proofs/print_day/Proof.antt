@@ -8,10 +8,6 @@ use lib.Seq.{length-sets}
 use borrow.Author.Needs.{needs}
 use Rattle.tally.proofs.print_day.Statement.{statement}
 use Rattle.tally.proofs.print_day.Tie as tie
-use Rattle.tally.proofs.print_day.Reads as reads
-use Rattle.tally.proofs.print_day.Lts as lts
-use Rattle.day.proofs.text.Reads as text-reads
-use Rattle.io.proofs.write_all.Reads as write-all-reads
 
 -- the buffer keeps its length
 within : (c : tie.After-text) → c .text .result ≤ length (c .text .last .1 .0)
