@@ -16,7 +16,7 @@ use Rattle.hill.specs.Summary.{part, spoilt}
 use Rattle.summary.specs.Layout.{encode}
 use Rattle.summary.specs.Accepted.{encode-length}
 use Rattle.codec.specs.Contracts.{Wrote}
-use Rattle.merge.specs.Asks.{Answers, Copied}
+use Rattle.merge.specs.Asks.{Answers, Front, Copied}
 
 module _ (w o : List ℕ) where
   pub answer-fits : {o′ : List ℕ} {n : ℕ} → length w ≤ length o → n ≡ length w → o′ ≡ w ++ drop (length w) o → Answers (written (length o) w) o o′ (Bytes n)
@@ -33,17 +33,13 @@ module _ (w o : List ℕ) where
     fitting : Answers (result w) o o′ r
     fitting = rw (le-leb (length w) (length o) h) at a
 
-    pub bytes-length : {n : ℕ} → r ≡ Bytes n → n ≡ length w
-    bytes-length {n} e = let f : result n ≡ result (length w) = sym (ap writtenAnswer e) ∙ fitting .answered in cc
+    length-is : {n : ℕ} → r ≡ Bytes n → n ≡ length w
+    length-is {n} e = let f : result n ≡ result (length w) = sym (ap writtenAnswer e) ∙ fitting .answered in cc
 
-    pub bytes-front : {n : ℕ} → r ≡ Bytes n → take n o′ ≡ w
-    bytes-front {n} e = ap (take n) (fitting .buffer) ∙ take-at w (drop (length w) o) n (sym (bytes-length e))
-
-    pub bytes-inside : {n : ℕ} → r ≡ Bytes n → n ≤ length o′
-    bytes-inside {n} e = omega (arith, length-take n o′, ap length (bytes-front e), bytes-length e)
-
-    pub bytes-count : {n : ℕ} → r ≡ Bytes n → n ≡ length (take n o′)
-    bytes-count e = bytes-length e ∙ sym (ap length (bytes-front e))
+    pub front : {n : ℕ} → r ≡ Bytes n → Front w o′ n
+    front {n} e =
+        let s : take n o′ ≡ w = ap (take n) (fitting .buffer) ∙ take-at w (drop (length w) o) n (sym (length-is e)) in
+        record { is = s; count = length-is e ∙ sym (ap length s); inside = omega (arith, length-take n o′, ap length s, length-is e) }
 
     pub never-refused : {n : ℕ} → r ≡ Refused n → ⊥
     never-refused {n} e = let f : refused n ≡ result (length w) = sym (ap writtenAnswer e) ∙ fitting .answered in let z : _≡_ {A = ℕ} 0 1 = cc in omega arith

@@ -2,7 +2,7 @@
 use mathlib.Core.Path.{_≡_}
 use mathlib.Core.List.{List}
 use Prim.Native.Nat.{ℕ, _≤_, min}
-use lib.ListN.{length}
+use lib.ListN.{length, take}
 use lib.Seq.{paste}
 use Rattle.gate.specs.Outcome.{Outcome, bufferAfter}
 use Rattle.gate.specs.Answers.{writtenAnswer, lengthAnswered}
@@ -17,6 +17,12 @@ use Rattle.merge.specs.Stretch.{SaysPart}
 pub record Answers (o : Outcome (List ℕ)) (before after : List ℕ) (r : Written) : Type 0 where
   pub answered : writtenAnswer r ≡ lengthAnswered o
   pub buffer : after ≡ bufferAfter o before
+
+-- The first n bytes of o are w.
+pub record Front (w o : List ℕ) (n : ℕ) : Type 0 where
+  pub is : take n o ≡ w
+  pub count : n ≡ length (take n o)
+  pub inside : n ≤ length o
 
 -- The first i of the bytes b stand at the front of the buffer, which was o and is long enough.
 pub record Copied (b o o′ : List ℕ) (i : ℕ) : Type 0 where

@@ -7,7 +7,9 @@ use Rattle.figure.specs.Mode.{modeOf}
 use Rattle.hill.specs.Merge.{mergeHills}
 use Rattle.hill.specs.Summary.{part, whole}
 use denote.Ref.{now}
-use Prim.Native.Nat.{ℕ}
+use Prim.Native.Nat.{ℕ, _<_}
+use lib.ListN.{length}
+use mathlib.Core.Path.{sym, subst}
 use mathlib.Core.List.{List}
 use native.Mathlib.Omega.{arith}
 use borrow.Author.Needs.{needs}
@@ -44,7 +46,9 @@ add-if1-2 : tie.Need-add-if1-2
 add-if1-2 c = let p = c .before .before .before .pre in omega (arith, p .start-is, p .left .start-high, p .end-is, p .right .end-high)
 
 returns : tie.Need-returns
-returns c = let a = c .before .before .before .before in answer-short (bytes a) (now (a .args .out)) (omega (arith, joined-length (a .pre) (a .args .opened)))
+returns c =
+    let a = c .before .before .before .before in
+    answer-short (bytes a) (now (a .args .out)) (subst (λ (n : ℕ). length (now (a .args .out)) < n) (sym (joined-length (a .pre) (a .args .opened))) (c .if1 .taken))
 
 put-joined-requires : tie.Need-put-joined-requires
 put-joined-requires c κs = search needs
