@@ -27,7 +27,8 @@ fn full_chunk(shape: Shape) -> Vec<u8> {
     let mut rng = Rng::new(7);
     let mut opened = 2_700;
     loop {
-        let bytes = encode_mixed(&mut rng, &log(&mut rng.clone(), shape, Values::Small, opened));
+        let records = log(&mut rng, shape, Values::Small, opened);
+        let bytes = encode_mixed(&mut rng, &records);
         if bytes.len() <= 65_536 {
             return bytes;
         }

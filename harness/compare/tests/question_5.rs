@@ -1,0 +1,210 @@
+//! Question 5 by way of finish: each clause at its edge and past it, in each mode, the proved library against the reference.
+
+use compare::{numbers_outcome, LentNumbers};
+use reference::calls;
+
+const LEAST: i64 = i64::MIN;
+const GRAMS: i64 = 1_000_000_000;
+
+/// Finish must answer alike; whether the bytes are taken is what the reference says.
+fn agree(bytes: &[u8]) -> bool {
+    let answer = LentNumbers::default().lend(|figure| tulghimo::finish(bytes, figure));
+    let expected = calls::finish(bytes);
+    assert_eq!(answer, numbers_outcome(expected.map(|figure| [figure])), "{bytes:?}");
+    expected != Err(5)
+}
+
+/// A hill, field by field, whether accepted or not.
+#[derive(Clone)]
+struct Hill {
+    mode: u16,
+    start: u16,
+    peak: u16,
+    end: u16,
+    opened: u32,
+    left: Vec<i64>,
+    middle: i64,
+    right: Vec<(i32, i32, i32, i64)>,
+}
+
+impl Hill {
+    /// A hill of these levels that holds nothing anywhere, with records of 0 grams.
+    fn empty(mode: u16, start: u16, peak: u16, end: u16, opened: u32) -> Hill {
+        let none = if mode == 2 { LEAST } else { 0 };
+        Hill {
+            mode,
+            start,
+            peak,
+            end,
+            opened,
+            left: vec![none; usize::from(start.saturating_sub(peak))],
+            middle: none,
+            right: vec![(0, 0, 0, none); usize::from(end.saturating_sub(peak))],
+        }
+    }
+
+    fn bytes(&self) -> Vec<u8> {
+        let length = 24 + 8 * self.left.len() + 20 * self.right.len();
+        let mut out = Vec::new();
+        for word in [length as u16, 18, self.mode, self.start, self.peak, self.end] {
+            out.extend(word.to_le_bytes());
+        }
+        out.extend(self.opened.to_le_bytes());
+        for value in self.left.iter().chain([&self.middle]) {
+            out.extend(value.to_le_bytes());
+        }
+        for (value, floor, ceiling, held) in &self.right {
+            for number in [value, floor, ceiling] {
+                out.extend(number.to_le_bytes());
+            }
+            out.extend(held.to_le_bytes());
+        }
+        out
+    }
+}
+
+#[test]
+fn levels() {
+    let mut taken = 0;
+    for mode in 1..=4 {
+        for start in [0, 1, 2, 63, 64, 65, 300] {
+            for peak in [0, 1, 2, 63, 64, 65, 300] {
+                for end in [0, 1, 2, 63, 64, 65, 300] {
+                    taken += usize::from(agree(&Hill::empty(mode, start, peak, end, 64).bytes()));
+                }
+            }
+        }
+    }
+    assert!(taken > 100);
+}
+
+#[test]
+fn opened() {
+    for mode in 1..=4 {
+        for opened in [0, 1, 2, 99_999, 100_000, 100_001, u32::MAX] {
+            for (start, peak, end) in [(0, 0, 0), (5, 5, 5), (1, 0, 0), (0, 0, 1), (3, 2, 4)] {
+                agree(&Hill::empty(mode, start, peak, end, opened).bytes());
+            }
+        }
+    }
+}
+
+#[test]
+fn the_middle_at_peak_0() {
+    for mode in 1..=4 {
+        for middle in [LEAST, LEAST + 1, -1, 0, 1, i64::MAX] {
+            for (start, end) in [(0, 0), (1, 0), (0, 1), (0, 3), (2, 0)] {
+                let hill = Hill { middle, ..Hill::empty(mode, start, 0, end, 9) };
+                agree(&hill.bytes());
+            }
+        }
+    }
+}
+
+#[test]
+fn records_in_range() {
+    let ends = [i32::MIN, -1_000_000_001, -1_000_000_000, -1, 0, 1, 1_000_000_000, 1_000_000_001, i32::MAX];
+    for mode in 1..=4 {
+        for value in ends {
+            for floor in ends {
+                for ceiling in ends {
+                    let mut hill = Hill::empty(mode, 3, 2, 4, 9);
+                    let held = hill.right[1].3;
+                    hill.right[1] = (value, floor, ceiling, held);
+                    agree(&hill.bytes());
+                }
+            }
+        }
+    }
+}
+
+#[test]
+fn values_at_the_bound() {
+    // Levels 5, 3, 4 with 5 opened and 1 unclosed: modes 1 to 3 have room for 4 × 10^9.
+    let room = 4 * GRAMS;
+    let numbers = [LEAST, LEAST + 1, -room - 1, -room, -1, 0, 1, room, room + 1, (1 << 32) - 1, 1 << 32, i64::MAX];
+    for mode in 1..=4 {
+        for place in 0..4 {
+            for number in numbers {
+                let mut hill = Hill::empty(mode, 5, 3, 4, 5);
+                match place {
+                    0 | 1 => hill.left[place] = number,
+                    2 => hill.middle = number,
+                    _ => hill.right[0].3 = number,
+                }
+                agree(&hill.bytes());
+                // Shared between two places, at the bound and one past it.
+                for other in [-1, 1] {
+                    hill.left[(place + 1) % 2] = other;
+                    agree(&hill.bytes());
+                }
+            }
+        }
+    }
+}
+
+#[test]
+fn many_values_of_the_greatest_size() {
+    // 64 left values and 64 records at the ends of the type: no sum may wrap.
+    for mode in 1..=4 {
+        for number in [LEAST, LEAST + 1, i64::MAX, 1 << 62, -(1 << 62)] {
+            let mut hill = Hill::empty(mode, 64, 0, 0, 100_000);
+            hill.left = vec![number; 64];
+            agree(&hill.bytes());
+            let mut hill = Hill::empty(mode, 63, 1, 63, 100_000);
+            hill.left = vec![number; 62];
+            for record in &mut hill.right {
+                record.3 = number;
+            }
+            agree(&hill.bytes());
+        }
+    }
+}
+
+#[test]
+fn spoilt_ones() {
+    for mode in [0, 1, 2, 3, 4, 5, 257] {
+        for fault in [0, 6, 7, 8, 9, 10, 263] {
+            for level in [0, 1, 64, 65, 320] {
+                for opened in [0u32, 1, 100_000, 100_001, 100_002, u32::MAX] {
+                    for (start, end) in [(level, 0), (0, level)] {
+                        let mut bytes = Vec::new();
+                        for word in [16u16, 17, mode, fault, start, end] {
+                            bytes.extend(word.to_le_bytes());
+                        }
+                        bytes.extend(opened.to_le_bytes());
+                        agree(&bytes);
+                    }
+                }
+            }
+        }
+    }
+}
+
+#[test]
+fn lengths_and_kinds() {
+    for mode in 1..=4 {
+        let hill = Hill::empty(mode, 5, 3, 4, 5).bytes();
+        for length in 0..=hill.len() {
+            agree(&hill[..length]);
+        }
+        agree(&[hill.clone(), vec![0]].concat());
+        for kind in 0..40 {
+            let mut other = hill.clone();
+            other[2] = kind;
+            agree(&other);
+        }
+        for length in 0..=255 {
+            let mut other = hill.clone();
+            other[0] = length;
+            agree(&other);
+        }
+        for size in 4..30 {
+            for kind in [16, 17, 18] {
+                let mut bytes = vec![size as u8, 0, kind, 0, mode as u8, 0];
+                bytes.resize(size, 0);
+                agree(&bytes);
+            }
+        }
+    }
+}
