@@ -1,0 +1,88 @@
+// The calls on a row of summaries that write or work along the join plan.
+ghost use mathlib.Core.Path.{_≡_};
+ghost use Prim.Native.Nat.{_≤_, min, max};
+ghost use lib.ListN.{length};
+ghost use Rattle.gate.specs.Outcome.{bufferAfter};
+ghost use Rattle.gate.specs.Answers.{writtenAnswer, lengthAnswered};
+ghost use Rattle.join_plan.specs.Scan.{plan as scanned};
+ghost use Rattle.outcome.specs.Outcomes.{linesBytes, planOutcome};
+ghost use Rattle.plan.specs.Arrays.{levelsIn, Noted};
+ghost use Rattle.plan.specs.AsksLaws.{Wrote};
+use gate::Written;
+
+mod ask;
+mod fault;
+mod lines;
+mod pieces;
+mod scan;
+
+fn lower(a: u8, b: u8) -> u8
+    ensures { λ r. ⌜ r ≡ min a b ⌝ }
+{
+    if a < b { a } else { b }
+}
+
+fn higher(a: u8, b: u8) -> u8
+    ensures { λ r. ⌜ r ≡ max a b ⌝ }
+{
+    if a < b { b } else { a }
+}
+
+// The lines of a row's levels, where they fit.
+fn write_plan(
+    starts: &[u8; 64],
+    peaks: &[u8; 64],
+    ends: &[u8; 64],
+    count: usize,
+    out: &mut [u8],
+) -> Written
+    requires { ⌜ Noted (now starts) (now peaks) (now ends) ⌝ }
+    requires { ⌜ count ≤ 64 ⌝ }
+    requires { ⌜ length (scanned (levelsIn (now starts) (now peaks) (now ends)) count) ≤ 128 ⌝ }
+    ensures { λ r. ⌜ Wrote (linesBytes (scanned (levelsIn (now (starts .entry)) (now (peaks .entry)) (now (ends .entry))) count)) (writtenAnswer r) (now (out .entry)) (now (out .exit)) ⌝ }
+{
+    let mut is = [0u8; 128];
+    let mut js = [0u8; 128];
+    let mut lows = [0u8; 128];
+    let mut highs = [0u8; 128];
+    let n = scan::scan(
+        starts,
+        peaks,
+        ends,
+        count,
+        &mut is,
+        &mut js,
+        &mut lows,
+        &mut highs,
+    );
+    let total = 12 * n;
+    if out.len() < total {
+        return Written::Refused(12);
+    }
+    lines::write_lines(&is, &js, &lows, &highs, n, out);
+    Written::Bytes(total)
+}
+
+// The plan of a row.
+pub fn plan(row: &[u8], out: &mut [u8]) -> Written
+    ensures answer { λ r. ⌜ writtenAnswer r ≡ lengthAnswered (planOutcome (now (row .entry)) (length (now (out .entry)))) ⌝ }
+    ensures buffer { λ _. ⌜ now (out .exit) ≡ bufferAfter (planOutcome (now (row .entry)) (length (now (out .entry)))) (now (out .entry)) ⌝ }
+{
+    let mut kinds = [0u8; 64];
+    let mut starts = [0u8; 64];
+    let mut peaks = [0u8; 64];
+    let mut ends = [0u8; 64];
+    let mut opened = [0u32; 64];
+    let asked = ask::ask(
+        row,
+        &mut kinds,
+        &mut starts,
+        &mut peaks,
+        &mut ends,
+        &mut opened,
+    );
+    match asked {
+        ask::Asked::Refused(n) => Written::Refused(n),
+        ask::Asked::Row(count, _) => write_plan(&starts, &peaks, &ends, count, out),
+    }
+}
