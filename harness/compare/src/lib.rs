@@ -1,4 +1,6 @@
-//! Lent buffers with guards around them, for comparing what a call leaves in every byte.
+//! Lent buffers with guards around them, for comparing what a call leaves in every byte; [`agree`] compares each call so.
+
+pub mod agree;
 
 /// Numbers that no call answers: a field that still holds one was not written.
 pub const UNTOUCHED: i64 = 0x5aa5_1234_5aa5_4321;
@@ -50,7 +52,7 @@ impl LentBytes {
 
     /// The call's answer, with every byte of the buffer and of the guards held to what the call must come to: the result at the
     /// front and the rest as it was, or all as it was.
-    pub fn check(mut self, expected: &Result<Vec<u8>, u8>, call: impl FnOnce(&mut [u8]) -> i64) {
+    pub fn check(mut self, expected: &Result<Vec<u8>, u8>, call: impl FnOnce(&mut [u8]) -> i64) -> i64 {
         let mut wanted = self.all.clone();
         let wanted_answer = match expected {
             Ok(written) => {
@@ -61,17 +63,17 @@ impl LentBytes {
         };
         let answer = call(&mut self.all[GUARD..GUARD + self.capacity]);
         assert_eq!(answer, wanted_answer);
-        assert!(self.all == wanted, "a byte differs");
+        let differs = (0..wanted.len()).find(|&place| self.all[place] != wanted[place]);
+        assert_eq!(differs.map(|place| place as i64 - GUARD as i64), None, "the place of a byte that differs");
+        answer
     }
 }
 
-/// Buffers around the length of a result: empty, one short, exact, one longer, much longer.
+/// Buffers around the length of a result: all up to a short one, a few around a long one, and a much longer one.
 pub fn capacities(ample: &Result<Vec<u8>, u8>) -> Vec<usize> {
-    match ample {
-        Ok(written) => {
-            let exact = written.len();
-            vec![0, exact.saturating_sub(1), exact, exact + 1, exact + 300]
-        }
+    match ample.as_ref().map(Vec::len) {
+        Ok(exact) if exact <= 16 => (0..=exact + 2).chain([exact + 300]).collect(),
+        Ok(exact) => vec![0, 6, exact - 2, exact - 1, exact, exact + 1, exact + 2, exact + 300],
         Err(_) => vec![0, 6, 300],
     }
 }
