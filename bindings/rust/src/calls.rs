@@ -1,9 +1,12 @@
 //! The calls, with buffers of their own.
 
-use crate::{raw, Figures, Kind, Mode, Record, Refusal};
+use crate::{raw, Figures, Kind, Line, Mode, Record, Refusal};
 
 /// No summary is longer, in bytes.
 const LONGEST_SUMMARY: usize = 1_788;
+
+/// The plan of 64 summaries has at most 2 × 64 - 3 lines.
+const MOST_LINES: usize = 125;
 
 /// The number that a C function answers, or the refusal that it stands for.
 fn answer(status: i64) -> Result<usize, Refusal> {
@@ -56,12 +59,62 @@ pub fn read(chunk: &[u8]) -> Result<Record, Refusal> {
 /// use tulghimo::{example, summarise, Mode};
 ///
 /// let (one, two) = example::two_stretches();
-/// assert_eq!(summarise(one, Mode::Net)?.len(), 64);
-/// assert_eq!(summarise(two, Mode::Net)?.len(), 40);
+/// let (one, two) = (summarise(one, Mode::Net)?, summarise(two, Mode::Net)?);
+/// assert_eq!((one.len(), two.len()), (64, 40));
+/// // The second stretch closes two records: the values on its left are 0 and -3.
+/// assert_eq!(two[16..24], 0i64.to_le_bytes());
+/// assert_eq!(two[24..32], (-3i64).to_le_bytes());
 /// # Ok::<(), tulghimo::Refusal>(())
 /// ```
 pub fn summarise(chunk: &[u8], mode: Mode) -> Result<Vec<u8>, Refusal> {
     written(LONGEST_SUMMARY, |out| raw::summarise(chunk, mode.number(), out))
+}
+
+/// Two summaries merged: the summary of the joined chunks, the left one first. Refused: 5, 6.
+///
+/// ```
+/// use tulghimo::{example, finish, merge, summarise, Mode};
+///
+/// let (one, two) = example::two_stretches();
+/// for (mode, figure) in Mode::ALL.into_iter().zip([12, 15, 14, 72]) {
+///     let merged = merge(&summarise(one, mode)?, &summarise(two, mode)?)?;
+///     assert_eq!(merged, summarise(example::LOG_D, mode)?);
+///     assert_eq!(finish(&merged), Ok(figure));
+/// }
+/// # Ok::<(), tulghimo::Refusal>(())
+/// ```
+pub fn merge(left: &[u8], right: &[u8]) -> Result<Vec<u8>, Refusal> {
+    written(LONGEST_SUMMARY, |out| raw::merge(left, right, out))
+}
+
+/// A row of 2 to 64 summaries, end to end in one slice, merged. Refused: 4, 5, 6.
+///
+/// ```
+/// use tulghimo::{example, merge_row, summarise, Mode, Refusal};
+///
+/// let (one, two) = example::two_stretches();
+/// let row = [summarise(one, Mode::Net)?, summarise(&[], Mode::Net)?, summarise(two, Mode::Net)?];
+/// assert_eq!(merge_row(&row.concat()), summarise(example::LOG_D, Mode::Net));
+/// assert_eq!(merge_row(&row[0]), Err(Refusal::PieceCount));
+/// # Ok::<(), Refusal>(())
+/// ```
+pub fn merge_row(row: &[u8]) -> Result<Vec<u8>, Refusal> {
+    written(LONGEST_SUMMARY, |out| raw::merge_row(row, out))
+}
+
+/// The join plan of a row of 2 to 64 summaries, end to end in one slice. Refused: 4 to 11.
+///
+/// ```
+/// use tulghimo::{example, plan, summarise, Line, Mode};
+///
+/// let (one, two) = example::two_stretches();
+/// let row = [summarise(one, Mode::Net)?, summarise(two, Mode::Net)?].concat();
+/// assert_eq!(plan(&row), Ok(vec![Line { i: 0, j: 1, lowest: 0, highest: 1 }]));
+/// # Ok::<(), tulghimo::Refusal>(())
+/// ```
+pub fn plan(row: &[u8]) -> Result<Vec<Line>, Refusal> {
+    let lines = written(MOST_LINES * Line::LENGTH, |out| raw::plan(row, out))?;
+    Ok(lines.chunks_exact(Line::LENGTH).map(Line::read).collect())
 }
 
 /// The figure of one summary: that of the log it stands for. In mode 2 bytes that no chunk makes may hold nothing, which is

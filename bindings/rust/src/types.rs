@@ -58,6 +58,32 @@ pub struct Record {
     pub ceiling: i32,
 }
 
+/// The 16-bit number at a place.
+fn unsigned(bytes: &[u8], place: usize) -> u16 {
+    u16::from_le_bytes([bytes[place], bytes[place + 1]])
+}
+
+/// A line of the join plan: chunk `j` closes records that chunk `i` opened, of these depths. Chunks are counted from 0.
+#[derive(Clone, Copy, Debug, PartialEq, Eq, Hash)]
+#[allow(missing_docs)]
+pub struct Line {
+    pub i: u16,
+    pub j: u16,
+    pub lowest: u16,
+    pub highest: u16,
+}
+
+impl Line {
+    /// In bytes.
+    pub(crate) const LENGTH: usize = 12;
+
+    /// After length and kind come the four numbers.
+    pub(crate) fn read(bytes: &[u8]) -> Line {
+        let [i, j, lowest, highest] = [4, 6, 8, 10].map(|place| unsigned(bytes, place));
+        Line { i, j, lowest, highest }
+    }
+}
+
 /// The four figures of a whole log.
 #[derive(Clone, Copy, Debug, PartialEq, Eq, Hash)]
 #[allow(missing_docs)]

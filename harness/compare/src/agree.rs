@@ -33,6 +33,18 @@ pub fn summarise(chunk: &[u8], mode: u32) -> Vec<i64> {
     bytes(calls::summarise(chunk, mode, AMPLE), |out| raw::summarise(chunk, mode, out))
 }
 
+pub fn merge(left: &[u8], right: &[u8]) -> Vec<i64> {
+    bytes(calls::merge(left, right, AMPLE), |out| raw::merge(left, right, out))
+}
+
+pub fn merge_row(row: &[u8]) -> Vec<i64> {
+    bytes(calls::merge_row(row, AMPLE), |out| raw::merge_row(row, out))
+}
+
+pub fn plan(row: &[u8]) -> Vec<i64> {
+    bytes(calls::plan(row, AMPLE), |out| raw::plan(row, out))
+}
+
 pub fn finish(summary: &[u8]) -> Vec<i64> {
     numbers(calls::finish(summary).map(|figure| [figure]), |figure| raw::finish(summary, figure))
 }

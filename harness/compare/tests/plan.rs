@@ -1,6 +1,7 @@
 //! The join plan: the proved library against the reference, every byte of every buffer.
 
-use compare::{capacities, LentBytes};
+use compare::agree::plan as agree;
+use compare::LentBytes;
 use reference::calls;
 use reference::gen::{damage, forged, logs, Rng};
 use reference::layout::encode;
@@ -9,13 +10,6 @@ use reference::plan::{encode_plan, plan_by_records};
 use reference::record::{encode_all, Record};
 
 const AMPLE: usize = 8192;
-
-/// Each call on a row into buffers of all lengths that matter.
-fn agree(row: &[u8]) {
-    for capacity in capacities(&calls::plan(row, AMPLE)) {
-        LentBytes::new(capacity).check(&calls::plan(row, capacity), |out| tulghimo::plan(row, out));
-    }
-}
 
 fn row_of(chunks: &[Vec<Record>], mode: Mode) -> Vec<u8> {
     let summary = |chunk: &Vec<Record>| calls::summarise(&encode_all(chunk), mode.number(), AMPLE).unwrap();
@@ -44,7 +38,7 @@ fn lines_are_the_joins_by_records() {
         let chunks = logs::cut(&mut rng, &log, count);
         let row = row_of(&chunks, Mode::Net);
         let expected = Ok(encode_plan(&plan_by_records(&chunks)));
-        LentBytes::new(AMPLE).check(&expected, |out| tulghimo::plan(&row, out));
+        LentBytes::new(AMPLE).check(&expected, |out| tulghimo::raw::plan(&row, out));
     }
 }
 

@@ -36,6 +36,9 @@ pub struct Call {
 pub const CALLS: &[Call] = &[
     Call { name: "read", takes: Takes::Chunk, compare: |given| agree::read(&given.first) },
     Call { name: "summarise", takes: Takes::Chunk, compare: |given| agree::summarise(&given.first, given.mode) },
+    Call { name: "merge", takes: Takes::Pieces, compare: |given| agree::merge(&given.first, &given.second) },
+    Call { name: "merge_row", takes: Takes::Row, compare: |given| agree::merge_row(&given.first) },
+    Call { name: "plan", takes: Takes::Row, compare: |given| agree::plan(&given.first) },
     Call { name: "finish", takes: Takes::Piece, compare: |given| agree::finish(&given.first) },
     Call { name: "day", takes: Takes::Chunk, compare: |given| agree::day(&given.first) },
 ];
