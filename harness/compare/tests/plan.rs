@@ -43,6 +43,18 @@ fn lines_are_the_joins_by_records() {
 }
 
 #[test]
+fn plans_of_2p_minus_3_lines() {
+    let mut rng = Rng::new(0x91a6);
+    for count in 2..=64 {
+        for mode in Mode::ALL {
+            let row = row_of(&logs::longest_plan(&mut rng, count), mode);
+            assert_eq!(tulghimo::raw::plan(&row, &mut [0; AMPLE]), 12 * (2 * count as i64 - 3));
+            agree(&row);
+        }
+    }
+}
+
+#[test]
 fn forged_rows() {
     let mut rng = Rng::new(0x91a3);
     for round in 0..1500 {

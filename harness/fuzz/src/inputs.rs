@@ -87,6 +87,10 @@ fn faulty_log(rng: &mut Rng) -> Vec<Input> {
 
 /// A well-formed log, or one with a fault, cut into chunks.
 fn chunks(rng: &mut Rng) -> Vec<Vec<Record>> {
+    if rng.one_in(20) {
+        let count = 1 + size(rng, 8, 63);
+        return logs::longest_plan(rng, count);
+    }
     let most = size(rng, 40, 400);
     let log = if rng.one_in(6) {
         let fault = rng.pick(&[7, 8, 10, 11]);
