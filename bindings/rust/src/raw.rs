@@ -1,7 +1,7 @@
-//! The proved library's C functions as safe Rust functions on slices.
+//! The C functions on slices, with the buffers that the caller lends.
 //!
 //! Each function passes its slices on as they are and answers what the C function answers: nothing is checked, copied or hidden
-//! here, so that a test sees every byte that the library writes.
+//! here, so that a test sees every byte that the library writes. A refusal is the negative number of its question.
 
 mod ffi {
     extern "C" {
