@@ -7,27 +7,34 @@ use native.Mathlib.Decide.{decLt}
 use native.Mathlib.Omega.{arith}
 use lib.Dec.{ltb, eqb}
 use borrow.Author.Tests.{lt-ltb, le-ltb, le-leb, lt-leb, eq-eqb, ne-eqb}
-use Rattle.hill.specs.Verdict.{pass, refuse, low, lower, ask, between, count}
+use Rattle.hill.specs.Verdict.{Verdict, pass, refuse, low, lower, ask, between, count}
 use Rattle.hill.specs.VerdictLaws.{low-pass, low-comm, refuse-pass}
-use Rattle.fault.specs.Fault.{none, verdictOf}
+use Rattle.fault.specs.Fault.{noFault, verdictOf}
 
 -- ---- a fault or none
 
-pub clear : (f : ℕ) → none ≤ f → verdictOf f ≡ pass
+pub clear : (f : ℕ) → noFault ≤ f → verdictOf f ≡ pass
 unfolding verdictOf
-clear f h = rw (le-ltb f none h)
+clear f h = rw (le-ltb f noFault h)
 
-pub found : (f : ℕ) → f < none → verdictOf f ≡ refuse f
+pub found : (f : ℕ) → f < noFault → verdictOf f ≡ refuse f
 unfolding verdictOf
-found f h = rw (lt-ltb f none h)
+found f h = rw (lt-ltb f noFault h)
 
-pub is-clear : (f : ℕ) → verdictOf f ≡ pass → none ≤ f
-is-clear f e = dite (decLt f none) (λ h. absurd (refuse-pass (sym (found f h) ∙ e))) (λ h. omega arith)
+pub is-clear : (f : ℕ) → verdictOf f ≡ pass → noFault ≤ f
+is-clear f e = dite (decLt f noFault) (λ h. absurd (refuse-pass (sym (found f h) ∙ e))) (λ h. omega arith)
+
+-- what a fault says of the verdict that it stands for
+pub clear-is : {f : ℕ} {v : Verdict} → verdictOf f ≡ v → noFault ≤ f → v ≡ pass
+clear-is {f} e h = sym e ∙ clear f h
+
+pub found-is : {f : ℕ} {v : Verdict} → verdictOf f ≡ v → f < noFault → v ≡ refuse f
+found-is {f} e h = sym e ∙ found f h
 
 -- ---- the lower of two
 
 pub lower-first : (a b : ℕ) → a ≤ b → verdictOf a ≡ low (verdictOf a) (verdictOf b)
-lower-first a b h = dite (decLt b none)
+lower-first a b h = dite (decLt b noFault)
     (λ y. rw (found a (omega arith), found b y) (ap refuse (omega arith)))
     (λ y. rw (clear b (omega arith)) (sym (low-pass (verdictOf a))))
 
@@ -48,15 +55,18 @@ pub at-ground : (a b : ℕ) → a ≡ b → a ≡ 0 → verdictOf 8 ≡ between 
 unfolding between verdictOf
 at-ground a b h z = rw (eq-eqb a b h, z)
 
-pub above : (a b : ℕ) → a ≡ b → ¬ (a ≡ 0) → verdictOf none ≡ between a b
+pub above : (a b : ℕ) → a ≡ b → ¬ (a ≡ 0) → verdictOf noFault ≡ between a b
 unfolding between verdictOf
 above a b h z = rw (eq-eqb a b h, lt-ltb 0 a (omega arith))
 
 -- ---- question 9
 
-pub few : (n : ℕ) → n ≤ 100000 → verdictOf none ≡ count n
-unfolding count verdictOf
-few n h = rw (le-leb n 100000 h)
+pub count-few : (n : ℕ) → n ≤ 100000 → count n ≡ pass
+unfolding count
+count-few n h = rw (le-leb n 100000 h)
+
+pub few : (n : ℕ) → n ≤ 100000 → verdictOf noFault ≡ count n
+few n h = clear noFault (omega arith) ∙ sym (count-few n h)
 
 pub many : (n : ℕ) → 100000 < n → verdictOf 9 ≡ count n
 unfolding count verdictOf
@@ -64,7 +74,7 @@ many n h = rw (lt-leb n 100000 h)
 
 -- ---- question 11
 
-pub grounded : (n : ℕ) → n ≡ 0 → verdictOf none ≡ ask 11 (eqb n 0)
+pub grounded : (n : ℕ) → n ≡ 0 → verdictOf noFault ≡ ask 11 (eqb n 0)
 unfolding verdictOf
 grounded n e = rw (eq-eqb n 0 e)
 
