@@ -6,7 +6,7 @@ use Prim.Native.Nat.{ℕ, _≤_, _<_}
 use native.Mathlib.Decide.{decLt}
 use native.Mathlib.Omega.{arith}
 use lib.Dec.{ltb, eqb}
-use borrow.Author.Tests.{lt-ltb, le-ltb, le-leb, lt-leb, eq-eqb, ne-eqb}
+use borrow.Author.Tests.{lt-ltb, le-ltb, le-leb, lt-leb, eq-eqb, ne-eqb, eqb-true}
 use Rattle.hill.specs.Verdict.{Verdict, pass, refuse, low, lower, ask, between, count}
 use Rattle.hill.specs.VerdictLaws.{low-pass, low-comm, refuse-pass}
 use Rattle.fault.specs.Fault.{noFault, verdictOf}
@@ -77,6 +77,13 @@ many n h = rw (lt-leb n 100000 h)
 pub grounded : (n : ℕ) → n ≡ 0 → verdictOf noFault ≡ ask 11 (eqb n 0)
 unfolding verdictOf
 grounded n e = rw (eq-eqb n 0 e)
+
+pub ground-pass : (n : ℕ) → ask 11 (eqb n 0) ≡ pass → n ≡ 0
+ground-pass n e = go (eqb n 0) refl e
+  where
+    go : (t : Bool) → eqb n 0 ≡ t → ask 11 t ≡ pass → n ≡ 0
+    go true p q = eqb-true n 0 p
+    go false p q = cc
 
 pub raised : (n : ℕ) → ¬ (n ≡ 0) → verdictOf 11 ≡ ask 11 (eqb n 0)
 unfolding verdictOf
