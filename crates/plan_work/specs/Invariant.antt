@@ -26,11 +26,6 @@ module _ {R : Type 0} (𝒜 : Algebra R) where
 
   infixl 70 _⊗_
   module _ (row : List (Summary Fig R)) where
-    -- lines that join only hills before j, with the bounds that every line keeps
-    abbrev Ok : ℕ → List (Done Fig) → Type 0
-    Ok j [] = Unit {0}
-    Ok j (d ∷ ds) = (d .line .i < d .line .j) × (d .line .j < j) × (floor 𝒜 row (d .line .j) ≤ d .line .lowest) × Ok j ds
-
     -- the record at level l of the hills before j, merged, is one of the hill τ
     abbrev Tag : (j l τ : ℕ) → Type 0
     Tag j l τ = (τ < j) × (floor 𝒜 row τ < l) × ((k : ℕ) → τ < k → k < j → l ≤ floor 𝒜 row k)
@@ -42,8 +37,14 @@ module _ {R : Type 0} (𝒜 : Algebra R) where
     abbrev now : (j l : ℕ) → Fig → Fig
     now j l y = state 𝒜 (sides 𝒜 row) (floor 𝒜 row) (level 𝒜 row) j l y
 
-    abbrev got : (j lo : ℕ) → Fig
+    abbrev pub got : (j lo : ℕ) → Fig
     got j lo = pit 𝒜 (sides 𝒜 row) (floor 𝒜 row) (level 𝒜 row) j lo
+
+    -- lines that join only hills before j, with the bounds that every line keeps, and what its outcome is: what its hill j gets from the levels
+    -- above its lowest
+    abbrev pub Ok : ℕ → List (Done Fig) → Type 0
+    Ok j [] = Unit {0}
+    Ok j (d ∷ ds) = (d .line .i < d .line .j) × (d .line .j < j) × (floor 𝒜 row (d .line .j) ≤ d .line .lowest) × (d .out ≡ got (d .line .j) (d .line .lowest)) × Ok j ds
 
     -- The hills before j, merged, read off the lines ds: the record at level l holds, besides its own, the middle values of the later hills with
     -- their peak there, and the outcomes of the lines from its hill on whose lowest is there.
@@ -62,7 +63,7 @@ module _ {R : Type 0} (𝒜 : Algebra R) where
 
     outs-none : Laws 𝒜 → (i j l : ℕ) (ds : List (Done Fig)) → Ok j ds → ((k : ℕ) → i < k → k < j → l < floor 𝒜 row k) → outcomesAt 𝒜 i j l ds ≡ ι
     outs-none ℒ i j l [] o f = outs-nil 𝒜 i j l
-    outs-none ℒ i j l (d ∷ ds) o f = rw (outs-cons 𝒜 i j l d ds, outs-none ℒ i j l ds (o .3) f, ℒ .unit-r) (dite (decLe i (d .line .i)) after before)
+    outs-none ℒ i j l (d ∷ ds) o f = rw (outs-cons 𝒜 i j l d ds, outs-none ℒ i j l ds (o .4) f, ℒ .unit-r) (dite (decLe i (d .line .i)) after before)
       where
         after : i ≤ d .line .i → gives 𝒜 i j l d ≡ ι
         after c = let h : l < floor 𝒜 row (d .line .j) = f (d .line .j) (omega (arith, o .0)) (o .1) in gives-other 𝒜 i j l d (omega (arith, o .2))
@@ -73,11 +74,11 @@ module _ {R : Type 0} (𝒜 : Algebra R) where
     outs-wide : (i j l : ℕ) (ds : List (Done Fig)) → Ok (suc j) ds → outcomesAt 𝒜 i j l ds ≡ outcomesAt 𝒜 i (suc j) l ds
     outs-wide i j l [] o = rw (outs-nil 𝒜 i j l, outs-nil 𝒜 i (suc j) l)
     outs-wide i j l (d ∷ ds) o =
-        rw (outs-cons 𝒜 i j l d ds, outs-cons 𝒜 i (suc j) l d ds, outs-wide i j l ds (o .3), le-leb (d .line .j) j (omega (arith, o .1)), le-leb (d .line .j) (suc j) (omega (arith, o .1)))
+        rw (outs-cons 𝒜 i j l d ds, outs-cons 𝒜 i (suc j) l d ds, outs-wide i j l ds (o .4), le-leb (d .line .j) j (omega (arith, o .1)), le-leb (d .line .j) (suc j) (omega (arith, o .1)))
 
     ok-wide : (j : ℕ) (ds : List (Done Fig)) → Ok j ds → Ok (suc j) ds
     ok-wide j [] o = tt
-    ok-wide j (d ∷ ds) o = (o .0, omega (arith, o .1), o .2, ok-wide j ds (o .3))
+    ok-wide j (d ∷ ds) o = (o .0, omega (arith, o .1), o .2, o .3, ok-wide j ds (o .4))
 
 module _ {R : Type 0} (𝒜 : Algebra R) (ℒ : Laws 𝒜) (comm : Commutative 𝒜) (row : List (Summary (𝒜 .Fig) R)) (starts : Begins row) where
   open Algebra 𝒜 using (Fig, ι, _⊗_)
@@ -170,7 +171,7 @@ module _ {R : Type 0} (𝒜 : Algebra R) (ℒ : Laws 𝒜) (comm : Commutative �
             unit-l,
             s .below τ l (omega arith),
           );
-      ok = (hi, le-refl (suc j), omega arith, s .ok);
+      ok = (hi, le-refl (suc j), omega arith, work-out i c ds hi ht h s, s .ok);
       last = λ y a. work-out i c ds hi ht h s;
     }
       where
@@ -273,6 +274,10 @@ module _ {R : Type 0} (𝒜 : Algebra R) (ℒ : Laws 𝒜) (comm : Commutative �
   together (suc j) =
       let s : Scan 𝒜 row j (done j) 0 (floor 𝒜 row j) (done (suc j)) = scanned j (together j) in
       (inv-step j (done j) (together j .0) (together j .1) (done (suc j)) s, s .ok)
+
+  -- Each outcome is what a hill gets from closing levels.
+  pub all-got : (n : ℕ) → Ok 𝒜 row n (done n)
+  all-got n = together n .1
 
   -- THE LAST OUTCOME: after a hill that closes a record, it is what the hill closes, all told.
   pub last-outcome : (j : ℕ) (y : Fig) → floor 𝒜 row j < level 𝒜 row j → lastOutcome 𝒜 (done (suc j)) y ≡ got 𝒜 row j (floor 𝒜 row j)

@@ -19,6 +19,8 @@ pub mod WorkExact
 pub mod LogWork
 -- Each line has its run.
 pub mod RunsExact
+-- How large the figures get that the work along the plan goes through.
+pub mod WorkSizes
 -- The run of a line is the figure of its lowest-depth record as a function of x.
 pub mod ChunkFigures
 pub mod PlaceLists

@@ -4,15 +4,15 @@ use mathlib.Core.List.{List, [], _∷_, _++_, map, List·Memᴰ, List·Memᴰ·h
 use Prim.Native.Nat.{ℕ, zero, suc, _+_, _-_, _≤_, _<_}
 use native.Mathlib.Nat.{le-refl}
 use native.Mathlib.Omega.{arith}
-use lib.ListN.{length, drop, length-append, length-drop, List·getD-map}
+use lib.ListN.{length, drop, length-append, length-drop, length-map, List·getD-map}
 use Rattle.algebra.specs.Algebra.{Algebra}
 use Rattle.algebra.specs.Run.{Level, through, Context, AllSound, run, run-is, run-fine}
-use Rattle.hill.specs.Summary.{Hill, hill, Summary, spoilt, whole, blank, part, fall}
+use Rattle.hill.specs.Summary.{Hill, hill, Summary, spoilt, whole, blank, part, rise, fall}
 use Rattle.algebra.specs.Sizes.{Sizes}
 use Rattle.hill.specs.Valid.{AllFine, FineHill}
 use Rattle.join_plan.specs.Plan.{Levels, Line, rowOf, levelsOfSummary, planOfRow}
-use Rattle.join_plan.specs.Joins.{Opens, IsLine}
-use Rattle.join_plan.specs.PlanExact.{planOf-exact}
+use Rattle.join_plan.specs.Joins.{Opens, Closes, IsLine}
+use Rattle.join_plan.specs.PlanExact.{planOf-exact, planOf-range}
 use Rattle.plan_work.specs.Runs.{peakOf, slopesOf, leftAt, levelOf, levelsDown, summaryAt, runLevels, runOf, runsAlong, runsOf}
 use Rattle.plan_work.specs.Gate.{ValidRow}
 
@@ -32,27 +32,72 @@ module _ {R : Type 0} (𝒜 : Algebra R) where
       length-append (levelOf 𝒜 (drop i d) (leftAt 𝒜 q h (suc (lo + n)))) (levelsDown 𝒜 p (hill u m d) q h lo n)
       ∙ rw (level-length (drop i d) (leftAt 𝒜 q h (suc (lo + n))) (rw (length-drop i d) (omega arith)), levels-length p (hill u m d) q h lo n a (omega arith)) (omega arith)
 
-  -- A line's depths are those of unclosed records of its first chunk.
-  depths-open : (s : Summary Fig R) (a b : ℕ) → Opens (levelsOfSummary s) a → Opens (levelsOfSummary s) b → (peakOf 𝒜 s ≤ a) × (b < peakOf 𝒜 s + fall (slopesOf 𝒜 s))
-  depths-open blank a b x y = absurd x
-  depths-open (part (spoilt f s e o)) a b x y = absurd x
-  depths-open (part (whole p o h)) a b x y = (x .0, y .1)
+  -- Where a line of the plan lies: its depths are those of unclosed records of its first chunk, and of left values of its second.
+  pub record Spans (row : List (Summary Fig R)) (e : Line) : Type 0 where
+    pub before : e .i < e .j
+    pub inside : e .j < length row
+    pub some : e .lowest ≤ e .highest
+    pub open-from : peakOf 𝒜 (summaryAt 𝒜 row (e .i)) ≤ e .lowest
+    pub open-to : e .highest < peakOf 𝒜 (summaryAt 𝒜 row (e .i)) + fall (slopesOf 𝒜 (summaryAt 𝒜 row (e .i)))
+    pub close-from : peakOf 𝒜 (summaryAt 𝒜 row (e .j)) ≤ e .lowest
+    pub close-to : e .highest < peakOf 𝒜 (summaryAt 𝒜 row (e .j)) + rise (slopesOf 𝒜 (summaryAt 𝒜 row (e .j)))
+
+  depths-open : (s : Summary Fig R) (d : ℕ) → Opens (levelsOfSummary s) d → (peakOf 𝒜 s ≤ d) × (d < peakOf 𝒜 s + fall (slopesOf 𝒜 s))
+  depths-open blank d x = absurd x
+  depths-open (part (spoilt f s e o)) d x = absurd x
+  depths-open (part (whole p o h)) d x = x
+
+  depths-closed : (s : Summary Fig R) (d : ℕ) → Closes (levelsOfSummary s) d → (peakOf 𝒜 s ≤ d) × (d < peakOf 𝒜 s + rise (slopesOf 𝒜 s))
+  depths-closed blank d x = absurd x
+  depths-closed (part (spoilt f s e o)) d x = absurd x
+  depths-closed (part (whole p o h)) d x = x
+
+  pub line-spans : (row : List (Summary Fig R)) (e : Line) → List·Memᴰ e (planOfRow row) → Spans row e
+  line-spans row e m = record {
+    before = range .0;
+    inside = omega (arith, range .1, length-map row levelsOfSummary);
+    some = some;
+    open-from = opens (e .lowest) (le-refl (e .lowest)) some .0;
+    open-to = opens (e .highest) some (le-refl (e .highest)) .1;
+    close-from = closes (e .lowest) (le-refl (e .lowest)) some .0;
+    close-to = closes (e .highest) some (le-refl (e .highest)) .1;
+  }
+    where
+      is : IsLine (rowOf (map levelsOfSummary row)) e
+      is = planOf-exact (map levelsOfSummary row) e .0 m
+
+      range : (e .i < e .j) × (e .j < length (map levelsOfSummary row)) × (e .lowest ≤ e .highest) × Opens (rowOf (map levelsOfSummary row) (e .i)) (e .highest)
+      range = planOf-range (map levelsOfSummary row) e m
+
+      some : e .lowest ≤ e .highest
+      some = is .some
+
+      opens : (d : ℕ) → e .lowest ≤ d → d ≤ e .highest → (peakOf 𝒜 (summaryAt 𝒜 row (e .i)) ≤ d) × (d < peakOf 𝒜 (summaryAt 𝒜 row (e .i)) + fall (slopesOf 𝒜 (summaryAt 𝒜 row (e .i))))
+      opens d a b =
+          depths-open (summaryAt 𝒜 row (e .i)) d (subst (λ (c : Levels). Opens c d) (List·getD-map levelsOfSummary row (e .i) blank) (is .depths d .1 (a, b) .0 .opens))
+
+      closes : (d : ℕ) → e .lowest ≤ d → d ≤ e .highest → (peakOf 𝒜 (summaryAt 𝒜 row (e .j)) ≤ d) × (d < peakOf 𝒜 (summaryAt 𝒜 row (e .j)) + rise (slopesOf 𝒜 (summaryAt 𝒜 row (e .j))))
+      closes d a b =
+          depths-closed (summaryAt 𝒜 row (e .j)) d (subst (λ (c : Levels). Closes c d) (List·getD-map levelsOfSummary row (e .j) blank) (is .depths d .1 (a, b) .1))
 
   -- So its run goes through as many levels as it has depths, and at least through one.
   pub run-length : (row : List (Summary Fig R)) (e : Line) → List·Memᴰ e (planOfRow row) → (e .lowest ≤ e .highest) × (length (runLevels 𝒜 row e) ≡ suc (e .highest) - e .lowest)
   unfolding runLevels
   run-length row e m =
-      let f : IsLine (rowOf (map levelsOfSummary row)) e = planOf-exact (map levelsOfSummary row) e .0 m in
-      let opens : (d : ℕ) → e .lowest ≤ d → d ≤ e .highest → Opens (levelsOfSummary (summaryAt 𝒜 row (e .i))) d
-      = λ d a b. subst (λ (c : Levels). Opens c d) (List·getD-map levelsOfSummary row (e .i) blank) (f .depths d .1 (a, b) .0 .opens) in
-      let r : (peakOf 𝒜 (summaryAt 𝒜 row (e .i)) ≤ e .lowest) × (e .highest < peakOf 𝒜 (summaryAt 𝒜 row (e .i)) + fall (slopesOf 𝒜 (summaryAt 𝒜 row (e .i))))
-      = depths-open (summaryAt 𝒜 row (e .i)) (e .lowest) (e .highest) (opens (e .lowest) (le-refl (e .lowest)) (f .some)) (opens (e .highest) (f .some) (le-refl (e .highest))) in (
-        f .some,
+      let r : Spans row e = line-spans row e m in (
+        r .some,
         levels-length (peakOf 𝒜 (summaryAt 𝒜 row (e .i))) (slopesOf 𝒜 (summaryAt 𝒜 row (e .i))) (peakOf 𝒜 (summaryAt 𝒜 row (e .j))) (slopesOf 𝒜 (summaryAt 𝒜 row (e .j)))
-            (e .lowest) (suc (e .highest) - e .lowest) (r .0) (omega (arith, r .1, f .some)),
+            (e .lowest) (suc (e .highest) - e .lowest) (r .open-from) (omega (arith, r .open-to, r .some)),
       )
 
-  -- The records of an accepted row are sound.
+  -- The records of an accepted row are fine, and so sound.
+  pub slopes-fine : {Fine : R → Type 0} (𝒮 : Sizes 𝒜 Fine) (row : List (Summary Fig R)) (k : ℕ) → ValidRow 𝒜 𝒮 row → FineHill 𝒜 𝒮 (slopesOf 𝒜 (summaryAt 𝒜 row k))
+  slopes-fine 𝒮 [] k v = tt
+  slopes-fine 𝒮 (blank ∷ row) zero v = tt
+  slopes-fine 𝒮 (part (spoilt f s e o) ∷ row) zero v = tt
+  slopes-fine 𝒮 (part (whole p o h) ∷ row) zero v = v .0 .fine
+  slopes-fine 𝒮 (s ∷ row) (suc k) v = slopes-fine 𝒮 row k (v .1)
+
   module _ {Fine : R → Type 0} (𝒮 : Sizes 𝒜 Fine) (Sound : R → Type 0) (sound : (r : R) → Fine r → Sound r) where
     drop-fine : (n : ℕ) (d : List (R × Fig)) → AllFine 𝒜 𝒮 d → AllFine 𝒜 𝒮 (drop n d)
     drop-fine zero d f = f
@@ -63,25 +108,18 @@ module _ {R : Type 0} (𝒜 : Algebra R) where
     level-sound [] v ls f s = s
     level-sound (e ∷ d) v ls f s = (sound (e .0) (f .0), s)
 
-    levels-sound : (p : ℕ) (g : Hill Fig R) (q : ℕ) (h : Hill Fig R) (lo n : ℕ) → FineHill 𝒜 𝒮 g → AllSound Sound (levelsDown 𝒜 p g q h lo n)
+    pub levels-sound : (p : ℕ) (g : Hill Fig R) (q : ℕ) (h : Hill Fig R) (lo n : ℕ) → FineHill 𝒜 𝒮 g → AllSound Sound (levelsDown 𝒜 p g q h lo n)
     unfolding levelsDown
     levels-sound p g q h lo zero f = tt
     levels-sound p (hill u m d) q h lo (suc n) f =
         level-sound (drop (p + length d - suc (lo + n)) d) (leftAt 𝒜 q h (suc (lo + n))) (levelsDown 𝒜 p (hill u m d) q h lo n) (drop-fine (p + length d - suc (lo + n)) d f)
         (levels-sound p (hill u m d) q h lo n f)
 
-    slopes-fine : (row : List (Summary Fig R)) (k : ℕ) → ValidRow 𝒜 𝒮 row → FineHill 𝒜 𝒮 (slopesOf 𝒜 (summaryAt 𝒜 row k))
-    slopes-fine [] k v = tt
-    slopes-fine (blank ∷ row) zero v = tt
-    slopes-fine (part (spoilt f s e o) ∷ row) zero v = tt
-    slopes-fine (part (whole p o h) ∷ row) zero v = v .0 .fine
-    slopes-fine (s ∷ row) (suc k) v = slopes-fine row k (v .1)
-
     pub run-sound : (row : List (Summary Fig R)) (e : Line) → ValidRow 𝒜 𝒮 row → AllSound Sound (runLevels 𝒜 row e)
     unfolding runLevels
     run-sound row e v =
         levels-sound (peakOf 𝒜 (summaryAt 𝒜 row (e .i))) (slopesOf 𝒜 (summaryAt 𝒜 row (e .i))) (peakOf 𝒜 (summaryAt 𝒜 row (e .j))) (slopesOf 𝒜 (summaryAt 𝒜 row (e .j)))
-        (e .lowest) (suc (e .highest) - e .lowest) (slopes-fine row (e .i) v)
+        (e .lowest) (suc (e .highest) - e .lowest) (slopes-fine 𝒮 row (e .i) v)
 
 module _ {R : Type 0} {𝒜 : Algebra R} {Sound : R → Type 0} (C : Context 𝒜 Sound) where
   open Algebra 𝒜 using (Fig)

@@ -62,6 +62,10 @@ module _ {R : Type 0} (𝒜 : Algebra R) where
     worked-append [] fs ds = rw worked-nil
     worked-append (e ∷ es) fs ds = rw (worked-cons e (es ++ fs), worked-cons e es) (worked-append es fs (work e ds ∷ ds))
 
+  pub levels-none : (p : ℕ) (g : Hill Fig R) (q : ℕ) (h : Hill Fig R) (lowest : ℕ) → levelsDown 𝒜 p g q h lowest 0 ≡ []
+  unfolding levelsDown
+  levels-none p g q h lowest = refl
+
   -- The level of depth `lowest` + n stands before those below it.
   pub levels-next : (p : ℕ) (g : Hill Fig R) (q : ℕ) (h : Hill Fig R) (lowest n : ℕ) →
       levelsDown 𝒜 p g q h lowest (suc n) ≡ levelOf 𝒜 (openFrom 𝒜 p g (suc (lowest + n))) (leftAt 𝒜 q h (suc (lowest + n))) ++ levelsDown 𝒜 p g q h lowest n
