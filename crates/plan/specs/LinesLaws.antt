@@ -7,14 +7,12 @@ use native.Mathlib.Omega.{arith}
 use lib.ListN.{length, length-append}
 use lib.Seq.{sets}
 use Rattle.number.specs.Bytes.{bytesOf, putAt}
-use Rattle.number.specs.Laws.{sets-append, length-bytesOf}
+use Rattle.number.specs.Laws.{sets-append}
 use Rattle.join_plan.specs.Plan.{Line}
 use Rattle.outcome.specs.Outcomes.{lineBytes, linesBytes}
 use Rattle.row_plan.specs.Arrays.{line, lineIn, linesIn}
 use Rattle.row_plan.specs.ScanLaws.{length-lines}
-
-put-two : (l : List ℕ) (a b v : ℕ) (r : List ℕ) → b ≡ a + 2 → sets l a (bytesOf 2 v ++ r) ≡ sets (putAt 2 l a v) b r
-put-two l a b v r e = sets-append l a (bytesOf 2 v) r ∙ ap (λ (k : ℕ). sets (putAt 2 l a v) k r) (omega (arith, length-bytesOf 2 v))
+use Rattle.row_plan.specs.WroteLaws.{put-next}
 
 -- the six stores of a line
 pub line-stored : (l : List ℕ) (at i j low high : ℕ) →
@@ -22,11 +20,11 @@ pub line-stored : (l : List ℕ) (at i j low high : ℕ) →
 unfolding lineBytes
 line-stored l at i j low high =
     rw (
-      put-two l at (at + 2) 12 (bytesOf 2 19 ++ (bytesOf 2 i ++ (bytesOf 2 j ++ (bytesOf 2 low ++ bytesOf 2 high)))) (omega arith),
-      put-two (putAt 2 l at 12) (at + 2) (at + 4) 19 (bytesOf 2 i ++ (bytesOf 2 j ++ (bytesOf 2 low ++ bytesOf 2 high))) (omega arith),
-      put-two (putAt 2 (putAt 2 l at 12) (at + 2) 19) (at + 4) (at + 6) i (bytesOf 2 j ++ (bytesOf 2 low ++ bytesOf 2 high)) (omega arith),
-      put-two (putAt 2 (putAt 2 (putAt 2 l at 12) (at + 2) 19) (at + 4) i) (at + 6) (at + 8) j (bytesOf 2 low ++ bytesOf 2 high) (omega arith),
-      put-two (putAt 2 (putAt 2 (putAt 2 (putAt 2 l at 12) (at + 2) 19) (at + 4) i) (at + 6) j) (at + 8) (at + 10) low (bytesOf 2 high) (omega arith),
+      put-next 2 l at (at + 2) 12 (bytesOf 2 19 ++ (bytesOf 2 i ++ (bytesOf 2 j ++ (bytesOf 2 low ++ bytesOf 2 high)))) (omega arith),
+      put-next 2 (putAt 2 l at 12) (at + 2) (at + 4) 19 (bytesOf 2 i ++ (bytesOf 2 j ++ (bytesOf 2 low ++ bytesOf 2 high))) (omega arith),
+      put-next 2 (putAt 2 (putAt 2 l at 12) (at + 2) 19) (at + 4) (at + 6) i (bytesOf 2 j ++ (bytesOf 2 low ++ bytesOf 2 high)) (omega arith),
+      put-next 2 (putAt 2 (putAt 2 (putAt 2 l at 12) (at + 2) 19) (at + 4) i) (at + 6) (at + 8) j (bytesOf 2 low ++ bytesOf 2 high) (omega arith),
+      put-next 2 (putAt 2 (putAt 2 (putAt 2 (putAt 2 l at 12) (at + 2) 19) (at + 4) i) (at + 6) j) (at + 8) (at + 10) low (bytesOf 2 high) (omega arith),
     )
 
 -- the same, store by store

@@ -78,6 +78,7 @@ module _ (row : List ℕ) (count : ℕ) (e : count ≡ min 65 (length (rowPieces
             some = a;
             few = b;
             all = all-of;
+            faultless = v;
             whole = j .whole;
             noted = j .noted;
             plan-is = p;
