@@ -2,6 +2,7 @@
 //! not cleared between calls. Run with `cargo run --release -p bench`.
 
 mod recursion;
+mod rows;
 
 use reference::gen::logs::{encode_mixed, log, Shape, Values};
 use reference::gen::Rng;
@@ -73,4 +74,5 @@ fn main() {
         });
         line(&format!("day {name}"), chunk.len(), records, library, plain);
     }
+    rows::bench();
 }
