@@ -82,6 +82,7 @@ INSIDE = hill(1, 1, 1, 1, 1, [], 1)
 OPEN = hill(1, 0, 0, 1, 1, [], 0, [(10, 0, 100, 0)])
 SHUT = hill(1, 1, 0, 0, 0, [0], 0)
 NEGATIVE = opening(0, -3) + close(0)
+NINE = short(0, 0) + short(1, 9) + close(1) + short(1, 1) + close(1) + close(0)
 TWO_DAYS = 2 * (short(0, 1) + close(0))
 LONGEST = short(0, 1) + 4095 * (short(1, 1) + close(1)) + close(0)
 
@@ -98,7 +99,7 @@ INPUTS = {
     "day/rest_unread": call("day::figures", D),
     "day/stamp_for_eaten": call("day::figures", D),
     "figure/floor_as_ceiling": call("day::figures", D),
-    "figure/heaviest_adds": call("day::figures", D),
+    "figure/lightest_line": call("day::figures", D),
     "figure/other_figure_dropped": call("runs::runs", HEAD[:4] + b"\2" + HEAD[5:] + TAIL),
     "figure/stamp_factor": call("day::figures", D),
     "judge/fault_10": call("summarise::finish", spoilt(1, 10, 0, 0, 1)),
@@ -110,7 +111,7 @@ INPUTS = {
     "merge/left_alone_written": merge(HEAD, TAIL),
     "merge/opened_not_cut": merge(spoilt(1, 9, 0, 1, 100_001), INSIDE),
     "merge/peak_counted_twice": merge(HEAD, TAIL, 24),
-    "merge/pieces_cut_alike": call("merge::merge_row", HEAD + TAIL + blank(1)),
+    "merge/pieces_cut_alike": call("merge::merge_row", blank(1) + HEAD),
     "merge/six_before_five": call("merge::merge_row", blank(1) + struct.pack("<HHH", 6, 15, 1)),
     "merge/takes_65": call("merge::merge_row", 65 * blank(1)),
     "plan/line_kind": call("plan::plan", HEAD + TAIL),
@@ -132,7 +133,7 @@ INPUTS = {
     "summarise/first_chunk_only": summarise(1, D[36:]),
     "summarise/ground_not_asked": summarise(1, TWO_DAYS),
     "text/figures_swapped": call("day::text", D),
-    "text/leading_zero": call("day::text", D),
+    "text/leading_zero": call("day::text", NINE),
     "text/minus_sign": call("day::text", NEGATIVE),
     "text/no_newline": call("day::text", D),
     "text/refusal_space": call("day::text", b""),
