@@ -7,7 +7,9 @@ use lib.Seq.{sets}
 use denote.Ref.{now}
 use Rattle.join_plan.specs.Plan.{Line}
 use Rattle.outcome.specs.Outcomes.{linesBytes}
-use Rattle.plan.specs.AsksLaws.{kept-count, plan-length, too-short, wrote-all}
+use Rattle.row_plan.specs.AsksLaws.{kept-count}
+use Rattle.row_plan.specs.WroteLaws.{too-short, wrote-all}
+use Rattle.plan.specs.PlanLaws.{plan-length}
 use borrow.Author.Needs.{needs}
 use Rattle.plan.proofs.write_plan.Statement.{statement}
 use Rattle.plan.proofs.write_plan.Tie as tie
