@@ -153,6 +153,7 @@ INPUTS = {
     "tulghimo/read_ceiling_for_floor": call("tulghimo::tulghimo_read", D),
     "tulghimo/read_status": call("tulghimo::tulghimo_read", b""),
     "tulghimo/refusal_positive": call("tulghimo::tulghimo_day", b""),
+    "tulghimo/status_always_12": call("tulghimo::tulghimo_merge_row", 65 * blank(1)),
     "tulghimo/summarise_always_net": call("tulghimo::tulghimo_summarise", D, 4),
     "tulghimo/summarise_mode_cut": call("tulghimo::tulghimo_summarise", D, 65_537),
 }
@@ -308,7 +309,10 @@ def cut(text, most=100):
 
 
 def main(chosen):
-    apart = failed = 0
+    apart, failed = 0, 0
+    for name in sorted(set(INPUTS) - {name for name, _ in edits()}):
+        print(f"{name}: NO SUCH EDIT")
+        failed += 1
     with tempfile.TemporaryDirectory() as scratch:
         scratch = pathlib.Path(scratch)
         program = build(scratch / "as-it-is")
