@@ -1,22 +1,19 @@
--- The lines of a plan written one after the other, and the levels that they fold. Assumes nothing.
+-- The lines of a plan written one after the other. Assumes nothing.
 use mathlib.Core.Path.{_≡_, refl, sym, ap, ap₂, _∙_}
 use mathlib.Core.List.{List, [], _∷_, _++_, append-assoc, append-nil}
-use Prim.Native.Nat.{ℕ, _+_, _-_, _*_}
+use Prim.Native.Nat.{ℕ, _+_, _*_}
 use native.Mathlib.Numerals.{add-one}
 use native.Mathlib.Omega.{arith}
-use lib.ListN.{length, length-append}
+use lib.ListN.{length}
 use lib.Seq.{sets}
 use Rattle.number.specs.Bytes.{bytesOf, putAt}
-use Rattle.number.specs.Laws.{sets-append, length-bytesOf}
-use Rattle.join_plan.specs.Plan.{Line, folded}
+use Rattle.number.specs.Laws.{sets-append}
+use Rattle.join_plan.specs.Plan.{Line}
 use Rattle.outcome.specs.Outcomes.{lineBytes, linesBytes}
-use Rattle.plan.specs.Arrays.{line, lineIn, linesIn}
-use Rattle.plan.specs.ScanLaws.{length-lines}
-
--- ---- bytes
-
-put-two : (l : List ℕ) (a b v : ℕ) (r : List ℕ) → b ≡ a + 2 → sets l a (bytesOf 2 v ++ r) ≡ sets (putAt 2 l a v) b r
-put-two l a b v r e = sets-append l a (bytesOf 2 v) r ∙ ap (λ (k : ℕ). sets (putAt 2 l a v) k r) (omega (arith, length-bytesOf 2 v))
+use Rattle.outcome.specs.Through.{lines-length}
+use Rattle.row_plan.specs.Arrays.{line, lineIn, linesIn}
+use Rattle.row_plan.specs.ScanLaws.{length-lines}
+use Rattle.row_plan.specs.WroteLaws.{put-next}
 
 -- the six stores of a line
 pub line-stored : (l : List ℕ) (at i j low high : ℕ) →
@@ -24,25 +21,17 @@ pub line-stored : (l : List ℕ) (at i j low high : ℕ) →
 unfolding lineBytes
 line-stored l at i j low high =
     rw (
-      put-two l at (at + 2) 12 (bytesOf 2 19 ++ (bytesOf 2 i ++ (bytesOf 2 j ++ (bytesOf 2 low ++ bytesOf 2 high)))) (omega arith),
-      put-two (putAt 2 l at 12) (at + 2) (at + 4) 19 (bytesOf 2 i ++ (bytesOf 2 j ++ (bytesOf 2 low ++ bytesOf 2 high))) (omega arith),
-      put-two (putAt 2 (putAt 2 l at 12) (at + 2) 19) (at + 4) (at + 6) i (bytesOf 2 j ++ (bytesOf 2 low ++ bytesOf 2 high)) (omega arith),
-      put-two (putAt 2 (putAt 2 (putAt 2 l at 12) (at + 2) 19) (at + 4) i) (at + 6) (at + 8) j (bytesOf 2 low ++ bytesOf 2 high) (omega arith),
-      put-two (putAt 2 (putAt 2 (putAt 2 (putAt 2 l at 12) (at + 2) 19) (at + 4) i) (at + 6) j) (at + 8) (at + 10) low (bytesOf 2 high) (omega arith),
+      put-next 2 l at (at + 2) 12 (bytesOf 2 19 ++ (bytesOf 2 i ++ (bytesOf 2 j ++ (bytesOf 2 low ++ bytesOf 2 high)))) (omega arith),
+      put-next 2 (putAt 2 l at 12) (at + 2) (at + 4) 19 (bytesOf 2 i ++ (bytesOf 2 j ++ (bytesOf 2 low ++ bytesOf 2 high))) (omega arith),
+      put-next 2 (putAt 2 (putAt 2 l at 12) (at + 2) 19) (at + 4) (at + 6) i (bytesOf 2 j ++ (bytesOf 2 low ++ bytesOf 2 high)) (omega arith),
+      put-next 2 (putAt 2 (putAt 2 (putAt 2 l at 12) (at + 2) 19) (at + 4) i) (at + 6) (at + 8) j (bytesOf 2 low ++ bytesOf 2 high) (omega arith),
+      put-next 2 (putAt 2 (putAt 2 (putAt 2 (putAt 2 l at 12) (at + 2) 19) (at + 4) i) (at + 6) j) (at + 8) (at + 10) low (bytesOf 2 high) (omega arith),
     )
 
 -- the same, store by store
 pub line-written : (o a b c d e f : List ℕ) (at i j low high : ℕ) → a ≡ putAt 2 o at 12 → b ≡ putAt 2 a (at + 2) 19 → c ≡ putAt 2 b (at + 4) i → d ≡ putAt 2 c (at + 6) j → e ≡ putAt 2 d (at + 8) low →
     f ≡ putAt 2 e (at + 10) high → f ≡ sets o at (lineBytes (line i j low high))
 line-written o a b c d e f at i j low high p q r s t u = rw (u, t, s, r, q, p) (line-stored o at i j low high)
-
-length-line : (l : Line) → length (lineBytes l) ≡ 12
-unfolding lineBytes bytesOf
-length-line l = refl
-
-pub length-lines-bytes : (ls : List Line) → length (linesBytes ls) ≡ 12 * length ls
-length-lines-bytes [] = refl
-length-lines-bytes (l ∷ ls) = omega (arith, length-append (lineBytes l) (linesBytes ls), length-line l, length-lines-bytes ls)
 
 lines-append : (a b : List Line) → linesBytes (a ++ b) ≡ linesBytes a ++ linesBytes b
 lines-append [] b = refl
@@ -54,27 +43,7 @@ module _ (is js lows highs : List ℕ) where
       out′ ≡ sets b 0 (linesBytes (linesIn is js lows highs (k + 1)))
   lines-next b out out′ k e f =
       let w : List ℕ = linesBytes (linesIn is js lows highs k) in
-      let n : 12 * k ≡ 0 + length w = omega (arith, length-lines-bytes (linesIn is js lows highs k), length-lines is js lows highs k) in
+      let n : 12 * k ≡ 0 + length w = omega (arith, lines-length (linesIn is js lows highs k), length-lines is js lows highs k) in
       f ∙ ap₂ (λ (o : List ℕ) (a : ℕ). sets o a (lineBytes (lineIn is js lows highs k))) e n ∙ sym (sets-append b 0 w (lineBytes (lineIn is js lows highs k))) ∙
       ap (sets b 0) (ap (λ (t : List ℕ). w ++ t) (sym (append-nil _)) ∙ sym (lines-append (linesIn is js lows highs k) (lineIn is js lows highs k ∷ []))) ∙
       ap (λ (i : ℕ). sets b 0 (linesBytes (linesIn is js lows highs i))) (sym (add-one k))
-
-  -- ---- levels
-
-  pub folded-none : 0 ≡ folded (linesIn is js lows highs 0)
-  unfolding folded
-  folded-none = refl
-
-  folded-append : (a b : List Line) → folded (a ++ b) ≡ folded a + folded b
-  unfolding folded
-  folded-append [] b = omega arith
-  folded-append (l ∷ a) b = omega (arith, folded-append a b)
-
-  folded-one : (l : Line) → folded (l ∷ []) ≡ l .highest - l .lowest + 1
-  unfolding folded
-  folded-one l = omega arith
-
-  pub folded-next : (k v d : ℕ) → v ≡ folded (linesIn is js lows highs k) → d ≡ lineIn is js lows highs k .highest - lineIn is js lows highs k .lowest → v + d + 1 ≡ folded (linesIn is js lows highs (k + 1))
-  folded-next k v d e f =
-      omega (arith, folded-append (linesIn is js lows highs k) (lineIn is js lows highs k ∷ []), folded-one (lineIn is js lows highs k)) ∙
-      ap (λ (i : ℕ). folded (linesIn is js lows highs i)) (sym (add-one k))

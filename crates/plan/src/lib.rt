@@ -1,32 +1,19 @@
-// The calls on a row of summaries that write or work along the join plan.
+// The call on a row of summaries that writes its join plan.
 ghost use mathlib.Core.Path.{_≡_};
-ghost use Prim.Native.Nat.{_≤_, min, max};
+ghost use Prim.Native.Nat.{_≤_};
 ghost use lib.ListN.{length};
 ghost use Rattle.gate.specs.Outcome.{bufferAfter};
 ghost use Rattle.gate.specs.Answers.{writtenAnswer, lengthAnswered};
 ghost use Rattle.join_plan.specs.Scan.{plan as scanned};
 ghost use Rattle.outcome.specs.Outcomes.{linesBytes, planOutcome};
-ghost use Rattle.plan.specs.Arrays.{levelsIn, Noted};
-ghost use Rattle.plan.specs.AsksLaws.{Wrote};
+ghost use Rattle.row_plan.specs.Arrays.{levelsIn, Noted};
+ghost use Rattle.row_plan.specs.Wrote.{Wrote};
 use gate::Written;
+use row_plan::ask::Asked;
+use row_plan::ask::ask;
+use row_plan::scan::scan;
 
-mod ask;
-mod fault;
 mod lines;
-mod pieces;
-mod scan;
-
-fn lower(a: u8, b: u8) -> u8
-    ensures { λ r. ⌜ r ≡ min a b ⌝ }
-{
-    if a < b { a } else { b }
-}
-
-fn higher(a: u8, b: u8) -> u8
-    ensures { λ r. ⌜ r ≡ max a b ⌝ }
-{
-    if a < b { b } else { a }
-}
 
 // The lines of a row's levels, where they fit.
 fn write_plan(
@@ -45,7 +32,7 @@ fn write_plan(
     let mut js = [0u8; 128];
     let mut lows = [0u8; 128];
     let mut highs = [0u8; 128];
-    let n = scan::scan(
+    let n = scan(
         starts,
         peaks,
         ends,
@@ -73,7 +60,7 @@ pub fn plan(row: &[u8], out: &mut [u8]) -> Written
     let mut peaks = [0u8; 64];
     let mut ends = [0u8; 64];
     let mut opened = [0u32; 64];
-    let asked = ask::ask(
+    let asked = ask(
         row,
         &mut kinds,
         &mut starts,
@@ -82,7 +69,7 @@ pub fn plan(row: &[u8], out: &mut [u8]) -> Written
         &mut opened,
     );
     match asked {
-        ask::Asked::Refused(n) => Written::Refused(n),
-        ask::Asked::Row(count, _) => write_plan(&starts, &peaks, &ends, count, out),
+        Asked::Refused(n) => Written::Refused(n),
+        Asked::Row(count, _) => write_plan(&starts, &peaks, &ends, count, out),
     }
 }

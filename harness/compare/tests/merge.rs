@@ -1,6 +1,7 @@
 //! Merge and merge a row: the proved library against the reference, every byte of every buffer.
 
-use compare::{capacities, LentBytes};
+use compare::agree::{merge as merge_agrees, merge_row as row_agrees};
+use compare::LentBytes;
 use reference::calls;
 use reference::gen::{damage, forged, logs, Rng};
 use reference::layout::encode;
@@ -8,25 +9,12 @@ use reference::mode::Mode;
 use reference::record::{encode_all, Record};
 use reference::replay::{Call, Stretches};
 use reference::summary::{Case, Spoilt, Summary};
+use tulghimo::raw;
 
 const AMPLE: usize = 4096;
 
 /// The longest summary: 63 levels on both sides of a peak at level 1.
 const LONGEST: usize = 1788;
-
-fn merge_agrees(left: &[u8], right: &[u8]) {
-    for capacity in capacities(&calls::merge(left, right, AMPLE)) {
-        let expected = calls::merge(left, right, capacity);
-        LentBytes::new(capacity).check(&expected, |out| tulghimo::merge(left, right, out));
-    }
-}
-
-fn row_agrees(row: &[u8]) {
-    for capacity in capacities(&calls::merge_row(row, AMPLE)) {
-        let expected = calls::merge_row(row, capacity);
-        LentBytes::new(capacity).check(&expected, |out| tulghimo::merge_row(row, out));
-    }
-}
 
 /// A row by both calls: as it is lent, and its first two.
 fn both_agree(row: &[Vec<u8>]) {
@@ -163,7 +151,7 @@ fn every_byte_of_a_row_changed() {
 
 fn summary(chunk: &[Record], mode: Mode) -> Vec<u8> {
     let mut out = vec![0; 2048];
-    let length = tulghimo::summarise(&encode_all(chunk), mode.number(), &mut out);
+    let length = raw::summarise(&encode_all(chunk), mode.number(), &mut out);
     out.truncate(length as usize);
     out
 }
@@ -178,9 +166,9 @@ fn all_orders(row: &[Vec<u8>], ends: &[usize], joined: &dyn Fn(usize, usize) -> 
             let expected = joined(from, ends[last]);
             let lent = row[first..=last].concat();
             let ok = Ok(expected.clone());
-            LentBytes::new(expected.len() + 3).check(&ok, |out| tulghimo::merge_row(&lent, out));
+            LentBytes::new(expected.len() + 3).check(&ok, |out| raw::merge_row(&lent, out));
             if last == first + 1 {
-                LentBytes::new(expected.len()).check(&ok, |out| tulghimo::merge(&row[first], &row[last], out));
+                LentBytes::new(expected.len()).check(&ok, |out| raw::merge(&row[first], &row[last], out));
             }
             let mut shorter = row.to_vec();
             shorter.splice(first..=last, [expected]);
@@ -244,7 +232,7 @@ fn rows_of_chunks() {
             let row: Vec<Vec<u8>> = chunks.iter().map(|chunk| summary(chunk, mode)).collect();
             both_agree(&row);
             let whole = Ok(encode(&reference::summary::summary_of(mode, &log)));
-            LentBytes::new(AMPLE).check(&whole, |out| tulghimo::merge_row(&row.concat(), out));
+            LentBytes::new(AMPLE).check(&whole, |out| raw::merge_row(&row.concat(), out));
         }
     }
 }
@@ -266,8 +254,8 @@ fn lists_of_merges_with_buffers_that_do_not_fit() {
             let joined = stretches.joined(step.place, step.count);
             let expected = stretches.step(step).map(|_| joined.clone());
             LentBytes::new(step.capacity).check(&expected, |out| match step.call {
-                Call::Merge => tulghimo::merge(&row[step.place], &row[step.place + 1], out),
-                Call::MergeRow => tulghimo::merge_row(&lent, out),
+                Call::Merge => raw::merge(&row[step.place], &row[step.place + 1], out),
+                Call::MergeRow => raw::merge_row(&lent, out),
             });
             if expected.is_ok() {
                 row.splice(range, [joined]);

@@ -1,6 +1,7 @@
 //! The join plan: the proved library against the reference, every byte of every buffer.
 
-use compare::{capacities, LentBytes};
+use compare::agree::plan as agree;
+use compare::LentBytes;
 use reference::calls;
 use reference::gen::{damage, forged, logs, Rng};
 use reference::layout::encode;
@@ -9,13 +10,6 @@ use reference::plan::{encode_plan, plan_by_records};
 use reference::record::{encode_all, Record};
 
 const AMPLE: usize = 8192;
-
-/// Each call on a row into buffers of all lengths that matter.
-fn agree(row: &[u8]) {
-    for capacity in capacities(&calls::plan(row, AMPLE)) {
-        LentBytes::new(capacity).check(&calls::plan(row, capacity), |out| tulghimo::plan(row, out));
-    }
-}
 
 fn row_of(chunks: &[Vec<Record>], mode: Mode) -> Vec<u8> {
     let summary = |chunk: &Vec<Record>| calls::summarise(&encode_all(chunk), mode.number(), AMPLE).unwrap();
@@ -44,7 +38,19 @@ fn lines_are_the_joins_by_records() {
         let chunks = logs::cut(&mut rng, &log, count);
         let row = row_of(&chunks, Mode::Net);
         let expected = Ok(encode_plan(&plan_by_records(&chunks)));
-        LentBytes::new(AMPLE).check(&expected, |out| tulghimo::plan(&row, out));
+        LentBytes::new(AMPLE).check(&expected, |out| tulghimo::raw::plan(&row, out));
+    }
+}
+
+#[test]
+fn plans_of_2p_minus_3_lines() {
+    let mut rng = Rng::new(0x91a6);
+    for count in 2..=64 {
+        for mode in Mode::ALL {
+            let row = row_of(&logs::longest_plan(&mut rng, count), mode);
+            assert_eq!(tulghimo::raw::plan(&row, &mut [0; AMPLE]), 12 * (2 * count as i64 - 3));
+            agree(&row);
+        }
     }
 }
 

@@ -1,7 +1,8 @@
 -- `plan::plan` meets its contract: the questions, then the lines.
 -- Assumes nothing.
 use denote.Ref.{now}
-use Rattle.plan.specs.AsksLaws.{zeros-whole, plan-not, plan-wrote}
+use Rattle.row_plan.specs.AsksLaws.{zeros-whole}
+use Rattle.plan.specs.PlanLaws.{plan-not, plan-wrote}
 use borrow.Author.Needs.{needs}
 use Rattle.plan.proofs.plan.Statement.{statement}
 use Rattle.plan.proofs.plan.Tie as tie

@@ -7,7 +7,7 @@ use lib.ListN.{length}
 use lib.Seq.{sets, length-sets}
 use denote.Ref.{now}
 use Rattle.outcome.specs.Outcomes.{linesBytes}
-use Rattle.plan.specs.Arrays.{linesIn}
+use Rattle.row_plan.specs.Arrays.{linesIn}
 use Rattle.plan.specs.LinesLaws.{lines-next}
 use borrow.Author.Needs.{needs}
 use Rattle.plan.proofs.lines.write_lines.Statement.{statement}

@@ -1,0 +1,46 @@
+-- `row_plan::fault::pass` meets its contract.
+-- Assumes nothing.
+use mathlib.Core.Path.{refl}
+use native.Mathlib.Omega.{arith}
+use borrow.Author.Tests.{not-true, not-false}
+use Rattle.row_plan.specs.ToldLaws.{lower-fault, pass-blank, pass-first, pass-next}
+use borrow.Author.Needs.{needs}
+use Rattle.row_plan.proofs.fault.pass.Statement.{statement}
+use Rattle.row_plan.proofs.fault.pass.Tie as tie
+
+returns : tie.Need-returns
+returns c = pass-blank _ _ _ _ _ (omega arith)
+
+own-fault-requires : tie.Need-own-fault-requires
+own-fault-requires c κs = search needs
+
+returns-2 : tie.Need-returns-2
+returns-2 c = let a = c .before .before .before .args in pass-first (a .s) (a .kind) (a .start) (a .end) (a .opened) _ (not-true _ (c .if2 .taken)) (omega arith) (c .before .own-fault .ensures)
+
+meet-requires : tie.Need-meet-requires
+meet-requires c κs = search needs
+
+lower-requires : tie.Need-lower-requires
+lower-requires c κs = search needs
+
+lower-requires-2 : tie.Need-lower-requires-2
+lower-requires-2 c κs = search needs
+
+add-t16 : tie.Need-add-t16
+add-t16 c = search needs
+
+returns-3 : tie.Need-returns-3
+returns-3 c = let a = c .before .before .before .before .before .before .args in pass-next (a .s) (a .kind) (a .start) (a .end) (a .opened) _ _ _ (not-false _ (c .before .before .before .if2 .left)) (omega arith) (c .before .before .before .before .own-fault .ensures) (lower-fault _ _ _ _ _ (c .lower2 .ensures) refl (lower-fault _ _ _ _ _ (c .before .lower .ensures) refl (c .before .before .meet .ensures))) refl
+
+pub pass-spec : {M : Type 1} → statement M
+pass-spec =
+    tie.close
+    (tie.spec
+    returns
+    own-fault-requires
+    returns-2
+    meet-requires
+    lower-requires
+    lower-requires-2
+    add-t16
+    returns-3)

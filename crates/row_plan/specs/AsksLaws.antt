@@ -1,0 +1,119 @@
+-- The questions of a row, one after the other. Assumes nothing.
+use mathlib.Core.Path.{_≡_, refl, sym, ap, subst, _∙_}
+use mathlib.Core.Bool.{Bool, true, false}
+use mathlib.Core.List.{List, [], _∷_, map}
+use Prim.Native.Nat.{ℕ, zero, suc, _≤_, _<_, min}
+use native.Mathlib.Omega.{arith}
+use lib.ListN.{length, getD}
+use Rattle.gate.specs.Outcome.{Outcome, refused, result, onward}
+use Rattle.row.specs.Row.{rowPieces}
+use Rattle.hill.specs.Verdict.{Verdict, pass, refuse}
+use Rattle.hill.specs.Finish.{outcome}
+use Rattle.summary.specs.Decode.{decode}
+use Rattle.join_plan.specs.Plan.{Line, planOfRow}
+use Rattle.join_plan.specs.Scan.{plan}
+use Rattle.plan_work.specs.Gate.{rowFault}
+use Rattle.outcome.specs.Outcomes.{Summaries, twoTo64, allSummaries, allOf, firstMode, askRow, askLog}
+use Rattle.outcome.specs.Laws.{ask-4, ask-5, ask-6, ask-none, two-to-64, too-few, too-many, AllIn}
+use Rattle.outcome.specs.Through.{all-in}
+use Rattle.row_plan.specs.Arrays.{levelsIn, Kept}
+use Rattle.row_plan.specs.Told.{verdictOf, toldsFrom, faultOf}
+use Rattle.row_plan.specs.ToldLaws.{no-fault, some-fault}
+use Rattle.row_plan.specs.Notes.{Whole, AllJudged}
+use Rattle.row_plan.specs.ScanLaws.{length-lines}
+use Rattle.row_plan.specs.RowLaws.{row-fault, row-plan, row-room}
+use Rattle.row_plan.specs.Asks.{askAll, summariesIn, Through}
+
+-- ---- refusals
+
+four : (row : List ℕ) → twoTo64 (rowPieces row) ≡ false → askAll row ≡ refused 4
+four row e = ap (λ (o : Outcome Summaries). onward o askLog) (ask-4 (rowPieces row) e)
+
+pub few-4 : (row : List ℕ) (count : ℕ) → count ≡ min 65 (length (rowPieces row)) → count < 2 → askAll row ≡ refused 4
+few-4 row count e h = four row (too-few (rowPieces row) (omega arith))
+
+pub many-4 : (row : List ℕ) (count : ℕ) → count ≡ min 65 (length (rowPieces row)) → 64 < count → askAll row ≡ refused 4
+many-4 row count e h = four row (too-many (rowPieces row) (omega arith))
+
+module _ (row : List ℕ) (count : ℕ) (e : count ≡ min 65 (length (rowPieces row))) (a : 2 ≤ count) (b : count ≤ 64) where
+  pub count-is : length (rowPieces row) ≡ count
+  count-is = omega arith
+
+  in-number : twoTo64 (rowPieces row) ≡ true
+  in-number = two-to-64 (rowPieces row) (omega arith) (omega arith)
+
+  pub not-5 : allSummaries (rowPieces row) ≡ false → askAll row ≡ refused 5
+  not-5 g = ap (λ (o : Outcome Summaries). onward o askLog) (ask-5 (rowPieces row) in-number g)
+
+  module _ {m : ℕ} {same : Bool} {kinds starts peaks ends openeds : List ℕ} (j : AllJudged m same (rowPieces row) kinds starts peaks ends openeds) where
+    pub not-6 : same ≡ false → askAll row ≡ refused 6
+    not-6 s = ap (λ (o : Outcome Summaries). onward o askLog) (ask-6 (rowPieces row) in-number (j .good) (j .same-mode ∙ s))
+
+    module _ (s : same ≡ true) where
+      mode-is : firstMode (rowPieces row) ≡ m
+      mode-is = j .mode (omega arith)
+
+      all-of : AllIn m (rowPieces row)
+      all-of = all-in m (rowPieces row) (j .good) (subst (λ (k : ℕ). allOf k (rowPieces row) ≡ true) mode-is (j .same-mode ∙ s))
+
+      asked : askRow (rowPieces row) ≡ result (summariesIn m (rowPieces row))
+      asked = ask-none (rowPieces row) in-number (j .good) (j .same-mode ∙ s) ∙ ap (λ (k : ℕ). result (summariesIn k (rowPieces row))) mode-is
+
+      log-asked : (v : Verdict) → rowFault (map (decode m) (rowPieces row)) ≡ v → askAll row ≡ outcome v (summariesIn m (rowPieces row))
+      unfolding askLog
+      log-asked v q = ap (λ (o : Outcome Summaries). onward o askLog) asked ∙ ap (λ (x : Verdict). outcome x (summariesIn m (rowPieces row))) q
+
+      fault-is : (f : ℕ) → verdictOf f ≡ faultOf (toldsFrom kinds starts ends openeds 0 count) → rowFault (map (decode m) (rowPieces row)) ≡ verdictOf f
+      fault-is f q = sym (row-fault m (rowPieces row) all-of kinds starts peaks ends openeds (j .noted) count count-is) ∙ sym q
+
+      pub faulty : (f : ℕ) → verdictOf f ≡ faultOf (toldsFrom kinds starts ends openeds 0 count) → f < 12 → askAll row ≡ refused f
+      faulty f q h = log-asked (refuse f) (fault-is f q ∙ some-fault f h)
+
+      pub through : (f : ℕ) → verdictOf f ≡ faultOf (toldsFrom kinds starts ends openeds 0 count) → 12 ≤ f → Through row count m kinds starts peaks ends openeds
+      through f q h =
+          let v : rowFault (map (decode m) (rowPieces row)) ≡ pass = fault-is f q ∙ no-fault f h in
+          let p : plan (levelsIn starts peaks ends) count ≡ planOfRow (map (decode m) (rowPieces row)) = row-plan m (rowPieces row) all-of kinds starts peaks ends openeds (j .noted) count count-is in
+          record {
+            asked = log-asked pass v;
+            long = count-is;
+            some = a;
+            few = b;
+            all = all-of;
+            faultless = v;
+            whole = j .whole;
+            noted = j .noted;
+            plan-is = p;
+            room = subst (λ (l : List Line). length l ≤ 128) (sym p) (row-room m (rowPieces row) all-of (omega (arith, count-is)) (omega (arith, count-is)) v);
+          }
+
+-- ---- what a call goes on with
+
+-- the questions of the pieces and those of the log, asked one after the other
+pub after-all : {A : Type 0} (o : Outcome Summaries) (f : Summaries → Outcome A) → onward o (λ s. onward (askLog s) f) ≡ onward (onward o askLog) f
+after-all (refused n) f = refl
+after-all (result s) f = refl
+
+-- as many lines as there are
+pub kept-count : (these : List Line) (is js lows highs is′ js′ lows′ highs′ : List ℕ) (n : ℕ) → Kept these 0 is js lows highs n is′ js′ lows′ highs′ → n ≡ length these
+kept-count these is js lows highs is′ js′ lows′ highs′ n k = sym (length-lines is′ js′ lows′ highs′ n) ∙ ap length (k .lines)
+
+-- arrays of zeros
+abbrev zeros : ℕ → List ℕ
+zeros zero = []
+zeros (suc n) = 0 ∷ zeros n
+
+zero-within : (n k b : ℕ) → getD (zeros n) k 0 ≤ b
+zero-within zero k b = omega arith
+zero-within (suc n) zero b = omega arith
+zero-within (suc n) (suc k) b = zero-within n k b
+
+pub zeros-whole : Whole (zeros 64) (zeros 64) (zeros 64) (zeros 64) (zeros 64)
+zeros-whole = record {
+  kinds-64 = refl;
+  starts-64 = refl;
+  peaks-64 = refl;
+  ends-64 = refl;
+  openeds-64 = refl;
+  noted = record { start-high = λ k. zero-within 64 k 64; end-high = λ k. zero-within 64 k 64 };
+  few = record { each = λ k. zero-within 64 k 100_001 };
+}

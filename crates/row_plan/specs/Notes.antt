@@ -1,0 +1,78 @@
+-- What is noted of a row's pieces. Definitions only.
+use mathlib.Core.Path.{_≡_}
+use mathlib.Core.Bool.{Bool, true, false}
+use mathlib.Core.List.{List, []}
+use Prim.Native.Nat.{ℕ, _≤_, _<_}
+use lib.ListN.{length, getD, set}
+use Rattle.judge.specs.declared.Head.{Head}
+use Rattle.judge.specs.declared.Head.the-variants.{Blank, Spoilt, Hill}
+use Rattle.judge.specs.declared.SpoiltHead.{SpoiltHead}
+use Rattle.judge.specs.declared.HillHead.{HillHead}
+use Rattle.judge.specs.Judged.{headAt}
+use Rattle.outcome.specs.Outcomes.{allSummaries, allOf, firstMode}
+use Rattle.row_plan.specs.declared.pieces.Note.{Note}
+use Rattle.row_plan.specs.declared.pieces.Pieces.{Pieces}
+use Rattle.row_plan.specs.declared.pieces.Pieces.the-variants.{Of, NotAll}
+use Rattle.row_plan.specs.Arrays.{Noted}
+use Rattle.row_plan.specs.Told.{Few}
+
+-- The ranges that question 5 asks of a summary's numbers.
+pub record SpoiltFits (h : SpoiltHead) : Type 0 where
+  pub fault-low : 7 ≤ h .fault
+  pub fault-high : h .fault ≤ 9
+  pub start-high : h .start ≤ 64
+  pub end-high : h .end ≤ 64
+  pub opened-few : h .opened ≤ 100_001
+
+pub record HillFits (h : HillHead) : Type 0 where
+  pub start-high : h .start ≤ 64
+  pub end-high : h .end ≤ 64
+  pub peak-high : h .peak ≤ 64
+  pub opened-few : h .opened ≤ 100_001
+
+abbrev pub Fits : Head → Type 0
+Fits Blank = Unit {0}
+Fits (Spoilt h) = SpoiltFits h
+Fits (Hill h) = HillFits h
+
+-- Kind 0 is a blank, 1 a hill, and any other the fault of a spoilt one. A piece that is no hill has a peak above all levels.
+abbrev pub noteOf : Head → Note
+noteOf Blank = record { kind = 0; start = 0; peak = 255; end = 0; opened = 0 }
+noteOf (Spoilt h) = record { kind = h .fault; start = h .start; peak = 255; end = h .end; opened = h .opened }
+noteOf (Hill h) = record { kind = 1; start = h .start; peak = h .peak; end = h .end; opened = h .opened }
+
+abbrev pub noteIn : (kinds starts peaks ends openeds : List ℕ) → ℕ → Note
+noteIn kinds starts peaks ends openeds k = record { kind = getD kinds k 0; start = getD starts k 0; peak = getD peaks k 0; end = getD ends k 0; opened = getD openeds k 0 }
+
+pub record Stored (n : Note) (k : ℕ) (kinds starts peaks ends openeds kinds′ starts′ peaks′ ends′ openeds′ : List ℕ) : Type 0 where
+  pub kind : kinds′ ≡ set kinds k (n .kind)
+  pub start : starts′ ≡ set starts k (n .start)
+  pub peak : peaks′ ≡ set peaks k (n .peak)
+  pub end : ends′ ≡ set ends k (n .end)
+  pub opened : openeds′ ≡ set openeds k (n .opened)
+
+-- The arrays are whole, and their numbers in range.
+pub record Whole (kinds starts peaks ends openeds : List ℕ) : Type 0 where
+  pub kinds-64 : length kinds ≡ 64
+  pub starts-64 : length starts ≡ 64
+  pub peaks-64 : length peaks ≡ 64
+  pub ends-64 : length ends ≡ 64
+  pub openeds-64 : length openeds ≡ 64
+  pub noted : Noted starts peaks ends
+  pub few : Few openeds
+
+-- The pieces of a row are noted.
+abbrev pub AllNoted : List (List ℕ) → (kinds starts peaks ends openeds : List ℕ) → Type 0
+AllNoted ps kinds starts peaks ends openeds = (i : ℕ) → i < length ps → noteIn kinds starts peaks ends openeds i ≡ noteOf (headAt (getD ps i []))
+
+-- Questions 5 and 6 of a row's pieces.
+pub record AllJudged (m : ℕ) (same : Bool) (ps : List (List ℕ)) (kinds starts peaks ends openeds : List ℕ) : Type 0 where
+  pub good : allSummaries ps ≡ true
+  pub mode : 0 < length ps → firstMode ps ≡ m
+  pub same-mode : allOf (firstMode ps) ps ≡ same
+  pub whole : Whole kinds starts peaks ends openeds
+  pub noted : AllNoted ps kinds starts peaks ends openeds
+
+abbrev pub Judged : Pieces → List (List ℕ) → (kinds starts peaks ends openeds : List ℕ) → Type 0
+Judged (Of m same) ps kinds starts peaks ends openeds = AllJudged m same ps kinds starts peaks ends openeds
+Judged NotAll ps kinds starts peaks ends openeds = allSummaries ps ≡ false

@@ -1,0 +1,132 @@
+-- What is noted of a row's pieces is what its summaries say: its fault, its levels and its plan. Assumes nothing.
+use mathlib.Core.Path.{_≡_, refl, sym, ap, ap₂, _∙_}
+use mathlib.Core.List.{List, [], _∷_, _++_, map}
+use Prim.Native.Nat.{ℕ, zero, suc, _+_, _≤_, _<_}
+use native.Mathlib.Nat.{zero-add}
+use native.Mathlib.Omega.{arith}
+use borrow.Author.Tests.{le-leb, ne-eqb}
+use lib.ListN.{length, getD, length-map}
+use Rattle.figure.specs.Mode.{modeOf}
+use Rattle.hill.specs.Verdict.{pass, refuse}
+use Rattle.hill.specs.Summary.{blank}
+use Rattle.summary.specs.Judge.{IsSummary, isBlank, isSpoilt, isHill, riseAt, fallAt, startAt, peakAt, endAt, openedAt, faultAt}
+use Rattle.summary.specs.Decode.{decode}
+use Rattle.summary.specs.Values.{lefts-length, rights-length, reading-blank, reading-spoilt, reading-hill}
+use Rattle.summary.specs.Accepted.{decoded}
+use Rattle.summary.specs.Layout.{SummaryIn}
+use Rattle.judge.specs.Judged.{headAt}
+use Rattle.judge.specs.Laws.{head-blank, head-spoilt, head-hill}
+use Rattle.join_plan.specs.Plan.{Levels, blank as noLevels, hill as levels, levelsOfSummary, planOfRow}
+use Rattle.join_plan.specs.Scan.{lineOf, passed, walk, linesTo, plan}
+use Rattle.plan_work.specs.Gate.{rowFault, ValidRow}
+use Rattle.plan_work.specs.RowLevels.{plan-row}
+use Rattle.outcome.specs.Laws.{AllIn}
+use Rattle.outcome.specs.Through.{few-lines}
+use Rattle.row_plan.specs.Arrays.{levelsFrom, levelsIn}
+use Rattle.row_plan.specs.Told.{Told, tells, toldOf, toldFrom, toldIn, toldsFrom, faultOf}
+use Rattle.row_plan.specs.ToldLaws.{told-all, fault-row, some-fault, own-hill, own-spoilt, none-12}
+use Rattle.row_plan.specs.Notes.{noteOf, AllNoted}
+use Rattle.row_plan.specs.declared.pieces.Note.{Note}
+
+-- ---- one piece
+
+abbrev told : Note → Told
+told n = toldFrom (n .kind) (n .start) (n .end) (n .opened)
+
+abbrev levelled : Note → Levels
+levelled n = levelsFrom (n .start) (n .peak) (n .end)
+
+told-spoilt : (f s e o : ℕ) → 7 ≤ f → f ≤ 9 → toldFrom f s e o ≡ tells (refuse f) s e o
+unfolding toldFrom
+told-spoilt f s e o a b = rw (ne-eqb f 0 (omega arith), ← own-spoilt f (omega arith), some-fault f (omega arith))
+
+told-hill : (s e o : ℕ) → toldFrom 1 s e o ≡ tells pass s e o
+unfolding toldFrom
+told-hill s e o = rw (← own-hill 1 refl, none-12)
+
+pub told-piece : (m : ℕ) (b : List ℕ) → IsSummary b → told (noteOf (headAt b)) ≡ toldOf (decode m b)
+unfolding decode toldFrom
+told-piece m b (isBlank f) = rw (head-blank b (f .kind-fits), reading-blank (modeOf m .read) b (f .kind-fits))
+told-piece m b (isSpoilt v) =
+    rw (head-spoilt b (v .layout .kind-fits), reading-spoilt (modeOf m .read) b (v .layout .kind-fits)) (told-spoilt (faultAt b) _ _ _ (v .fault-low) (v .fault-high))
+told-piece m b (isHill v) =
+    let s : peakAt b + riseAt b ≡ startAt b = omega (arith, v .peak-start) in
+    let e : peakAt b + fallAt b ≡ endAt b = omega (arith, v .peak-end) in
+    rw (head-hill b (λ x. omega (arith, v .layout .kind-fits)) (λ x. omega (arith, v .layout .kind-fits)), reading-hill (modeOf m .read) b (v .layout .kind-fits), lefts-length (modeOf m .read) b (riseAt b), rights-length (modeOf m .read) b (fallAt b), s, e)
+    (told-hill (startAt b) (endAt b) (openedAt b))
+
+pub levels-piece : (m : ℕ) (b : List ℕ) → IsSummary b → levelled (noteOf (headAt b)) ≡ levelsOfSummary (decode m b)
+unfolding decode levelsFrom
+levels-piece m b (isBlank f) = rw (head-blank b (f .kind-fits), reading-blank (modeOf m .read) b (f .kind-fits))
+levels-piece m b (isSpoilt v) = rw (head-spoilt b (v .layout .kind-fits), reading-spoilt (modeOf m .read) b (v .layout .kind-fits))
+levels-piece m b (isHill v) =
+    let s : peakAt b + riseAt b ≡ startAt b = omega (arith, v .peak-start) in
+    let e : peakAt b + fallAt b ≡ endAt b = omega (arith, v .peak-end) in
+    rw (
+      head-hill b (λ x. omega (arith, v .layout .kind-fits)) (λ x. omega (arith, v .layout .kind-fits)),
+      reading-hill (modeOf m .read) b (v .layout .kind-fits),
+      lefts-length (modeOf m .read) b (riseAt b),
+      rights-length (modeOf m .read) b (fallAt b),
+      s,
+      e,
+      le-leb (peakAt b) 64 (omega (arith, v .peak-start, v .start-high)),
+    )
+
+-- ---- the plan reads the levels of its chunks only
+
+module _ (f g : ℕ → Levels) where
+  walk-cong : (j p m n : ℕ) → ((k : ℕ) → k < n → f k ≡ g k) → walk f j p m n ≡ walk g j p m n
+  unfolding walk
+  walk-cong j p m zero h = refl
+  walk-cong j p m (suc n) h = ap (λ c. lineOf c n j p m ++ walk f j p (passed c m) n) (h n (omega arith)) ∙ ap (λ l. lineOf (g n) n j p m ++ l) (walk-cong j p (passed (g n) m) n (λ k b. h k (omega arith)))
+
+  linesTo-cong : (c : Levels) (j : ℕ) → ((k : ℕ) → k < j → f k ≡ g k) → linesTo f c j ≡ linesTo g c j
+  unfolding linesTo
+  linesTo-cong noLevels j h = refl
+  linesTo-cong (levels s p e) j h = walk-cong j p s j h
+
+  plan-cong : (n : ℕ) → ((k : ℕ) → k < n → f k ≡ g k) → plan f n ≡ plan g n
+  unfolding plan
+  plan-cong zero h = refl
+  plan-cong (suc n) h = ap₂ (λ a b. a ++ b) (plan-cong n (λ k b. h k (omega arith))) (ap (λ c. linesTo f c n) (h n (omega arith)) ∙ linesTo-cong (g n) n (λ k b. h k (omega arith)))
+
+-- ---- the pieces of a row
+
+module _ (m : ℕ) where
+  pub valid-row : (ps : List (List ℕ)) → AllIn m ps → ValidRow (modeOf m .algebra) (modeOf m .sizes) (map (decode m) ps)
+  valid-row [] a = tt
+  valid-row (p ∷ ps) a = (decoded m p (a .0), valid-row ps (a .1))
+
+  pub each-in : (ps : List (List ℕ)) → AllIn m ps → (i : ℕ) → i < length ps → IsSummary (getD ps i [])
+  each-in [] a i h = absurd (omega arith)
+  each-in (p ∷ ps) a zero h = a .0 .is
+  each-in (p ∷ ps) a (suc i) h = each-in ps (a .1) i (omega arith)
+
+  pub decoded-at : (ps : List (List ℕ)) (i : ℕ) → i < length ps → getD (map (decode m) ps) i blank ≡ decode m (getD ps i [])
+  decoded-at [] i h = absurd (omega arith)
+  decoded-at (p ∷ ps) zero h = refl
+  decoded-at (p ∷ ps) (suc i) h = decoded-at ps i (omega arith)
+
+  module _ (ps : List (List ℕ)) (a : AllIn m ps) (kinds starts peaks ends openeds : List ℕ) (noted : AllNoted ps kinds starts peaks ends openeds) where
+    abbrev row : List (SummaryIn m)
+    row = map (decode m) ps
+
+    pub row-fault : (count : ℕ) → length ps ≡ count → faultOf (toldsFrom kinds starts ends openeds 0 count) ≡ rowFault row
+    row-fault count e =
+        ap faultOf (ap (toldsFrom kinds starts ends openeds 0) (sym e ∙ sym (length-map ps (decode m))) ∙ told-all kinds starts ends openeds row 0 each) ∙ fault-row row
+      where
+        each : (i : ℕ) → i < length row → toldIn kinds starts ends openeds (0 + i) ≡ toldOf (getD row i blank)
+        each i h =
+            let l : i < length ps = omega (arith, length-map ps (decode m)) in
+            ap (toldIn kinds starts ends openeds) (zero-add i) ∙ ap told (noted i l) ∙ told-piece m (getD ps i []) (each-in ps a i l) ∙ ap toldOf (sym (decoded-at ps i l))
+
+    pub row-plan : (count : ℕ) → length ps ≡ count → plan (levelsIn starts peaks ends) count ≡ planOfRow row
+    row-plan count e =
+        plan-cong (levelsIn starts peaks ends) (λ k. levelsOfSummary (getD row k blank)) count each ∙ ap (plan (λ (k : ℕ). levelsOfSummary (getD row k blank))) (sym e ∙ sym (length-map ps (decode m))) ∙ sym (plan-row (modeOf m .algebra) row)
+      where
+        each : (k : ℕ) → k < count → levelsIn starts peaks ends k ≡ levelsOfSummary (getD row k blank)
+        each k h = ap levelled (noted k (omega arith)) ∙ levels-piece m (getD ps k []) (each-in ps a k (omega arith)) ∙ ap levelsOfSummary (sym (decoded-at ps k (omega arith)))
+
+  -- at most 125 lines
+  pub row-room : (ps : List (List ℕ)) → AllIn m ps → 2 ≤ length ps → length ps ≤ 64 → rowFault (map (decode m) ps) ≡ pass → length (planOfRow (map (decode m) ps)) ≤ 128
+  row-room ps a l h v = omega (arith, few-lines m ps a l v)

@@ -1,0 +1,196 @@
+-- The lowest fault of a row, piece by piece, is the one that the gate finds. Assumes nothing.
+use mathlib.Core.Path.{_≡_, refl, sym, ap, ap₂, _∙_}
+use mathlib.Core.Bool.{Bool, true, false, cond}
+use mathlib.Core.List.{List, [], _∷_, map}
+use mathlib.Core.Logic.{dite}
+use Prim.Native.Nat.{ℕ, suc, _+_, _-_, _*_, _≤_, _<_, min}
+use native.Mathlib.Decide.{decLt}
+use native.Mathlib.Nat.{add-assoc, add-zero}
+use native.Mathlib.Numerals.{add-one}
+use native.Mathlib.Omega.{arith}
+use lib.Dec.{ltb, eqb}
+use borrow.Author.Tests.{lt-ltb, le-ltb, le-leb, lt-leb, eq-eqb, ne-eqb}
+use lib.ListN.{length, getD}
+use Rattle.hill.specs.Verdict.{Verdict, pass, refuse, low, lower, ask, between, count, ends}
+use Rattle.hill.specs.VerdictLaws.{low-assoc, low-left}
+use Rattle.hill.specs.Summary.{Summary, Part, blank, part, verdict, start, end, opened}
+use Rattle.plan_work.specs.Gate.{partsOf, spoiltFault, joinFault, totalOpened, lastEnd, rowFault}
+use Rattle.row_plan.specs.declared.fault.Span.{Span}
+use Rattle.row_plan.specs.Told.{Told, tells, toldOf, afterSome, faultOf, verdictOf, toldFrom, toldIn, toldsFrom, Few, ownFault, onwardFrom, Passed}
+
+-- ---- faults in bytes
+
+pub none-12 : verdictOf 12 ≡ pass
+unfolding verdictOf
+none-12 = refl
+
+pub no-fault : (f : ℕ) → 12 ≤ f → verdictOf f ≡ pass
+unfolding verdictOf
+no-fault f h = rw (le-ltb f 12 h)
+
+pub some-fault : (f : ℕ) → f < 12 → verdictOf f ≡ refuse f
+unfolding verdictOf
+some-fault f h = rw (lt-ltb f 12 h)
+
+low-both : (a b : ℕ) → verdictOf (min a b) ≡ low (verdictOf a) (verdictOf b)
+unfolding verdictOf
+low-both a b = dite (decLt a 12)
+    (λ x. dite (decLt b 12)
+    (λ y. rw (lt-ltb a 12 x, lt-ltb b 12 y, lt-ltb (min a b) 12 (omega arith)))
+    (λ y. rw (lt-ltb a 12 x, le-ltb b 12 (omega arith), lt-ltb (min a b) 12 (omega arith)) (ap refuse (omega arith))))
+    (λ x. dite (decLt b 12)
+    (λ y. rw (le-ltb a 12 (omega arith), lt-ltb b 12 y, lt-ltb (min a b) 12 (omega arith)) (ap refuse (omega arith)))
+    (λ y. rw (le-ltb a 12 (omega arith), le-ltb b 12 (omega arith), le-ltb (min a b) 12 (omega arith))))
+
+pub lower-fault : (a b r : ℕ) (v w : Verdict) → r ≡ min a b → verdictOf a ≡ v → verdictOf b ≡ w → verdictOf r ≡ low v w
+lower-fault a b r v w e p q = rw (e, ← p, ← q) (low-both a b)
+
+-- ---- the questions in code
+
+pub meet-apart : (a b : ℕ) → ¬ (a ≡ b) → verdictOf 7 ≡ between a b
+unfolding between verdictOf
+meet-apart a b h = rw (ne-eqb a b h) (ap refuse (seven (ltb 0 a)))
+  where
+    seven : (t : Bool) → 7 ≡ lower 7 (ask 8 t)
+    seven true = refl
+    seven false = refl
+
+pub meet-ground : (a b : ℕ) → a ≡ b → a ≡ 0 → verdictOf 8 ≡ between a b
+unfolding between verdictOf
+meet-ground a b h z = rw (eq-eqb a b h, z)
+
+pub meet-above : (a b : ℕ) → a ≡ b → ¬ (a ≡ 0) → verdictOf 12 ≡ between a b
+unfolding between verdictOf
+meet-above a b h z = rw (eq-eqb a b h, lt-ltb 0 a (omega arith))
+
+pub count-few : (n : ℕ) → n ≤ 100000 → verdictOf 12 ≡ count n
+unfolding count verdictOf
+count-few n h = rw (le-leb n 100000 h)
+
+pub count-many : (n : ℕ) → 100000 < n → verdictOf 9 ≡ count n
+unfolding count verdictOf
+count-many n h = rw (lt-leb n 100000 h)
+
+-- ---- one piece more
+
+abbrev span : (seen : Bool) (first last fault opened : ℕ) → Span
+span seen first last fault opened = record { seen = seen; first = first; last = last; fault = fault; opened = opened }
+
+pub pass-blank : (s : Span) (kind start end o : ℕ) → kind ≡ 0 → Passed s (toldFrom kind start end o) o s
+unfolding toldFrom onwardFrom
+pass-blank s kind start end o e = record { is = λ ts. go (s .seen) ts; opened = omega arith }
+  where
+    go : (b : Bool) (ts : List Told) → cond b (afterSome (s .first) (s .last) (verdictOf (s .fault)) (s .opened) ts) (faultOf ts)
+        ≡ cond b (afterSome (s .first) (s .last) (verdictOf (s .fault)) (s .opened) (toldFrom kind start end o ∷ ts)) (faultOf (toldFrom kind start end o ∷ ts))
+    go true ts = rw e
+    go false ts = rw e
+
+-- what a piece that is not blank tells
+told-part : (kind start end o own : ℕ) → ¬ (kind ≡ 0) → own ≡ ownFault kind → toldFrom kind start end o ≡ tells (verdictOf own) start end o
+unfolding toldFrom
+told-part kind start end o own h e = rw (ne-eqb kind 0 h, e)
+
+pub own-hill : (kind : ℕ) → kind ≡ 1 → 12 ≡ ownFault kind
+unfolding ownFault
+own-hill kind e = rw e
+
+pub own-spoilt : (kind : ℕ) → ¬ (kind ≡ 1) → kind ≡ ownFault kind
+unfolding ownFault
+own-spoilt kind h = rw (ne-eqb kind 1 h)
+
+pub pass-first : (s : Span) (kind start end o own : ℕ) → s .seen ≡ false → ¬ (kind ≡ 0) → own ≡ ownFault kind → Passed s (toldFrom kind start end o) o (span true start end own o)
+unfolding onwardFrom
+pass-first s kind start end o own z h e = rw (told-part kind start end o own h e) record { is = λ ts. rw z; opened = omega arith }
+
+pub pass-next : (s : Span) (kind start end o own fault sum : ℕ) → s .seen ≡ true → ¬ (kind ≡ 0) → own ≡ ownFault kind → verdictOf fault ≡ low (verdictOf (s .fault)) (low (verdictOf own) (between (s .last) start)) →
+    sum ≡ s .opened + o → Passed s (toldFrom kind start end o) o (span true (s .first) end fault sum)
+unfolding onwardFrom
+pass-next s kind start end o own fault sum z h e f g = rw (told-part kind start end o own h e) record { is = λ ts. rw (z, f, g); opened = omega arith }
+
+-- ---- all pieces
+
+pub told-next : (kinds starts ends openeds : List ℕ) (k n : ℕ) → toldsFrom kinds starts ends openeds k (suc n) ≡ toldIn kinds starts ends openeds k ∷ toldsFrom kinds starts ends openeds (suc k) n
+unfolding toldsFrom
+told-next kinds starts ends openeds k n = refl
+
+pub told-end : (kinds starts ends openeds : List ℕ) (k : ℕ) → toldsFrom kinds starts ends openeds k 0 ≡ []
+unfolding toldsFrom
+told-end kinds starts ends openeds k = refl
+
+-- what is noted of a row is what its summaries tell
+pub told-all : {Fig R : Type 0} (kinds starts ends openeds : List ℕ) (row : List (Summary Fig R)) (k : ℕ) →
+    ((i : ℕ) → i < length row → toldIn kinds starts ends openeds (k + i) ≡ toldOf (getD row i blank)) → toldsFrom kinds starts ends openeds k (length row) ≡ map toldOf row
+unfolding toldsFrom
+told-all kinds starts ends openeds [] k h = refl
+told-all kinds starts ends openeds (s ∷ row) k h =
+    ap₂ (λ t ts. t ∷ ts) (ap (toldIn kinds starts ends openeds) (sym (add-zero k)) ∙ h 0 (omega arith))
+    (told-all kinds starts ends openeds row (suc k) (λ i l. ap (toldIn kinds starts ends openeds) (omega arith) ∙ h (suc i) (omega arith)))
+
+-- ---- the fault that the gate finds
+
+regroup : (v w b s j c t : Verdict) → low (low (low v (low w b)) (low s (low j c))) t ≡ low (low v (low (low w s) (low (low b j) c))) t
+regroup v w b s j c t = ap (λ x. low x t) (low-assoc v (low w b) (low s (low j c)) ∙ ap (low v) (low-assoc w b (low s (low j c)) ∙ ap (low w) (low-left b s (low j c) ∙ ap (low s) (sym (low-assoc b j c))) ∙ sym (low-assoc w s (low (low b j) c))))
+
+module _ {Fig R : Type 0} where
+  after-some : (first : ℕ) (v : Verdict) (o : ℕ) (a : Part Fig R) (row : List (Summary Fig R)) →
+      afterSome first (end a) v o (map toldOf row) ≡ low (low v (low (spoiltFault (partsOf row)) (low (joinFault a (partsOf row)) (count (o + totalOpened (partsOf row)))))) (ends first (lastEnd a (partsOf row)))
+  after-some first v o a [] = rw (add-zero o)
+  after-some first v o a (blank ∷ row) = after-some first v o a row
+  after-some first v o a (part b ∷ row) =
+      after-some first (low v (low (verdict b) (between (end a) (start b)))) (o + opened b) b row ∙
+      ap (λ (n : ℕ). low (low (low v (low (verdict b) (between (end a) (start b)))) (low (spoiltFault (partsOf row)) (low (joinFault b (partsOf row)) (count n)))) (ends first (lastEnd b (partsOf row)))) (add-assoc o (opened b) (totalOpened (partsOf row))) ∙
+      regroup v (verdict b) (between (end a) (start b)) (spoiltFault (partsOf row)) (joinFault b (partsOf row)) (count (o + (opened b + totalOpened (partsOf row)))) (ends first (lastEnd b (partsOf row)))
+
+  -- THE ROW'S FAULT
+  pub fault-row : (row : List (Summary Fig R)) → faultOf (map toldOf row) ≡ rowFault row
+  fault-row [] = refl
+  fault-row (blank ∷ row) = fault-row row
+  fault-row (part a ∷ row) = after-some (start a) (verdict a) (opened a) a row ∙ ap (λ x. low x (ends (start a) (lastEnd a (partsOf row)))) (sym (low-assoc (verdict a) (spoiltFault (partsOf row)) (low (joinFault a (partsOf row)) (count (opened a + totalOpened (partsOf row))))))
+
+-- ---- the loop over a row's pieces
+
+pub record Spanning (kinds starts ends openeds : List ℕ) (count : ℕ) (s : Span) (k : ℕ) : Type 0 where
+  pub near : k ≤ count
+  pub light : s .opened ≤ 100_001 * k
+  pub all : onwardFrom s (toldsFrom kinds starts ends openeds k (count - k)) ≡ faultOf (toldsFrom kinds starts ends openeds 0 count)
+
+module _ (kinds starts ends openeds : List ℕ) (count : ℕ) where
+  pub span-start : Spanning kinds starts ends openeds count (span false 0 0 12 0) 0
+  unfolding onwardFrom
+  span-start = record { near = omega arith; light = omega arith; all = ap (λ (n : ℕ). faultOf (toldsFrom kinds starts ends openeds 0 n)) (omega arith) }
+
+  pub span-next : (s r : Span) (k : ℕ) → Few openeds → Spanning kinds starts ends openeds count s k → k < count → Passed s (toldIn kinds starts ends openeds k) (getD openeds k 0) r → Spanning kinds starts ends openeds count r (k + 1)
+  span-next s r k f v h p =
+      let n : count - k ≡ suc (count - (k + 1)) = omega arith in
+      let t : toldsFrom kinds starts ends openeds k (count - k) ≡ toldIn kinds starts ends openeds k ∷ toldsFrom kinds starts ends openeds (k + 1) (count - (k + 1)) =
+      ap (toldsFrom kinds starts ends openeds k) n ∙ told-next kinds starts ends openeds k (count - (k + 1)) ∙ ap (λ (i : ℕ). toldIn kinds starts ends openeds k ∷ toldsFrom kinds starts ends openeds i (count - (k + 1))) (sym (add-one k)) in
+      record { near = omega arith; light = omega (arith, p .opened, f .each k, v .light); all = p .is (toldsFrom kinds starts ends openeds (k + 1) (count - (k + 1))) ∙ ap (onwardFrom s) (sym t) ∙ v .all }
+
+  pub span-end : (s : Span) (k : ℕ) → Spanning kinds starts ends openeds count s k → count ≤ k → onwardFrom s [] ≡ faultOf (toldsFrom kinds starts ends openeds 0 count)
+  span-end s k v h =
+      let n : count - k ≡ 0 = omega arith in
+      ap (onwardFrom s) (sym (ap (toldsFrom kinds starts ends openeds k) n ∙ told-end kinds starts ends openeds k)) ∙ v .all
+
+pub low-none : (s : Span) → s .seen ≡ false → verdictOf 10 ≡ onwardFrom s []
+unfolding onwardFrom verdictOf
+low-none s z = rw z
+
+pub low-some : (s : Span) (v : Verdict) → s .seen ≡ true → v ≡ low (low (verdictOf (s .fault)) (count (s .opened))) (ends (s .first) (s .last)) → v ≡ onwardFrom s []
+unfolding onwardFrom
+low-some s v z e = rw z e
+
+pub ends-12 : (a b : ℕ) → a ≡ 0 → b ≡ 0 → verdictOf 12 ≡ ends a b
+unfolding ends verdictOf
+ends-12 a b x y = rw (x, y)
+
+pub ends-first : (a b : ℕ) → ¬ (a ≡ 0) → verdictOf 11 ≡ ends a b
+unfolding ends verdictOf
+ends-first a b x = rw (ne-eqb a 0 x) (ap refuse (go (eqb b 0)))
+  where
+    go : (t : Bool) → 11 ≡ lower 11 (ask 11 t)
+    go true = refl
+    go false = refl
+
+pub ends-last : (a b : ℕ) → a ≡ 0 → ¬ (b ≡ 0) → verdictOf 11 ≡ ends a b
+unfolding ends verdictOf
+ends-last a b x y = rw (x, ne-eqb b 0 y)

@@ -1,0 +1,45 @@
+// Questions 4 to 11 of a row.
+ghost use mathlib.Core.Path.{_≡_};
+ghost use Rattle.row_plan.specs.Notes.{Whole};
+ghost use Rattle.row_plan.specs.Asks.{Says};
+use super::fault::row_fault;
+use super::pieces::Pieces;
+use super::pieces::judge_pieces;
+
+// A row that is let through, with the number of its pieces and its mode; or the number of a question.
+pub enum Asked {
+    Row(usize, u16),
+    Refused(u8),
+}
+
+pub fn ask(
+    row: &[u8],
+    kinds: &mut [u8; 64],
+    starts: &mut [u8; 64],
+    peaks: &mut [u8; 64],
+    ends: &mut [u8; 64],
+    opened: &mut [u32; 64],
+) -> Asked
+    requires { ⌜ Whole (now kinds) (now starts) (now peaks) (now ends) (now opened) ⌝ }
+    ensures { λ r. ⌜ Says r (now (row .entry)) (now (kinds .exit)) (now (starts .exit)) (now (peaks .exit)) (now (ends .exit)) (now (opened .exit)) ⌝ }
+{
+    let count = row::count_pieces(row);
+    if count < 2 {
+        return Asked::Refused(4);
+    }
+    if 64 < count {
+        return Asked::Refused(4);
+    }
+    let pieces = judge_pieces(row, count, kinds, starts, peaks, ends, opened);
+    let Pieces::Of(mode, same) = pieces else {
+        return Asked::Refused(5);
+    };
+    if !same {
+        return Asked::Refused(6);
+    }
+    let fault = row_fault(&*kinds, &*starts, &*ends, &*opened, count);
+    if fault < 12 {
+        return Asked::Refused(fault);
+    }
+    Asked::Row(count, mode)
+}
