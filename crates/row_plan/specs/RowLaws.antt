@@ -119,11 +119,11 @@ all-in m (p ∷ ps) g s = (
 )
 
 module _ (m : ℕ) where
-  valid-row : (ps : List (List ℕ)) → AllIn m ps → ValidRow (modeOf m .algebra) (modeOf m .sizes) (map (decode m) ps)
+  pub valid-row : (ps : List (List ℕ)) → AllIn m ps → ValidRow (modeOf m .algebra) (modeOf m .sizes) (map (decode m) ps)
   valid-row [] a = tt
   valid-row (p ∷ ps) a = (decoded m p (a .0), valid-row ps (a .1))
 
-  each-in : (ps : List (List ℕ)) → AllIn m ps → (i : ℕ) → i < length ps → IsSummary (getD ps i [])
+  pub each-in : (ps : List (List ℕ)) → AllIn m ps → (i : ℕ) → i < length ps → IsSummary (getD ps i [])
   each-in [] a i h = absurd (omega arith)
   each-in (p ∷ ps) a zero h = a .0 .is
   each-in (p ∷ ps) a (suc i) h = each-in ps (a .1) i (omega arith)

@@ -1,0 +1,5 @@
+-- What must be believed: Answers. Stores and Contracts say what the inner functions ask and answer. The rest is proved of them.
+pub mod Answers
+pub mod Stores
+pub mod Contracts
+pub mod LineLaws
