@@ -93,13 +93,14 @@ withMiddle row m p level acc = modeOf m .algebra ._⊗_ (modeOf m .read acc) (mi
 
 pub record AddsMiddle (row : List ℕ) (m : ℕ) (p : Place) (level : ℕ) (acc : ℤ) : Type 0 where
   pub hill : p .peak ≡ level → IsPlaceOfHill row p
-  pub mode-is : p .peak ≡ level → modeAt (pieceOf row (p .piece)) ≡ m
+  pub middle-stored : p .peak ≡ level → IsStored (modeOf m) (middleAt (pieceOf row (p .piece)))
   pub light : p .peak ≡ level → sizeOf (modeOf m) (middleAt (pieceOf row (p .piece))) ≤ outcomeMost
   pub stored : IsStored (modeOf m) acc
   pub room : sizeOf (modeOf m) acc ≤ most
 
 pub record Middles (row : List ℕ) (count m : ℕ) (ats starts peaks : List ℕ) (i j level : ℕ) : Type 0 where
   pub ready : Ready row count m ats starts peaks
+  pub order : i < j
   pub within : j ≤ count
   pub level-high : level ≤ 64
 
@@ -137,6 +138,7 @@ joined e = line (e .i) (e .j) (e .low) (e .high)
 
 pub record Gives (row : List ℕ) (count m : ℕ) (ats starts peaks : List ℕ) (outs : List ℤ) (n : ℕ) (e : Join) : Type 0 where
   pub ready : Ready row count m ats starts peaks
+  pub order : e .i < e .j
   pub within : e .j ≤ count
   pub level-high : e .high < 64
   pub outcomes : OutsStored (modeOf m) outs n

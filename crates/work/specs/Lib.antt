@@ -3,3 +3,5 @@ pub mod Answers
 pub mod Stores
 pub mod Contracts
 pub mod LineLaws
+pub mod RowLaws
+pub mod GivenLaws

@@ -1,9 +1,14 @@
+-- `work::given::read_middle` meets its contract: the number lies within the piece.
+-- Assumes nothing.
+use mathlib.Core.Path.{_∙_}
+use native.Mathlib.Omega.{arith}
+use mir.Syntax.{w64}
 use borrow.Author.Needs.{needs}
+use denote.Ref.{now}
+use Rattle.number.specs.Word.{back}
+use Rattle.work.specs.GivenLaws.{middle-fits, middle-read}
 use Rattle.work.proofs.given.read_middle.Statement.{statement}
 use Rattle.work.proofs.given.read_middle.Tie as tie
-use Rattle.work.proofs.given.read_middle.Reads as reads
-use Rattle.work.proofs.given.read_middle.Lts as lts
-use Rattle.number.proofs.read_i64.Reads as read-i64-reads
 
 -- src/given.rt:24:17
 sub-rise : tie.Need-sub-rise
@@ -15,7 +20,9 @@ cast-rise c = search needs
 
 -- src/given.rt:25:27
 add-read-i64 : tie.Need-add-read-i64
-add-read-i64 c = ?
+add-read-i64 c =
+    let a = c .before .before .before in
+    record { fits = omega (arith, middle-fits (now (a .args .row)) (a .args .hill) (a .pre)) }
 
 -- src/given.rt:25:42
 mul-read-i64 : tie.Need-mul-read-i64
@@ -23,15 +30,21 @@ mul-read-i64 c = search needs
 
 -- src/given.rt:25:27
 add-read-i64-2 : tie.Need-add-read-i64-2
-add-read-i64-2 c = ?
+add-read-i64-2 c =
+    let a = c .before .before .before in
+    record { fits = omega (arith, middle-fits (now (a .args .row)) (a .args .hill) (a .pre)) }
 
 -- src/given.rt:25:5
 read-i64-requires : tie.Need-read-i64-requires
-read-i64-requires c κs = ?
+read-i64-requires c κs =
+    let a = c .before .before .before in
+    middle-fits (now (a .args .row)) (a .args .hill) (a .pre)
 
 -- src/given.rt:20:1
 returns : tie.Need-returns
-returns c = ?
+returns c =
+    let a = c .before .before .before .before in
+    back w64 _ (c .read-i64 .ok) ∙ c .read-i64 .ensures ∙ middle-read (now (a .args .row)) (a .args .hill) (a .pre)
 
 pub read-middle-spec : {M : Type 1} → statement M
 read-middle-spec =
