@@ -5,3 +5,4 @@ pub mod Contracts
 pub mod LineLaws
 pub mod RowLaws
 pub mod GivenLaws
+pub mod LinesLaws
