@@ -7,16 +7,20 @@ use native.Mathlib.Decide.{decLt}
 use native.Mathlib.Numerals.{add-one}
 use native.Mathlib.Omega.{arith}
 use lib.IntN.{ℤ, pos}
-use lib.ListN.{length, getD, set, length-set}
-use lib.Seq.{getD-set-same, getD-set-other}
+use lib.ListN.{length, getD, set, drop, length-set, length-map, drop-of-length-le}
+use lib.Seq.{drop-cons, getD-set-same, getD-set-other}
 use Rattle.row.specs.Row.{rowPieces}
 use Rattle.algebra.specs.Run.{Level, through}
 use Rattle.algebra.specs.Sizes.{costs}
 use Rattle.figure.specs.Mode.{Mode, modeOf}
 use Rattle.figure.specs.Stored.{IsStored, sizeOf}
+use Rattle.hill.specs.Summary.{blank, part, spoilt, whole}
 use Rattle.summary.specs.Layout.{SummaryIn}
-use Rattle.summary.specs.Decode.{decode}
+use Rattle.summary.specs.Judge.{peakAt, openedAt, middleAt, IsHill}
+use Rattle.summary.specs.Decode.{decode, hillIn}
+use Rattle.summary.specs.Values.{reading-hill}
 use Rattle.join_plan.specs.Plan.{Line, planOfRow}
+use Rattle.plan_work.specs.GateExact.{Begins, row-begins}
 use Rattle.plan_work.specs.Runs.{peakOf, slopesOf, levelsDown, summaryAt, runLevels}
 use Rattle.plan_work.specs.Work.{Done, given, worked, oneMiddle, lastOutcome, workOf}
 use Rattle.plan_work.specs.WorkLaws.{work, worked-nil, worked-cons, worked-append}
@@ -30,8 +34,8 @@ use Rattle.run_level.specs.StandsFor.{LineLevels, line-levels}
 use Rattle.run_level.specs.Lines.{line-reads}
 use Rattle.work.specs.declared.given.Join.{Join}
 use Rattle.work.specs.Stores.{Stores, stores-same, stores-is, own, size-is, size-stored}
-use Rattle.work.specs.Contracts.{outcomeMost, most, rowIn, Along, Runs, levelsOf, OutsStored, doneAt, doneIn, joined, Gives, Given, WorksLine, AllWorked}
-use Rattle.work.specs.RowLaws.{valid, passes, row-light}
+use Rattle.work.specs.Contracts.{outcomeMost, most, rowIn, Ready, Along, Runs, levelsOf, OutsStored, doneAt, doneIn, joined, Gives, Given, WorksLine, AllWorked}
+use Rattle.work.specs.RowLaws.{valid, passes, row-light, noted-hill, middle-stored, IsWhole, no-hill}
 
 -- ---- one line
 
@@ -220,3 +224,44 @@ module _ {row : List ℕ} {count m : ℕ} {ats starts peaks is js lows highs : L
       ap (λ (es : List Line). worked (P .algebra) (rowIn m row) es []) (sym (a .lines)) ∙ sym (w .outcomes) ∙ ap (doneIn P is js lows highs outs) q in
       ez ∙ stores-is P (getD outs (n - 1) (pos 0)) _ (own P _ _ refl (w .each (n - 1) (omega arith))) ∙
       ap (λ (ds : List (Done (P .algebra .Fig))). P .store (lastOutcome (P .algebra) ds (oneMiddle (P .algebra) (rowIn m row)))) (sym d)
+
+-- ---- the one hill
+
+-- The first k pieces are blank.
+pub record Seeking (row : List ℕ) (count m k : ℕ) : Type 0 where
+  pub near : k ≤ count
+  pub begins : Begins (drop k (rowIn m row))
+  pub same : oneMiddle (modeOf m .algebra) (drop k (rowIn m row)) ≡ oneMiddle (modeOf m .algebra) (rowIn m row)
+
+module _ {row : List ℕ} {count m : ℕ} {ats starts peaks : List ℕ} (t : Ready row count m ats starts peaks) where
+  abbrev S : List (SummaryIn m)
+  S = rowIn m row
+
+  pub seek-start : Seeking row count m 0
+  seek-start = record { near = omega arith; begins = row-begins S (passes (t .let-through)); same = refl }
+
+  pub seek-end : (k : ℕ) {A : Type 0} → Seeking row count m k → count ≤ k → A
+  seek-end k w h = absurd (subst Begins (drop-of-length-le S {i = k} (omega (arith, length-map (rowPieces row) (decode m), t .let-through .through .long))) (w .begins))
+
+  module _ (k : ℕ) (w : Seeking row count m k) (h : k < count) where
+    from-here : drop k S ≡ summaryAt (modeOf m .algebra) S k ∷ drop (suc k) S
+    from-here = drop-cons S k blank (omega (arith, length-map (rowPieces row) (decode m), t .let-through .through .long))
+
+    -- A hill.
+    pub seek-hill : (z y : ℤ) → y ≡ z → getD peaks k 0 ≤ 64 → z ≡ middleAt (pieceOf row k) → Stores (modeOf m) y (oneMiddle (modeOf m .algebra) S)
+    unfolding decode
+    seek-hill z y ey l ez =
+        let v : IsHill (pieceOf row k) = noted-hill t k h l in
+        let s : drop k S ≡ part (whole (peakAt (pieceOf row k)) (openedAt (pieceOf row k)) (hillIn (modeOf m .read) (pieceOf row k))) ∷ drop (suc k) S =
+        from-here ∙ ap (λ (x : SummaryIn m). x ∷ drop (suc k) S) (decoded-at m (rowPieces row) k (omega (arith, t .let-through .through .long)) ∙ reading-hill (modeOf m .read) (pieceOf row k) (v .layout .kind-fits)) in
+        stores-same (modeOf m) z y _ ey
+        (subst (Stores (modeOf m) z) (sym (ap (oneMiddle (modeOf m .algebra)) s) ∙ w .same) (own (modeOf m) (middleAt (pieceOf row k)) z ez (middle-stored t k h v)))
+
+    -- No hill: a blank.
+    pub seek-next : 64 < getD peaks k 0 → Seeking row count m (k + 1)
+    seek-next l = go (summaryAt (modeOf m .algebra) S k) from-here (no-hill t k h l)
+      where
+        go : (s : SummaryIn m) → drop k S ≡ s ∷ drop (suc k) S → (IsWhole s → ⊥) → Seeking row count m (k + 1)
+        go blank e n = subst (Seeking row count m) (sym (add-one k)) (record { near = omega arith; begins = subst Begins e (w .begins); same = sym (ap (oneMiddle (modeOf m .algebra)) e) ∙ w .same })
+        go (part (spoilt f s e o)) q n = absurd (subst Begins q (w .begins))
+        go (part (whole p o g)) q n = absurd (n tt)

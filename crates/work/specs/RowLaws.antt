@@ -16,7 +16,7 @@ use Rattle.figure.specs.Mode.{Mode, modeOf}
 use Rattle.figure.specs.Stored.{IsStored, sizeOf}
 use Rattle.hill.specs.Verdict.{Verdict, pass, refuse}
 use Rattle.hill.specs.Finish.{outcome}
-use Rattle.hill.specs.Summary.{middle}
+use Rattle.hill.specs.Summary.{Summary, blank, part, spoilt, whole, middle}
 use Rattle.summary.specs.Layout.{SummaryIn}
 use Rattle.summary.specs.Judge.{kindAt, peakAt, middleAt, IsHill, IsSummary, isBlank, isSpoilt, isHill}
 use Rattle.summary.specs.Decode.{decode}
@@ -56,6 +56,12 @@ module _ {row : List ℕ} {count m : ℕ} {starts peaks ends : List ℕ} (t : Le
   -- All that its opened records can make.
   pub row-light : load 𝒜 (modeOf m .sizes) (rowIn m row) ≤ outcomeMost
   row-light = load-fits 𝒜 (modeOf m .sizes) (rowIn m row) valid (modeOf m .laws) (modeOf m .commutative) passes (modeOf m .unit-small)
+
+-- A summary that is a hill.
+abbrev pub IsWhole : {Fig R : Type 0} → Summary Fig R → Type 0
+IsWhole blank = ⊥
+IsWhole (part (spoilt f s e o)) = ⊥
+IsWhole (part (whole p o g)) = Unit {0}
 
 cond-same : {A : Type 0} (t : Bool) (a : A) → cond t a a ≡ a
 cond-same true a = refl
@@ -133,3 +139,13 @@ module _ {row : List ℕ} {count m : ℕ} {ats starts peaks : List ℕ} (t : Rea
       go (isHill v) =
           ap (λ (s : SummaryIn m). atLevel s level) (decoded ∙ reading-hill (modeOf m .read) b (v .layout .kind-fits)) ∙
           ap (λ (n : ℕ). cond (eqb n level) (modeOf m .read (middleAt b)) (modeOf m .algebra .ι)) (sym (hill-peak v))
+
+  -- A peak above all levels is no hill's.
+  pub no-hill : 64 < getD peaks k 0 → IsWhole (summaryAt (modeOf m .algebra) (rowIn m row) k) → ⊥
+  unfolding decode
+  no-hill l w = go is
+    where
+      go : IsSummary b → ⊥
+      go (isBlank f) = subst IsWhole (decoded ∙ reading-blank (modeOf m .read) b (f .kind-fits)) w
+      go (isSpoilt v) = subst IsWhole (decoded ∙ reading-spoilt (modeOf m .read) b (v .layout .kind-fits)) w
+      go (isHill v) = omega (arith, hill-peak v, v .peak-start, v .start-high)
