@@ -1,8 +1,8 @@
 -- A level in the bytes of two hills, and the level of a run that it stands for. Assumes nothing.
-use mathlib.Core.Path.{_≡_, refl, sym, ap, ap₂, _∙_, subst}
+use mathlib.Core.Path.{_≡_, ap, ap₂, _∙_, subst}
 use mathlib.Core.Logic.{dite}
 use mathlib.Core.List.{List, [], _∷_, map, List·Memᴰ}
-use Prim.Native.Nat.{ℕ, zero, suc, _+_, _-_, _*_, _≤_, _<_}
+use Prim.Native.Nat.{ℕ, zero, suc, _+_, _-_, _≤_, _<_}
 use native.Mathlib.Decide.{decLt}
 use native.Mathlib.Omega.{arith}
 use lib.IntN.{ℤ}
@@ -13,13 +13,13 @@ use Rattle.figure.specs.Mode.{modeOf}
 use Rattle.figure.specs.Stored.{IsStored, amounts}
 use Rattle.hill.specs.Summary.{blank}
 use Rattle.summary.specs.Layout.{SummaryIn}
-use Rattle.summary.specs.Judge.{modeAt, startAt, peakAt, endAt, riseAt, fallAt, leftAt, heldAt, IsHill, IsSummary, isBlank, isSpoilt, isHill}
+use Rattle.summary.specs.Judge.{modeAt, startAt, peakAt, riseAt, fallAt, leftAt, heldAt, IsHill, IsSummary, isBlank, isSpoilt, isHill}
 use Rattle.summary.specs.Decode.{decode, amountsAt, leftsIn, rightsIn}
 use Rattle.summary.specs.Values.{lefts-length, rights-length, tells-range, reading-blank, reading-spoilt, reading-hill}
 use Rattle.summary.specs.ModeValues.{numbered}
 use Rattle.summary.specs.Hills.{AllStored, hill-stored}
-use Rattle.join_plan.specs.Plan.{Levels, blank as noLevels, Line, levelsOfSummary, planOfRow, rowOf}
-use Rattle.join_plan.specs.Joins.{Opens, Closes as ClosesDepth, Joins}
+use Rattle.join_plan.specs.Plan.{Levels, Line, levelsOfSummary, planOfRow, rowOf}
+use Rattle.join_plan.specs.Joins.{Opens, Closes as ClosesDepth}
 use Rattle.join_plan.specs.PlanExact.{planOf-exact, planOf-range}
 use Rattle.plan_work.specs.Runs.{peakOf, slopesOf, openFrom, leftAt as leftOf, levelOf}
 use Rattle.outcome.specs.Laws.{AllIn}

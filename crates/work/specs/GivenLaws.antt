@@ -1,7 +1,7 @@
 -- The x of a line: the middle values between two hills, the outcomes of earlier lines, and both. Assumes nothing.
 use mathlib.Core.Path.{_≡_, refl, sym, ap, ap₂, _∙_, subst}
 use mathlib.Core.Bool.{Bool, true, false, _&&_, cond}
-use mathlib.Core.List.{List, [], _∷_}
+use mathlib.Core.List.{List, []}
 use mathlib.Core.Logic.{_≢_}
 use Prim.Native.Nat.{ℕ, zero, suc, _+_, _-_, _*_, _^_, _≤_, _<_}
 use native.Mathlib.Numerals.{add-one}
@@ -15,11 +15,11 @@ use mir.Val.{toZ}
 use Rattle.number.specs.Bytes.{leAt, i64At}
 use Rattle.row.specs.Row.{rowPieces}
 use Rattle.figure.specs.Mode.{Mode, modeOf}
-use Rattle.figure.specs.Stored.{IsStored, sizeOf, none, combined, none-size, Combines, combined-size}
+use Rattle.figure.specs.Stored.{sizeOf, none, combined, Combines}
 use Rattle.summary.specs.Layout.{SummaryIn}
-use Rattle.summary.specs.Judge.{riseAt, fallAt, middleAt}
+use Rattle.summary.specs.Judge.{riseAt, middleAt}
 use Rattle.summary.specs.Decode.{decode}
-use Rattle.plan_work.specs.Work.{Done, middlesAt, outcomesAt, between, given}
+use Rattle.plan_work.specs.Work.{middlesAt, outcomesAt, between, given}
 use Rattle.plan_work.specs.WorkLaws.{outs-nil, outs-cons, middles-start, middles-step}
 use Rattle.plan_work.specs.WorkSizes.{AllLight, outs-many, middles-light}
 use Rattle.run_level.specs.declared.Place.{Place}
@@ -27,7 +27,7 @@ use Rattle.run_level.specs.Levels.{pieceOf, beginOf, placeIn}
 use Rattle.run_level.specs.Laws.{piece-inside, piece-field}
 use Rattle.work.specs.declared.given.Join.{Join}
 use Rattle.work.specs.Stores.{Stores, own, stores-same, size-is, size-stored, stores-none, can-combine, stores-combined}
-use Rattle.work.specs.Contracts.{outcomeMost, most, rowIn, Ready, IsPlaceOfHill, middleIf, withMiddle, AddsMiddle, Middles, AddsOutcome, withOutcome, OutsStored, doneIn, Outcomes, joined, Gives, Given}
+use Rattle.work.specs.Contracts.{outcomeMost, rowIn, IsPlaceOfHill, middleIf, withMiddle, AddsMiddle, Middles, AddsOutcome, withOutcome, OutsStored, doneIn, Outcomes, Gives, Given}
 use Rattle.work.specs.RowLaws.{valid, row-light, noted-hill, noted-place, middle-stored, middle-small, middle-noted}
 
 -- ---- a middle value
@@ -219,8 +219,12 @@ module _ {row : List ℕ} {count m : ℕ} {ats starts peaks : List ℕ} {outs : 
   module _ (is js lows : List ℕ) (x y a b : ℤ) (ex : x ≡ a) (ey : y ≡ b) (s : Stores Q a middlesOf) (t : Outcomes m is js lows outs n (e .i) (e .j) (e .high + 1) b) where
     both-room : (highs : List ℕ) → Q .sizes .size middlesOf + Q .sizes .size (outcomesAt (Q .algebra) (e .i) (e .j) (e .high + 1) (doneIn Q is js lows highs outs n)) < 2 ^ 63
     both-room highs =
-        omega (arith, outcomes-light m is js lows outs n (e .i) (e .j) (e .high + 1) (v .outcomes) highs n (omega arith),
-        middles-light (Q .algebra) (Q .sizes) (rowIn m row) (valid (v .ready .let-through)) (e .i) (e .j) (e .high + 1), row-light (v .ready .let-through))
+        omega (
+          arith,
+          outcomes-light m is js lows outs n (e .i) (e .j) (e .high + 1) (v .outcomes) highs n (omega arith),
+          middles-light (Q .algebra) (Q .sizes) (rowIn m row) (valid (v .ready .let-through)) (e .i) (e .j) (e .high + 1),
+          row-light (v .ready .let-through),
+        )
 
     pub gives-can : Combines Q x y
     gives-can = can-combine Q x y _ _ (stores-same Q a x _ ex s) (stores-same Q b y _ ey (t [])) (both-room [])

@@ -6,3 +6,4 @@ pub mod LineLaws
 pub mod RowLaws
 pub mod GivenLaws
 pub mod LinesLaws
+pub mod CallLaws

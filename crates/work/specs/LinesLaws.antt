@@ -2,7 +2,7 @@
 use mathlib.Core.Path.{_≡_, refl, sym, ap, ap₂, _∙_, subst}
 use mathlib.Core.List.{List, [], _∷_, _++_, append-assoc, List·Memᴰ, List·Memᴰ·head, List·Memᴰ·tail}
 use mathlib.Core.Logic.{dite}
-use Prim.Native.Nat.{ℕ, zero, suc, _+_, _-_, _*_, _≤_, _<_}
+use Prim.Native.Nat.{ℕ, zero, suc, _+_, _-_, _≤_, _<_}
 use native.Mathlib.Decide.{decLt}
 use native.Mathlib.Numerals.{add-one}
 use native.Mathlib.Omega.{arith}
@@ -22,7 +22,7 @@ use Rattle.summary.specs.Values.{reading-hill}
 use Rattle.join_plan.specs.Plan.{Line, planOfRow}
 use Rattle.plan_work.specs.GateExact.{Begins, row-begins}
 use Rattle.plan_work.specs.Runs.{peakOf, slopesOf, levelsDown, summaryAt, runLevels}
-use Rattle.plan_work.specs.Work.{Done, given, worked, oneMiddle, lastOutcome, workOf}
+use Rattle.plan_work.specs.Work.{Done, worked, oneMiddle, lastOutcome, workOf}
 use Rattle.plan_work.specs.WorkLaws.{work, worked-nil, worked-cons, worked-append}
 use Rattle.plan_work.specs.WorkSizes.{load, AllLight, LineLight, line-light}
 use Rattle.row_plan.specs.Arrays.{lineIn, linesIn}
@@ -34,7 +34,7 @@ use Rattle.run_level.specs.StandsFor.{LineLevels, line-levels}
 use Rattle.run_level.specs.Lines.{line-reads}
 use Rattle.work.specs.declared.given.Join.{Join}
 use Rattle.work.specs.Stores.{Stores, stores-same, stores-is, own, size-is, size-stored}
-use Rattle.work.specs.Contracts.{outcomeMost, most, rowIn, Ready, Along, Runs, levelsOf, OutsStored, doneAt, doneIn, joined, Gives, Given, WorksLine, AllWorked}
+use Rattle.work.specs.Contracts.{most, rowIn, Ready, Along, Runs, levelsOf, doneIn, joined, Gives, Given, WorksLine, AllWorked}
 use Rattle.work.specs.RowLaws.{valid, passes, row-light, noted-hill, middle-stored, IsWhole, no-hill}
 
 -- ---- one line
@@ -248,9 +248,10 @@ module _ {row : List ℕ} {count m : ℕ} {ats starts peaks : List ℕ} (t : Rea
     from-here = drop-cons S k blank (omega (arith, length-map (rowPieces row) (decode m), t .let-through .through .long))
 
     -- A hill.
-    pub seek-hill : (z y : ℤ) → y ≡ z → getD peaks k 0 ≤ 64 → z ≡ middleAt (pieceOf row k) → Stores (modeOf m) y (oneMiddle (modeOf m .algebra) S)
+    pub seek-hill : (p : Place) (z y : ℤ) → p ≡ placeIn ats starts peaks k → y ≡ z → getD peaks k 0 ≤ 64 → z ≡ middleAt (pieceOf row (p .piece)) → Stores (modeOf m) y (oneMiddle (modeOf m .algebra) S)
     unfolding decode
-    seek-hill z y ey l ez =
+    seek-hill p z y ep ey l e =
+        let ez : z ≡ middleAt (pieceOf row k) = e ∙ ap (λ (x : Place). middleAt (pieceOf row (x .piece))) ep in
         let v : IsHill (pieceOf row k) = noted-hill t k h l in
         let s : drop k S ≡ part (whole (peakAt (pieceOf row k)) (openedAt (pieceOf row k)) (hillIn (modeOf m .read) (pieceOf row k))) ∷ drop (suc k) S =
         from-here ∙ ap (λ (x : SummaryIn m). x ∷ drop (suc k) S) (decoded-at m (rowPieces row) k (omega (arith, t .let-through .through .long)) ∙ reading-hill (modeOf m .read) (pieceOf row k) (v .layout .kind-fits)) in

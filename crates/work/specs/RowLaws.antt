@@ -1,18 +1,17 @@
 -- What holds of a row that is let through: its summaries are accepted, it has no fault, and its middle values stand where they are noted. Assumes nothing.
 use mathlib.Core.Path.{_≡_, refl, sym, ap, _∙_, subst}
 use mathlib.Core.Bool.{Bool, true, false, cond}
-use mathlib.Core.List.{List, []}
-use mathlib.Core.Logic.{_≢_}
+use mathlib.Core.List.{List}
 use Prim.Native.Nat.{ℕ, _≤_, _<_}
 use native.Mathlib.Omega.{arith}
 use lib.Dec.{eqb}
 use lib.ListN.{length, getD}
-use borrow.Author.Tests.{eq-eqb, ne-eqb}
+use borrow.Author.Tests.{ne-eqb}
 use Rattle.gate.specs.Outcome.{Outcome, result, onward}
 use Rattle.row.specs.Row.{rowPieces}
 use Rattle.algebra.specs.Algebra.{Algebra}
 use Rattle.figure.specs.FourModes.{Amounts}
-use Rattle.figure.specs.Mode.{Mode, modeOf}
+use Rattle.figure.specs.Mode.{modeOf}
 use Rattle.figure.specs.Stored.{IsStored, sizeOf}
 use Rattle.hill.specs.Verdict.{Verdict, pass, refuse}
 use Rattle.hill.specs.Finish.{outcome}
@@ -21,14 +20,14 @@ use Rattle.summary.specs.Layout.{SummaryIn}
 use Rattle.summary.specs.Judge.{kindAt, peakAt, middleAt, IsHill, IsSummary, isBlank, isSpoilt, isHill}
 use Rattle.summary.specs.Decode.{decode}
 use Rattle.summary.specs.Values.{reading-blank, reading-spoilt, reading-hill}
-use Rattle.judge.specs.Laws.{head-blank, head-spoilt, head-hill}
+use Rattle.judge.specs.Laws.{head-blank, head-spoilt}
 use Rattle.plan_work.specs.Gate.{rowFault, ValidRow}
 use Rattle.plan_work.specs.Runs.{peakOf, slopesOf, summaryAt}
 use Rattle.plan_work.specs.WorkSizes.{load, load-fits, middle-light}
 use Rattle.outcome.specs.Outcomes.{Summaries, askLog}
 use Rattle.outcome.specs.Laws.{ask-all}
 use Rattle.row_plan.specs.Notes.{noteOf}
-use Rattle.row_plan.specs.Asks.{summariesIn, Through}
+use Rattle.row_plan.specs.Asks.{summariesIn}
 use Rattle.row_plan.specs.RowLaws.{valid-row, each-in, decoded-at}
 use Rattle.run_level.specs.Levels.{pieceOf, placeIn}
 use Rattle.run_level.specs.Lines.{placed}

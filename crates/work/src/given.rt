@@ -55,7 +55,13 @@ fn middles(
     let mut acc = figure::nothing(mode);
     let mut k = (i as usize) + 1;
     while k < end {
-        acc = add_middle(row, mode, run_level::place_of(ats, starts, peaks, k), level, acc);
+        acc = add_middle(
+            row,
+            mode,
+            run_level::place_of(ats, starts, peaks, k),
+            level,
+            acc,
+        );
         k += 1;
     }
     acc
@@ -118,5 +124,9 @@ pub fn given(
     let i = e.i;
     let j = e.j;
     let between = middles(row, count, mode, ats, starts, peaks, i, j, level);
-    figure::combine(mode, between, outcomes(mode, is, js, lows, outs, n, i, j, level))
+    figure::combine(
+        mode,
+        between,
+        outcomes(mode, is, js, lows, outs, n, i, j, level),
+    )
 }

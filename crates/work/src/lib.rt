@@ -57,7 +57,19 @@ fn work_row(
         &mut lows,
         &mut highs,
     );
-    let figure = lines::work_lines(row, count, mode, &ats, starts, peaks, &is, &js, &lows, &highs, n);
+    let figure = lines::work_lines(
+        row,
+        count,
+        mode,
+        &ats,
+        starts,
+        peaks,
+        &is,
+        &js,
+        &lows,
+        &highs,
+        n,
+    );
     Totals {
         figure,
         joins: n as u32,

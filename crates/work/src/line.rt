@@ -18,7 +18,15 @@ fn through_level(mode: u16, level: RunLevel, x: i64) -> i64
 }
 
 // x put through the levels of a line, the deepest first.
-pub fn through_line(row: &[u8], mode: u16, opener: Place, closer: Place, low: u8, high: u8, x: i64) -> i64
+pub fn through_line(
+    row: &[u8],
+    mode: u16,
+    opener: Place,
+    closer: Place,
+    low: u8,
+    high: u8,
+    x: i64,
+) -> i64
     requires { ⌜ Runs (now row) mode opener closer low high x ⌝ }
     ensures { λ r. ⌜ Stores (modeOf mode) r (through (modeOf mode .algebra) (levelsOf (now (row .entry)) mode opener closer low (suc high - low)) (modeOf mode .read x)) ⌝ }
 {

@@ -30,7 +30,20 @@ fn work_line(
     requires { ⌜ WorksLine (now row) count mode (now ats) (now starts) (now peaks) (now is) (now js) (now lows) (now highs) (now outs) k e ⌝ }
     ensures { λ r. ⌜ Stores (modeOf mode) r (work (modeOf mode .algebra) (rowIn mode (now (row .entry))) (joined e) (doneIn (modeOf mode) (now (is .entry)) (now (js .entry)) (now (lows .entry)) (now (highs .entry)) (now (outs .entry)) k) .out) ⌝ }
 {
-    let x = given(row, count, mode, ats, starts, peaks, is, js, lows, outs, k, e);
+    let x = given(
+        row,
+        count,
+        mode,
+        ats,
+        starts,
+        peaks,
+        is,
+        js,
+        lows,
+        outs,
+        k,
+        e,
+    );
     let i = e.i as usize;
     let j = e.j as usize;
     let low = e.low;
@@ -67,7 +80,21 @@ fn work_each(
             low: lows[k],
             high: highs[k],
         };
-        outs[k] = work_line(row, count, mode, ats, starts, peaks, is, js, lows, highs, &*outs, k, e);
+        outs[k] = work_line(
+            row,
+            count,
+            mode,
+            ats,
+            starts,
+            peaks,
+            is,
+            js,
+            lows,
+            highs,
+            &*outs,
+            k,
+            e,
+        );
         k += 1;
     }
 }
@@ -115,6 +142,19 @@ pub fn work_lines(
         return one_middle(row, count, mode, ats, starts, peaks);
     }
     let mut outs = [0i64; 128];
-    work_each(row, count, mode, ats, starts, peaks, is, js, lows, highs, n, &mut outs);
+    work_each(
+        row,
+        count,
+        mode,
+        ats,
+        starts,
+        peaks,
+        is,
+        js,
+        lows,
+        highs,
+        n,
+        &mut outs,
+    );
     outs[n - 1]
 }

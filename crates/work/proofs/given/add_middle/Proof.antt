@@ -1,35 +1,29 @@
 -- `work::given::add_middle` meets its contract: a peak at another level leaves what there is.
 -- Assumes nothing.
 use mathlib.Core.Path.{_∙_}
-use native.Mathlib.Omega.{arith}
 use mir.Syntax.{w64}
 use mir.Facts.{toZ-ofZ}
-use borrow.Author.Needs.{needs}
 use denote.Ref.{now}
 use Rattle.number.specs.Word.{back}
 use Rattle.work.specs.GivenLaws.{adds-none, adds-can, adds-stores}
 use Rattle.work.proofs.given.add_middle.Statement.{statement}
 use Rattle.work.proofs.given.add_middle.Tie as tie
 
--- src/given.rt:34:9
 returns : tie.Need-returns
 returns c =
     let a = c .before .before .before in
     adds-none (now (a .args .row)) (a .args .mode) (a .args .piece) (a .args .level) (a .args .acc) (a .pre) _ (toZ-ofZ (a .fits .acc)) (c .if1 .taken)
 
--- src/given.rt:36:32
 read-middle-requires : tie.Need-read-middle-requires
 read-middle-requires c κs =
     let a = c .before .before .before in
     a .pre .hill (c .if1 .left)
 
--- src/given.rt:36:5
 combine-requires : tie.Need-combine-requires
 combine-requires c κs =
     let a = c .before .before .before .before in
     adds-can (now (a .args .row)) (a .args .mode) (a .args .piece) (a .args .level) (a .args .acc) (a .pre) (c .before .if1 .left) _ _ (toZ-ofZ (a .fits .acc)) (back w64 _ (c .read-middle .ok) ∙ c .read-middle .ensures)
 
--- src/given.rt:29:1
 returns-2 : tie.Need-returns-2
 returns-2 c =
     let a = c .before .before .before .before .before in

@@ -8,25 +8,20 @@ use Rattle.work.specs.GivenLaws.{gives-can, gives-stores}
 use Rattle.work.proofs.given.given.Statement.{statement}
 use Rattle.work.proofs.given.given.Tie as tie
 
--- src/given.rt:117:17
 add-level : tie.Need-add-level
 add-level c = search needs
 
--- src/given.rt:120:9
 middles-requires : tie.Need-middles-requires
 middles-requires c κs = search needs
 
--- src/given.rt:121:36
 outcomes-requires : tie.Need-outcomes-requires
 outcomes-requires c κs = search needs
 
--- src/given.rt:121:5
 combine-requires : tie.Need-combine-requires
 combine-requires c κs =
     let a = c .before .before .before .before in
     gives-can (a .pre) (now (a .args .is)) (now (a .args .js)) (now (a .args .lows)) _ _ _ _ (back w64 _ (c .before .middles .ok)) (back w64 _ (c .outcomes .ok)) (c .before .middles .ensures) (c .outcomes .ensures)
 
--- src/given.rt:100:1
 returns : tie.Need-returns
 returns c =
     let a = c .before .before .before .before .before in

@@ -1,12 +1,11 @@
 -- `work::given::middles` meets its contract: one piece more at each turn.
 -- Assumes nothing.
-use mathlib.Core.Path.{refl, _∙_}
+use mathlib.Core.Path.{refl}
 use Prim.Native.Nat.{_-_}
 use native.Mathlib.Omega.{arith}
 use mir.Syntax.{w64}
 use mir.Val.{toZ}
 use borrow.Author.Needs.{needs}
-use denote.Ref.{now}
 use Rattle.number.specs.Word.{back}
 use Rattle.work.specs.GivenLaws.{Between, between-start, adds-next, between-next, between-end}
 use Rattle.work.proofs.given.middles.Statement.{statement}
@@ -18,50 +17,41 @@ Inv-loop row count mode ats starts peaks i j level end acc₀ k₀ acc k = Betwe
 abbrev μ-loop : tie.MeasureT-loop
 μ-loop row count mode ats starts peaks i j level end acc₀ k₀ acc k = j - k
 
--- src/given.rt:55:9
 nothing-requires : tie.Need-nothing-requires Inv-loop μ-loop
 nothing-requires c κs =
     tt
 
--- src/given.rt:56:17
 add-k : tie.Need-add-k Inv-loop μ-loop
 add-k c =
     search needs
 
--- src/given.rt:57:5
 loop-holds : tie.Need-loop-holds Inv-loop μ-loop
 loop-holds c =
     between-start (c .before .before .pre) _ _ (back w64 _ (c .nothing .ok)) (c .nothing .ensures)
 
--- src/given.rt:58:37
 place-of-requires : tie.Need-place-of-requires Inv-loop μ-loop
 place-of-requires c κs =
     let a = c .before .before .before .before in
     omega (arith, a .pre .within, a .pre .ready .let-through .through .few)
 
--- src/given.rt:58:9
 add-middle-requires : tie.Need-add-middle-requires Inv-loop μ-loop
 add-middle-requires c κs =
     let l = c .before .before .loop in
     adds-next (c .before .before .before .before .before .pre) (toZ w64 (l .acc)) (l .k) (l .inv) (omega arith) _ _ (c .place-of .ensures) refl
 
--- src/given.rt:59:9
 add-k-2 : tie.Need-add-k-2 Inv-loop μ-loop
 add-k-2 c =
     search needs
 
--- src/given.rt:57:5
 loop-less : tie.Need-loop-less Inv-loop μ-loop
 loop-less c =
     search needs
 
--- src/given.rt:57:5
 loop-again : tie.Need-loop-again Inv-loop μ-loop
 loop-again c =
     let l = c .before .before .before .loop in
     between-next (c .before .before .before .before .before .before .pre) (toZ w64 (l .acc)) (l .k) (l .inv) (omega arith) _ _ _ _ (c .before .place-of .ensures) refl (back w64 _ (c .add-middle .ok)) (c .add-middle .ensures)
 
--- src/given.rt:40:1
 returns : tie.Need-returns Inv-loop μ-loop
 returns c =
     let l = c .before .loop in

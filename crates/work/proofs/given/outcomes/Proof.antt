@@ -21,43 +21,35 @@ Inv-loop mode is js lows outs n i j level acc₀ k₀ acc k = Collected mode is 
 abbrev μ-loop : tie.MeasureT-loop
 μ-loop mode is js lows outs n i j level acc₀ k₀ acc k = n - k
 
--- src/given.rt:90:9
 nothing-requires : tie.Need-nothing-requires Inv-loop μ-loop
 nothing-requires c κs =
     tt
 
--- src/given.rt:92:5
 loop-holds : tie.Need-loop-holds Inv-loop μ-loop
 loop-holds c =
     let a = c .before in
     collect-start _ (now (a .args .is)) (now (a .args .js)) (now (a .args .lows)) (now (a .args .outs)) (a .args .n) (a .args .i) (a .args .j) (a .args .level) (a .pre) _ _ (back w64 _ (c .nothing .ok)) (c .nothing .ensures)
 
--- src/given.rt:93:46
 element-copy-out-add-outcome : tie.Need-element-copy-out-add-outcome Inv-loop μ-loop
 element-copy-out-add-outcome c =
     omega (arith, c .before .before .before .pre .few)
 
--- src/given.rt:93:53
 element-copy-out-add-outcome-2 : tie.Need-element-copy-out-add-outcome-2 Inv-loop μ-loop
 element-copy-out-add-outcome-2 c =
     omega (arith, c .before .before .before .before .pre .few)
 
--- src/given.rt:93:60
 element-copy-out-add-outcome-3 : tie.Need-element-copy-out-add-outcome-3 Inv-loop μ-loop
 element-copy-out-add-outcome-3 c =
     omega (arith, c .before .before .before .before .before .pre .few)
 
--- src/given.rt:93:69
 mul-add-outcome : tie.Need-mul-add-outcome Inv-loop μ-loop
 mul-add-outcome c =
     record { fits = omega (arith, c .before .before .before .before .before .before .pre .few) }
 
--- src/given.rt:93:69
 element-copy-out-add-outcome-4 : tie.Need-element-copy-out-add-outcome-4 Inv-loop μ-loop
 element-copy-out-add-outcome-4 c =
     omega (arith, c .before .before .before .before .before .before .pre .few)
 
--- src/given.rt:93:9
 out-is : (c : tie.After-add-outcome-arg4 Inv-loop μ-loop) → let o = getD (now (c .before .before .before .before .before .before .before .args .outs)) (c .before .before .before .before .before .loop .k) (pos 0) in toZ w64 (ofZ w64 o) ≡ o
 out-is c = let h : mag (getD (now (c .before .before .before .before .before .before .before .args .outs)) (c .before .before .before .before .before .loop .k) (pos 0)) < 2 ^ 63 = search needs in back w64 _ h
 
@@ -67,24 +59,20 @@ add-outcome-requires c κs =
     let l = c .before .before .before .before .before .loop in
     joins-next _ (now (a .args .is)) (now (a .args .js)) (now (a .args .lows)) (now (a .args .outs)) (a .args .n) (a .args .i) (a .args .j) (a .args .level) (a .pre) (toZ w64 (l .acc)) (l .k) (l .inv) (omega arith) _ _ (out-is c) refl
 
--- src/given.rt:94:9
 add-k : tie.Need-add-k Inv-loop μ-loop
 add-k c =
     search needs
 
--- src/given.rt:92:5
 loop-less : tie.Need-loop-less Inv-loop μ-loop
 loop-less c =
     search needs
 
--- src/given.rt:92:5
 loop-again : tie.Need-loop-again Inv-loop μ-loop
 loop-again c =
     let a = c .before .before .before .before .before .before .before .before in
     let l = c .before .before .before .before .before .before .loop in
     collect-next _ (now (a .args .is)) (now (a .args .js)) (now (a .args .lows)) (now (a .args .outs)) (a .args .n) (a .args .i) (a .args .j) (a .args .level) (a .pre) (toZ w64 (l .acc)) (l .k) (l .inv) (omega arith) _ _ _ _ (out-is (c .before)) refl (back w64 _ (c .add-outcome .ok)) (c .add-outcome .ensures)
 
--- src/given.rt:76:1
 returns : tie.Need-returns Inv-loop μ-loop
 returns c =
     let a = c .before .before .before in

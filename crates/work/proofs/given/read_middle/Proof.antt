@@ -10,37 +10,30 @@ use Rattle.work.specs.GivenLaws.{middle-fits, middle-read}
 use Rattle.work.proofs.given.read_middle.Statement.{statement}
 use Rattle.work.proofs.given.read_middle.Tie as tie
 
--- src/given.rt:24:17
 sub-rise : tie.Need-sub-rise
 sub-rise c = search needs
 
--- src/given.rt:24:16
 cast-rise : tie.Need-cast-rise
 cast-rise c = search needs
 
--- src/given.rt:25:27
 add-read-i64 : tie.Need-add-read-i64
 add-read-i64 c =
     let a = c .before .before .before in
     record { fits = omega (arith, middle-fits (now (a .args .row)) (a .args .hill) (a .pre)) }
 
--- src/given.rt:25:42
 mul-read-i64 : tie.Need-mul-read-i64
 mul-read-i64 c = search needs
 
--- src/given.rt:25:27
 add-read-i64-2 : tie.Need-add-read-i64-2
 add-read-i64-2 c =
     let a = c .before .before .before in
     record { fits = omega (arith, middle-fits (now (a .args .row)) (a .args .hill) (a .pre)) }
 
--- src/given.rt:25:5
 read-i64-requires : tie.Need-read-i64-requires
 read-i64-requires c κs =
     let a = c .before .before .before in
     middle-fits (now (a .args .row)) (a .args .hill) (a .pre)
 
--- src/given.rt:20:1
 returns : tie.Need-returns
 returns c =
     let a = c .before .before .before .before in

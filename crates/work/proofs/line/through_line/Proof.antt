@@ -5,7 +5,6 @@ use native.Mathlib.Omega.{arith}
 use mir.Syntax.{w64}
 use mir.Val.{toZ, ofZ}
 use mir.Facts.{toZ-ofZ}
-use borrow.Author.Needs.{needs}
 use denote.Ref.{now}
 use Rattle.number.specs.Word.{back}
 use Rattle.work.specs.Contracts.{Runs}
@@ -23,50 +22,42 @@ abbrev μ-loop : tie.MeasureT-loop
 asked : (c : tie.Start Inv-loop μ-loop) → let a = c .args in Runs (now (a .row)) (a .mode) (a .opener) (a .closer) (a .low) (a .high) (toZ w64 (ofZ w64 (a .x)))
 asked c = rw (toZ-ofZ (c .fits .x)) (c .pre)
 
--- src/line.rt:26:21
 add-depth : tie.Need-add-depth Inv-loop μ-loop
 add-depth c =
     let a = c .before .args in
     record { fits = omega (arith, high-low (now (a .row)) (a .mode) (a .opener) (a .closer) (a .low) (a .high) _ (asked (c .before))) }
 
--- src/line.rt:27:5
 loop-holds : tie.Need-loop-holds Inv-loop μ-loop
 loop-holds c =
     let a = c .before .args in
     going-start (now (a .row)) (a .mode) (a .opener) (a .closer) (a .low) (a .high) _ (asked (c .before)) _ refl
 
--- src/line.rt:28:9
 sub-depth : tie.Need-sub-depth Inv-loop μ-loop
 sub-depth c =
     omega arith
 
--- src/line.rt:29:33
 read-level-requires : tie.Need-read-level-requires Inv-loop μ-loop
 read-level-requires c κs =
     let a = c .before .before .before .args in
     let l = c .before .loop in
     reads-next (now (a .row)) (a .mode) (a .opener) (a .closer) (a .low) (a .high) _ (asked (c .before .before .before)) (toZ w64 (l .y)) (l .depth) (l .inv) (omega arith)
 
--- src/line.rt:29:9
 through-level-requires : tie.Need-through-level-requires Inv-loop μ-loop
 through-level-requires c κs =
     let a = c .before .before .before .before .args in
     let l = c .before .before .loop in
     steps-next (now (a .row)) (a .mode) (a .opener) (a .closer) (a .low) (a .high) _ (asked (c .before .before .before .before)) (toZ w64 (l .y)) (l .depth) (l .inv) (omega arith) _ _ (c .read-level .ensures) refl
 
--- src/line.rt:27:5
 loop-less : tie.Need-loop-less Inv-loop μ-loop
 loop-less c =
     omega arith
 
--- src/line.rt:27:5
 loop-again : tie.Need-loop-again Inv-loop μ-loop
 loop-again c =
     let a = c .before .before .before .before .before .args in
     let l = c .before .before .before .loop in
     going-next (now (a .row)) (a .mode) (a .opener) (a .closer) (a .low) (a .high) _ (asked (c .before .before .before .before .before)) (toZ w64 (l .y)) (l .depth) (l .inv) (omega arith) _ _ _ _ (c .before .read-level .ensures) refl (back w64 _ (c .through-level .ok)) (c .through-level .ensures)
 
--- src/line.rt:21:1
 returns : tie.Need-returns Inv-loop μ-loop
 returns c =
     let a = c .before .before .before .args in

@@ -17,65 +17,53 @@ Inv-loop row count mode ats starts peaks is js lows highs n outs₀ k₀ outs k 
 abbrev μ-loop : tie.MeasureT-loop
 μ-loop row count mode ats starts peaks is js lows highs n outs₀ k₀ outs k = n - k
 
--- src/lines.rt:63:5
 loop-holds : tie.Need-loop-holds Inv-loop μ-loop
 loop-holds c =
     let a = c .before in
     working-start (now (a .args .row)) _ (now (a .args .is)) (now (a .args .js)) (now (a .args .lows)) (now (a .args .highs)) _ (now (a .args .outs)) (a .pre .1)
 
--- src/lines.rt:65:16
 element-copy-out-t18 : tie.Need-element-copy-out-t18 Inv-loop μ-loop
 element-copy-out-t18 c =
     omega (arith, c .before .before .before .pre .0 .few)
 
--- src/lines.rt:66:16
 element-copy-out-t21 : tie.Need-element-copy-out-t21 Inv-loop μ-loop
 element-copy-out-t21 c =
     omega (arith, c .before .before .before .before .pre .0 .few)
 
--- src/lines.rt:67:18
 element-copy-out-t24 : tie.Need-element-copy-out-t24 Inv-loop μ-loop
 element-copy-out-t24 c =
     omega (arith, c .before .before .before .before .before .pre .0 .few)
 
--- src/lines.rt:68:19
 element-copy-out-t27 : tie.Need-element-copy-out-t27 Inv-loop μ-loop
 element-copy-out-t27 c =
     omega (arith, c .before .before .before .before .before .before .pre .0 .few)
 
--- src/lines.rt:70:19
 work-line-requires : tie.Need-work-line-requires Inv-loop μ-loop
 work-line-requires c κs =
     let l = c .before .before .before .before .before .before .loop in
     line-works (c .before .before .before .before .before .before .before .before .pre .0) (l .outs) (l .k) (l .inv) (omega arith) _ refl
 
--- src/lines.rt:70:9
 mul-t30 : tie.Need-mul-t30 Inv-loop μ-loop
 mul-t30 c =
     record { fits = omega (arith, c .before .before .before .before .before .before .before .before .before .pre .0 .few) }
 
--- src/lines.rt:70:9
 element-set-from-outs : tie.Need-element-set-from-outs Inv-loop μ-loop
 element-set-from-outs c =
     omega (arith, c .before .before .before .before .before .before .before .before .before .pre .0 .few)
 
--- src/lines.rt:71:9
 add-k : tie.Need-add-k Inv-loop μ-loop
 add-k c =
     search needs
 
--- src/lines.rt:63:5
 loop-less : tie.Need-loop-less Inv-loop μ-loop
 loop-less c =
     search needs
 
--- src/lines.rt:63:5
 loop-again : tie.Need-loop-again Inv-loop μ-loop
 loop-again c =
     let l = c .before .before .before .before .before .before .before .loop in
     working-next (c .before .before .before .before .before .before .before .before .before .pre .0) (l .outs) (l .k) (l .inv) (omega arith) _ _ _ refl (back w64 _ (c .work-line .ok)) (c .work-line .ensures)
 
--- src/lines.rt:44:1
 returns : tie.Need-returns Inv-loop μ-loop
 returns c =
     let a = c .before .before .before in

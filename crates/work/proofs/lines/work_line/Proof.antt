@@ -2,39 +2,31 @@
 -- Assumes nothing.
 use mir.Syntax.{w64}
 use borrow.Author.Needs.{needs}
-use denote.Ref.{now}
 use Rattle.number.specs.Word.{back}
 use Rattle.work.specs.LinesLaws.{line-gives, line-runs, line-stores}
 use Rattle.work.proofs.lines.work_line.Statement.{statement}
 use Rattle.work.proofs.lines.work_line.Tie as tie
 
--- src/lines.rt:33:9
 given-requires : tie.Need-given-requires
 given-requires c κs =
     line-gives (c .before .pre)
 
--- src/lines.rt:34:13
 cast-i : tie.Need-cast-i
 cast-i c = search needs
 
--- src/lines.rt:35:13
 cast-j : tie.Need-cast-j
 cast-j c = search needs
 
--- src/lines.rt:38:9
 place-of-requires : tie.Need-place-of-requires
 place-of-requires c κs = search needs
 
--- src/lines.rt:39:9
 place-of-requires-2 : tie.Need-place-of-requires-2
 place-of-requires-2 c κs = search needs
 
--- src/lines.rt:40:5
 through-line-requires : tie.Need-through-line-requires
 through-line-requires c κs =
     line-runs (c .before .before .before .before .before .before .pre) _ _ (back w64 _ (c .before .before .before .before .given .ok)) (c .before .before .before .before .given .ensures) _ _ (c .before .place-of .ensures) (c .place-of2 .ensures)
 
--- src/lines.rt:15:1
 returns : tie.Need-returns
 returns c =
     line-stores (c .before .before .before .before .before .before .before .pre) _ _ (back w64 _ (c .before .before .before .before .before .given .ok)) (c .before .before .before .before .before .given .ensures) _ _ _ _ (c .before .before .place-of .ensures) (c .before .place-of2 .ensures) (back w64 _ (c .through-line .ok)) (c .through-line .ensures)
