@@ -318,7 +318,10 @@ def main():
     missed = 0
     with tempfile.TemporaryDirectory() as scratch:
         workspace = pathlib.Path(scratch) / "harness"
-        shutil.copytree(HERE, workspace, ignore=shutil.ignore_patterns("target"))
+        # The workspace has a member beside it.
+        for folder in ["harness", "bindings"]:
+            copy = pathlib.Path(scratch) / folder
+            shutil.copytree(HERE.parent / folder, copy, ignore=shutil.ignore_patterns("target"))
         if cargo(workspace) != 0:
             print("the tests fail before any change")
             return 1

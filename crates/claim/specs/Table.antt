@@ -25,6 +25,9 @@ use Rattle.summary.specs.Decide.{allTo, layoutFits, spoiltFits, levelsFit, open
 use Rattle.summary.specs.Outcomes.{summaryBytes, summariseOutcome, finishOutcome}
 use Rattle.join_plan.specs.Plan.{leftOpen, upTo, downFrom, select, depthsJoined, lineFor, planOf}
 use Rattle.plan_work.specs.Runs.{levelsDown, runLevels, runsAlong}
+use Rattle.text.specs.Decimal.{digitsIn, digitsOf, decimalOf}
+use Rattle.text.specs.Line.{ascii, lineText, dayLine}
+use Rattle.day.specs.Day.{wholeLog, figureIn, figuresOf, dayOutcome}
 use Rattle.outcome.specs.Outcomes.{twoTo64, askRow, askLog, lineBytes, planBytes, runBytes, runsBytes, planOutcome, runsOutcome}
 
 -- ---- what is asked of the calls, as numbers
@@ -66,6 +69,10 @@ run mode cs =
 abbrev finish : (mode : ℕ) → List ℕ → Outcome (List ℤ)
 finish mode log = onward (summariseOutcome log mode 1788) (λ p. onResult (λ f. f ∷ []) (finishOutcome p))
 
+-- The bytes that the day program prints for a log.
+abbrev printed : List ℕ → Outcome (List ℤ)
+printed log = result (map pos (dayLine (dayOutcome log)))
+
 -- ---- the table
 
 -- D cut after record 2.
@@ -85,6 +92,8 @@ row g p = record { gives = g; paper = p }
 
 abbrev pub table : List Row
 table =
+    -- "For D `12 15 14 72`", with a newline
+    row (printed logD) (result (map pos (ascii "12 15 14 72\n"))) ∷
     -- "D cut after record 2, mode 1: lengths 64 and 40; left values 0, -3; plan 0,1,0,1"
     row (lengths 1 cutD) (result (pos 64 ∷ pos 40 ∷ [])) ∷
     row (leftValues 1 (drop 36 logD)) (result (pos 0 ∷ negsuc 2 ∷ [])) ∷
@@ -107,5 +116,5 @@ AllHold [] = Unit {0}
 AllHold (r ∷ rs) = (r .gives ≡ r .paper) × AllHold rs
 
 pub proved-cases : AllHold table
-unfolding leAt bytesOf minZ maxZ clamp wrap lift lineOf storeHeld readHeld atLeast moved runOn firstLength piecesIn rowPieces within inRange accepted whole byShape readOf recordsIn recordsOf modeInUse modeOf between count cut ends encode decode sumTo nothingIn counted isStamp allTo layoutFits spoiltFits levelsFit openedFits middleFits recordsFit valuesFit hillFits isSummary summaryBytes summariseOutcome finishOutcome leftOpen upTo downFrom select depthsJoined lineFor planOf flatMap levelsDown runLevels runsAlong twoTo64 askRow askLog lineBytes planBytes runBytes runsBytes planOutcome runsOutcome
-proved-cases = (refl, (refl, (refl, (refl, (refl, (refl, (refl, (refl, (refl, (refl, (refl, (refl, tt))))))))))))
+unfolding leAt bytesOf minZ maxZ clamp wrap lift lineOf storeHeld readHeld atLeast moved runOn firstLength piecesIn rowPieces within inRange accepted whole byShape readOf recordsIn recordsOf modeInUse modeOf between count cut ends encode decode sumTo nothingIn counted isStamp allTo layoutFits spoiltFits levelsFit openedFits middleFits recordsFit valuesFit hillFits isSummary summaryBytes summariseOutcome finishOutcome leftOpen upTo downFrom select depthsJoined lineFor planOf flatMap levelsDown runLevels runsAlong twoTo64 askRow askLog lineBytes planBytes runBytes runsBytes planOutcome runsOutcome digitsIn digitsOf decimalOf ascii lineText dayLine wholeLog figureIn figuresOf dayOutcome
+proved-cases = (refl, (refl, (refl, (refl, (refl, (refl, (refl, (refl, (refl, (refl, (refl, (refl, (refl, tt)))))))))))))

@@ -1,22 +1,13 @@
--- The day program's line for document 01's log D and for its refused logs, by computation. Assumes nothing.
+-- The day program's line for document 01's refused logs, by computation. Its line for log D stands in crate claim, Table. Assumes nothing.
 use mathlib.Core.Path.{_≡_, refl}
 use mathlib.Core.List.{List, [], _∷_}
 use Prim.Native.Nat.{ℕ}
 use Rattle.number.specs.Bytes.{leAt}
-use Rattle.number.specs.Integer.{minZ, maxZ, clamp, wrap}
 use Rattle.record.specs.Record.{within, inRange, accepted, whole, byShape, readOf, recordsIn, recordsOf}
-use Rattle.record.specs.Examples.{logD}
-use Rattle.figure.specs.FourModes.{lift, lineOf, storeHeld}
-use Rattle.figure.specs.Mode.{modeOf}
 use Rattle.hill.specs.Verdict.{between, count, ends}
-use Rattle.text.specs.Decimal.{digitsIn, digitsOf, decimalOf}
+use Rattle.text.specs.Decimal.{digitsIn, digitsOf}
 use Rattle.text.specs.Line.{ascii, lineText, dayLine}
-use Rattle.day.specs.Day.{wholeLog, figureIn, figuresOf, dayOutcome}
-
--- "for D `12 15 14 72`"
-D-day : dayLine (dayOutcome logD) ≡ ascii "12 15 14 72\n"
-unfolding leAt within inRange accepted whole byShape readOf recordsIn recordsOf modeOf storeHeld lift lineOf clamp minZ maxZ wrap between count ends digitsIn digitsOf decimalOf ascii lineText dayLine wholeLog figureIn figuresOf dayOutcome
-D-day = refl
+use Rattle.day.specs.Day.{wholeLog, dayOutcome}
 
 -- "No bytes: .. 10. \"close 1\" alone: 11. open 0, close 0 twice over: 8. open 0, open 0: 7." An open and two stray bytes: 3.
 abbrev close0 : List ℕ → List ℕ

@@ -2,25 +2,21 @@
 use mathlib.Core.Path.{_≡_, refl, sym, ap, _∙_}
 use mathlib.Core.Bool.{Bool, true, false}
 use mathlib.Core.List.{List, [], _∷_, _++_}
-use Prim.Native.Nat.{ℕ, zero, suc, _≤_}
+use Prim.Native.Nat.{ℕ, _≤_}
 use native.Mathlib.Omega.{arith}
 use lib.Dec.{eqb}
 use lib.ListN.{length}
-use borrow.Author.Tests.{le-leb, eqb-true}
-use Rattle.hill.specs.Verdict.{Verdict, pass, refuse, low, ask, between, count, ends}
+use Rattle.hill.specs.Verdict.{Verdict, pass, low, ask, between, count, ends}
 use Rattle.hill.specs.VerdictLaws.{low-pass, low-comm, low-assoc, low-fst, low-snd, between-pass}
 use Rattle.hill.specs.Log.{Record, opening, closing, startLevel, endLevel, endOf, openedOf, joints, logFault}
 use Rattle.hill.specs.Growth.{grown}
 use Rattle.figure.specs.FourModes.{Amounts}
 use Rattle.figure.specs.Mode.{modeOf}
+use Rattle.fault.specs.Fault.{noFault, verdictOf}
+use Rattle.fault.specs.Laws.{clear, clear-is, is-clear, ground-pass, count-few}
 use Rattle.day.specs.declared.Tally.{Tally}
 
 -- ---- definitions
-
--- A fault as the code has it: 0 where there is none.
-abbrev pub verdictOf : ℕ → Verdict
-verdictOf zero = pass
-verdictOf (suc n) = refuse (suc n)
 
 -- A record starts at level s: the first one of a log at level 0 (11), a later one where the one before it ended, at level l (7 and 8).
 abbrev pub meeting : (begun : Bool) (l s : ℕ) → Verdict
@@ -75,32 +71,24 @@ module _ {t t′ : Tally} {xs : List (Record Amounts)} {y : Record Amounts} (k :
     fault = n .fault ∙ rw (k .fault, k .begun, k .level) (sym (fault-more xs y));
   }
 
-  none-before : t′ .fault ≡ 0 → low (verdictOf (t .fault)) (meeting (t .begun) (t .level) (startLevel y)) ≡ pass
-  none-before e = sym (n .fault) ∙ ap verdictOf e
+  none-before : noFault ≤ t′ .fault → low (verdictOf (t .fault)) (meeting (t .begun) (t .level) (startLevel y)) ≡ pass
+  none-before e = clear-is (n .fault) e
 
   -- where there is no fault, there was none, ..
-  pub was-none : t′ .fault ≡ 0 → t .fault ≡ 0
-  was-none e = clear (t .fault) (low-fst (verdictOf (t .fault)) (meeting (t .begun) (t .level) (startLevel y)) (none-before e))
-    where
-      clear : (a : ℕ) → verdictOf a ≡ pass → a ≡ 0
-      clear zero p = refl
-      clear (suc a) p = cc
+  pub was-none : noFault ≤ t′ .fault → noFault ≤ t .fault
+  was-none e = is-clear (t .fault) (low-fst (verdictOf (t .fault)) (meeting (t .begun) (t .level) (startLevel y)) (none-before e))
 
   -- .. and the record starts where the last one ended
-  pub meets : t′ .fault ≡ 0 → t .level ≡ startLevel y
+  pub meets : noFault ≤ t′ .fault → t .level ≡ startLevel y
   meets e =
       k .level ∙ go xs (rw (k .begun, k .level) at (low-snd (verdictOf (t .fault)) (meeting (t .begun) (t .level) (startLevel y)) (none-before e)))
     where
-      grounded : (s : ℕ) (b : Bool) → eqb s 0 ≡ b → ask 11 b ≡ pass → 0 ≡ s
-      grounded s true p q = sym (eqb-true s 0 p)
-      grounded s false p q = cc
-
       go : (xs : List (Record Amounts)) → meeting (begunBy xs) (levelAfter xs) (startLevel y) ≡ pass → levelAfter xs ≡ startLevel y
-      go [] p = grounded (startLevel y) (eqb (startLevel y) 0) refl p
+      go [] p = sym (ground-pass (startLevel y) p)
       go (x ∷ xs) p = between-pass (endOf x xs) (startLevel y) p
 
-pub none-yet : {t : Tally} → t .begun ≡ false → t .level ≡ 0 → t .fault ≡ 0 → Tallied t []
-none-yet b l f = record { begun = b; level = l; fault = ap verdictOf f }
+pub none-yet : {t : Tally} → t .begun ≡ false → t .level ≡ 0 → noFault ≤ t .fault → Tallied t []
+none-yet {t} b l f = record { begun = b; level = l; fault = clear (t .fault) f }
 
 -- ---- all records
 
@@ -116,8 +104,7 @@ opened-length (closing d ∷ xs) = omega (arith, opened-length xs)
 
 -- question 9 cannot get a "no" where there are too few records
 few-opened : (xs : List (Record Amounts)) → length xs ≤ 100_000 → count (openedOf xs) ≡ pass
-unfolding count
-few-opened xs l = rw (le-leb (openedOf xs) 100_000 (omega (arith, opened-length xs)))
+few-opened xs l = count-few (openedOf xs) (omega (arith, opened-length xs))
 
 -- what is asked of the levels and of their fault
 pub log-fault : {t : Tally} (xs : List (Record Amounts)) → Tallied t xs → t .begun ≡ true → length xs ≤ 100_000 → low (verdictOf (t .fault)) (ask 11 (eqb (t .level) 0)) ≡ logFault xs
@@ -127,11 +114,3 @@ log-fault (x ∷ xs) k e l =
     let first = ask 11 (eqb (startLevel x) 0) in
     let last = ask 11 (eqb (endOf x xs) 0) in
     rw (k .fault, k .level, few-opened (x ∷ xs) l, low-pass (joints x xs), low-comm first (joints x xs)) (low-assoc (joints x xs) first last)
-
--- the code's answer in the two cases
-pub fault-none : {a : ℕ} {v : Verdict} → verdictOf a ≡ v → a ≡ 0 → v ≡ pass
-fault-none e z = sym e ∙ ap verdictOf z
-
-pub fault-some : (a : ℕ) {v : Verdict} → verdictOf a ≡ v → (a ≡ 0 → ⊥) → v ≡ refuse a
-fault-some zero e nz = absurd (nz refl)
-fault-some (suc a) e nz = sym e

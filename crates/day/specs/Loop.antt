@@ -1,13 +1,12 @@
 -- What the pass over a log keeps from turn to turn, and what it comes to at the end. Assumes nothing.
 use mathlib.Core.Path.{_≡_, refl, sym, ap, subst, _∙_}
-use mathlib.Core.Bool.{Bool, true, false}
+use mathlib.Core.Bool.{true, false}
 use mathlib.Core.List.{List, [], _∷_, _++_}
-use Prim.Native.Nat.{ℕ, zero, suc, _-_, _≤_, _<_}
+use Prim.Native.Nat.{ℕ, suc, _-_, _≤_, _<_}
 use native.Mathlib.Omega.{arith}
 use lib.Dec.{eqb}
 use lib.IntN.{ℤ}
 use lib.ListN.{length, take, drop}
-use borrow.Author.Tests.{eqb-true}
 use Rattle.gate.specs.Outcome.{refused, result}
 use Rattle.record.specs.Record.{readOf}
 use Rattle.record.specs.Laws.{sound}
@@ -27,13 +26,15 @@ use Rattle.figure.specs.FourModes.{Amounts}
 use Rattle.figure.specs.Mode.{modeOf}
 use Rattle.figure.specs.Stored.{IsStored, amounts, none}
 use Rattle.slopes.specs.Laws.{emptied}
+use Rattle.fault.specs.Fault.{noFault, verdictOf}
+use Rattle.fault.specs.Laws.{clear-is, found-is, is-clear, ground-pass}
 use Rattle.summary.specs.Values.{tells-range}
 use Rattle.summary.specs.Outcomes.{recordOf, chunkOf}
 use Rattle.text.specs.declared.Figures.{Figures}
 use Rattle.day.specs.declared.Tally.{Tally}
 use Rattle.day.specs.Day.{figureIn, figuresOf, dayOutcome}
 use Rattle.day.specs.DayLaws.{unreadable, readable}
-use Rattle.day.specs.Levels.{verdictOf, Noted, Tallied, none-yet, tallied, was-none, meets, opened-length, no-record, log-fault, fault-none, fault-some}
+use Rattle.day.specs.Levels.{Noted, Tallied, none-yet, tallied, was-none, meets, opened-length, no-record, log-fault}
 use Rattle.day.specs.Pass.{rising, Stands, Standing, Ready, Applied}
 
 -- ---- records one after the other
@@ -74,7 +75,7 @@ pub record Inv (log rest : List ℕ) (t : Tally) (mid : Figures) (vs fs cs ns hs
   pub done : List Fields
   pub handed : Handed log rest done
   pub noted : Tallied t (chunkOf done)
-  pub standing : t .fault ≡ 0 → Standing (chunkOf done) (t .level) mid vs fs cs ns hs es ss
+  pub standing : noFault ≤ t .fault → Standing (chunkOf done) (t .level) mid vs fs cs ns hs es ss
 
 -- arrays of 64, and nothing in them yet
 pub record Fresh (mid : Figures) (vs fs cs ns hs es ss : List ℤ) : Type 0 where
@@ -94,7 +95,7 @@ stands-none : (m : ℕ) {vs fs cs hs : List ℤ} {mid : ℤ} → length vs ≡ 6
 stands-none m {vs} {fs} {cs} {hs} {mid} ev ef ec eh e =
     emptied (modeOf m) (rising vs fs cs hs) mid (record { left = ev; values = ev; floors = ef; ceilings = ec; held = eh; nl≤ = omega arith; n≤ = omega arith }) e
 
-pub begin : {log : List ℕ} {t : Tally} {mid : Figures} {vs fs cs ns hs es ss : List ℤ} → length log ≤ 65_536 → t .begun ≡ false → t .level ≡ 0 → t .fault ≡ 0 → Fresh mid vs fs cs ns hs es ss
+pub begin : {log : List ℕ} {t : Tally} {mid : Figures} {vs fs cs ns hs es ss : List ℤ} → length log ≤ 65_536 → t .begun ≡ false → t .level ≡ 0 → noFault ≤ t .fault → Fresh mid vs fs cs ns hs es ss
     → Inv log log t mid vs fs cs ns hs es ss
 begin {log} short b l f e = record {
   short = short;
@@ -119,7 +120,7 @@ module _ {log rest : List ℕ} {t : Tally} {mid : Figures} {vs fs cs ns hs es ss
     pub read-deep : f .depth ≤ 63
     read-deep = tells-range (f .depth) (amounts (f .value) (f .floor) (f .ceiling)) .from (sound rest f e .ranged) .0
 
-    standing-before : {t′ : Tally} → Noted t (recordOf f) t′ → t′ .fault ≡ 0 → Standing (chunkOf (i .done)) (startLevel (recordOf f)) mid vs fs cs ns hs es ss
+    standing-before : {t′ : Tally} → Noted t (recordOf f) t′ → noFault ≤ t′ .fault → Standing (chunkOf (i .done)) (startLevel (recordOf f)) mid vs fs cs ns hs es ss
     standing-before n z = rw (sym (meets (i .noted) n z)) (i .standing (was-none (i .noted) n z))
 
     pub ready : {t′ : Tally} → Noted t (recordOf f) t′ → Ready (t′ .fault) f mid vs fs cs ns hs es ss
@@ -160,24 +161,17 @@ module _ {log rest : List ℕ} {t : Tally} {mid : Figures} {vs fs cs ns hs es ss
       verdict-is : verdictOf a ≡ logFault (chunkOf (i .done))
       verdict-is = e ∙ log-fault (chunkOf (i .done)) (i .noted) b few
 
-      pub faulty : (a ≡ 0 → ⊥) → dayOutcome log ≡ refused a
-      faulty nz = by-verdict (fault-some a verdict-is nz)
+      pub faulty : a < noFault → dayOutcome log ≡ refused a
+      faulty some = by-verdict (found-is verdict-is some)
 
-      level-is : a ≡ 0 → t .level ≡ 0
-      level-is z = go (eqb (t .level) 0) refl (low-snd (verdictOf (t .fault)) (ask 11 (eqb (t .level) 0)) (fault-none e z))
-        where
-          go : (c : Bool) → eqb (t .level) 0 ≡ c → ask 11 c ≡ pass → t .level ≡ 0
-          go true p q = eqb-true (t .level) 0 p
-          go false p q = cc
+      module _ (z : noFault ≤ a) where
+        level-is : t .level ≡ 0
+        level-is = ground-pass (t .level) (low-snd (verdictOf (t .fault)) (ask 11 (eqb (t .level) 0)) (clear-is e z))
 
-      fault-is : a ≡ 0 → t .fault ≡ 0
-      fault-is z = go (t .fault) (low-fst (verdictOf (t .fault)) (ask 11 (eqb (t .level) 0)) (fault-none e z))
-        where
-          go : (k : ℕ) → verdictOf k ≡ pass → k ≡ 0
-          go zero p = refl
-          go (suc k) p = cc
+        fault-is : noFault ≤ t .fault
+        fault-is = is-clear (t .fault) (low-fst (verdictOf (t .fault)) (ask 11 (eqb (t .level) 0)) (clear-is e z))
 
-      pub figured : a ≡ 0 → dayOutcome log ≡ result mid
-      figured z =
-          let st : Standing (chunkOf (i .done)) 0 mid vs fs cs ns hs es ss = subst (λ (l : ℕ). Standing (chunkOf (i .done)) l mid vs fs cs ns hs es ss) (level-is z) (i .standing (fault-is z)) in
-          by-verdict (fault-none verdict-is z) ∙ ap result (sym (all-figures (chunkOf (i .done)) (fault-none verdict-is z) st))
+        pub figured : dayOutcome log ≡ result mid
+        figured =
+            let st : Standing (chunkOf (i .done)) 0 mid vs fs cs ns hs es ss = subst (λ (l : ℕ). Standing (chunkOf (i .done)) l mid vs fs cs ns hs es ss) level-is (i .standing fault-is) in
+            by-verdict (clear-is verdict-is z) ∙ ap result (sym (all-figures (chunkOf (i .done)) (clear-is verdict-is z) st))

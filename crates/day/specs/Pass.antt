@@ -15,6 +15,7 @@ use Rattle.figure.specs.Mode.{Mode, modeOf}
 use Rattle.figure.specs.Stored.{amounts, none}
 use Rattle.slopes.specs.Arrays.{Arrays, arrays, Fig, slopesOf, weightOf, Able, StandsFor}
 use Rattle.slopes.specs.Actions.{Pushed}
+use Rattle.fault.specs.Fault.{noFault}
 use Rattle.slopes.specs.Laws.{counts, able, restate, opened, after, after-more}
 use Rattle.record.specs.declared.Fields.{Fields}
 use Rattle.summary.specs.Outcomes.{recordOf}
@@ -53,13 +54,13 @@ Closed m d vs fs cs hs mid hs′ mid′ =
 pub record Ready (fault : ℕ) (f : Fields) (mid : Figures) (vs fs cs ns hs es ss : List ℤ) : Type 0 where
   pub records : List (Record Amounts)
   pub few : openedOf records ≤ 100_000
-  pub standing : fault ≡ 0 → Standing records (startLevel (recordOf f)) mid vs fs cs ns hs es ss
+  pub standing : noFault ≤ fault → Standing records (startLevel (recordOf f)) mid vs fs cs ns hs es ss
   pub deep : f .depth ≤ 63
   pub in-range : InRange (amounts (f .value) (f .floor) (f .ceiling))
 
 abbrev pub Applied : ℕ → Fields → (mid : Figures) (vs fs cs ns hs es ss : List ℤ) (mid′ : Figures) (vs′ fs′ cs′ ns′ hs′ es′ ss′ : List ℤ) → Type 0
 Applied fault f mid vs fs cs ns hs es ss mid′ vs′ fs′ cs′ ns′ hs′ es′ ss′ =
-    fault ≡ 0 → (xs : List (Record Amounts)) → Standing xs (startLevel (recordOf f)) mid vs fs cs ns hs es ss
+    noFault ≤ fault → (xs : List (Record Amounts)) → Standing xs (startLevel (recordOf f)) mid vs fs cs ns hs es ss
     → Standing (xs ++ (recordOf f ∷ [])) (endLevel (recordOf f)) mid′ vs′ fs′ cs′ ns′ hs′ es′ ss′
 
 -- ---- a record that was read
@@ -113,7 +114,7 @@ module _ {mid : Figures} {vs fs cs ns hs es ss : List ℤ} where
   at-close : (f : Fields) (xs : List (Record Amounts)) → (f .kind ≡ 1 → ⊥) → Standing xs (startLevel (recordOf f)) mid vs fs cs ns hs es ss → Standing xs (suc (f .depth)) mid vs fs cs ns hs es ss
   at-close f xs k s = subst (λ (y : Record Amounts). Standing xs (startLevel y) mid vs fs cs ns hs es ss) (is-close f k) s
 
-  module _ {fault : ℕ} {f : Fields} (r : Ready fault f mid vs fs cs ns hs es ss) (z : fault ≡ 0) where
+  module _ {fault : ℕ} {f : Fields} (r : Ready fault f mid vs fs cs ns hs es ss) (z : noFault ≤ fault) where
     -- an open is put on top in each mode
     pub applied-open : {vs′ fs′ cs′ ns′ hs′ es′ ss′ : List ℤ} → f .kind ≡ 1 → Opened (f .depth) (f .value) (f .floor) (f .ceiling) vs fs cs ns hs es ss vs′ fs′ cs′ ns′ hs′ es′ ss′
         → Applied fault f mid vs fs cs ns hs es ss mid vs′ fs′ cs′ ns′ hs′ es′ ss′

@@ -3,15 +3,14 @@ ghost use mathlib.Core.Path.{_≡_};
 ghost use Prim.Native.Nat.{suc, _≤_, _<_};
 ghost use lib.ListN.{length};
 ghost use lib.Seq.{sets};
-ghost use lib.Dec.{eqb};
-ghost use Rattle.hill.specs.Verdict.{low, ask};
 ghost use Rattle.figure.specs.Mode.{modeOf};
 ghost use Rattle.slopes.specs.Arrays.{Able};
 ghost use Rattle.slopes.specs.Laws.{counts};
 ghost use Rattle.summary.specs.Outcomes.{recordOf};
 ghost use Rattle.text.specs.Line.{dayLine};
 ghost use Rattle.day.specs.Day.{dayOutcome, dayAnswer};
-ghost use Rattle.day.specs.Levels.{verdictOf, meeting, Noted};
+ghost use Rattle.fault.specs.Fault.{verdictOf};
+ghost use Rattle.day.specs.Levels.{meeting, Noted};
 ghost use Rattle.day.specs.Pass.{rising, Opened, Closed, Ready, Applied};
 use record::Fields;
 use record::Read;
@@ -24,47 +23,21 @@ pub enum Day {
 }
 
 // The levels of the records so far: whether there is any, the level where the last one ended (0 before the first), and the lowest fault
-// of questions 7, 8 and, for the first level, 11; 0 where there is none. Question 9 cannot get a "no": 65,536 bytes have too few records.
+// of questions 7, 8 and, for the first level, 11. Question 9 cannot get a "no": 65,536 bytes have too few records.
 pub struct Tally {
     pub begun: bool,
-    pub level: usize,
+    pub level: u16,
     pub fault: u8,
 }
 
-// Question 11 of one level: a log begins and ends at level 0.
-fn ground(level: usize) -> u8
-    ensures { λ r. ⌜ verdictOf r ≡ ask 11 (eqb level 0) ⌝ }
-{
-    if level == 0 { 0 } else { 11 }
-}
-
 // The fault where a record starts at level `start`.
-fn meet(begun: bool, level: usize, start: usize) -> u8
+fn meet(begun: bool, level: u16, start: u16) -> u8
     ensures { λ r. ⌜ verdictOf r ≡ meeting begun level start ⌝ }
 {
     if begun {
-        if level != start {
-            return 7;
-        }
-        if level == 0 {
-            return 8;
-        }
-        return 0;
+        return fault::joint(level, start);
     }
-    ground(start)
-}
-
-// The lower of two faults.
-fn lower(a: u8, b: u8) -> u8
-    ensures { λ r. ⌜ verdictOf r ≡ low (verdictOf a) (verdictOf b) ⌝ }
-{
-    if a == 0 {
-        return b;
-    }
-    if b == 0 {
-        return a;
-    }
-    if a < b { a } else { b }
+    fault::ground(start)
 }
 
 // A record goes from one level to another.
@@ -72,18 +45,18 @@ fn note(t: Tally, f: Fields) -> Tally
     requires { ⌜ f .depth ≤ 63 ⌝ }
     ensures { λ r. ⌜ Noted t (recordOf f) r ⌝ }
 {
-    let depth = f.depth as usize;
+    let depth = f.depth;
     if f.kind == 1 {
         return Tally {
             begun: true,
             level: depth + 1,
-            fault: lower(t.fault, meet(t.begun, t.level, depth)),
+            fault: fault::lower(t.fault, meet(t.begun, t.level, depth)),
         };
     }
     Tally {
         begun: true,
         level: depth,
-        fault: lower(t.fault, meet(t.begun, t.level, depth + 1)),
+        fault: fault::lower(t.fault, meet(t.begun, t.level, depth + 1)),
     }
 }
 
@@ -156,7 +129,7 @@ fn apply(
         mid (now (values .entry)) (now (floors .entry)) (now (ceilings .entry)) (now (net .entry)) (now (heaviest .entry)) (now (eaten .entry)) (now (stamp .entry))
         r (now (values .exit)) (now (floors .exit)) (now (ceilings .exit)) (now (net .exit)) (now (heaviest .exit)) (now (eaten .exit)) (now (stamp .exit)) ⌝ }
 {
-    if fault != 0 {
+    if fault < fault::NONE {
         return mid;
     }
     let depth = f.depth as usize;
@@ -219,7 +192,7 @@ pub fn figures(log: &[u8]) -> Day
     let mut t = Tally {
         begun: false,
         level: 0,
-        fault: 0,
+        fault: fault::NONE,
     };
     let mut rest = log;
     while 0 < rest.len() {
@@ -243,8 +216,8 @@ pub fn figures(log: &[u8]) -> Day
         rest = &rest[length..];
     }
     if t.begun {
-        let fault = lower(t.fault, ground(t.level));
-        if fault != 0 {
+        let fault = fault::lower(t.fault, fault::ground(t.level));
+        if fault < fault::NONE {
             return Day::Refused(fault);
         }
         return Day::Figures(mid);

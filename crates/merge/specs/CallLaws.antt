@@ -6,7 +6,7 @@ use Prim.Native.Nat.{ℕ, _-_, _≤_, _<_, min}
 use native.Mathlib.Omega.{arith}
 use lib.Dec.{eqb}
 use lib.ListN.{length, take, drop, length-drop}
-use borrow.Author.Tests.{eq-eqb, eqb-true, ne-eqb}
+use borrow.Author.Tests.{eq-eqb, ne-eqb}
 use Rattle.gate.specs.Outcome.{Outcome, refused, result, question, onward, written, bufferAfter}
 use Rattle.gate.specs.Answers.{writtenAnswer, lengthAnswered}
 use Rattle.gate.specs.declared.Written.{Written}
@@ -16,11 +16,11 @@ use Rattle.row.specs.Laws.{first-within, pieces-nil, pieces-next}
 use Rattle.summary.specs.Judge.{modeAt}
 use Rattle.summary.specs.Decode.{decode}
 use Rattle.summary.specs.Decide.{isSummary}
-use Rattle.summary.specs.DecideLaws.{decide-summary}
 use Rattle.summary.specs.Accepted.{IsSummaryIn}
 use Rattle.summary.specs.Outcomes.{mergeOutcome}
 use Rattle.outcome.specs.Outcomes.{allSummaries, allOf, firstMode, Summaries, askRow, mergedBytes, mergeRowOutcome}
 use Rattle.outcome.specs.Laws.{AllIn, ask-4, ask-all, two-to-64, too-many, too-few}
+use Rattle.outcome.specs.Through.{all-in as all-of}
 use Rattle.judge.specs.declared.Piece.{Piece}
 use Rattle.judge.specs.Laws.{Judges}
 use Rattle.merge.specs.Asks.{Answers}
@@ -129,15 +129,6 @@ pub first-5 : (ps : List (List ℕ)) → allSummaries ps ≡ false → modeOfAll
 unfolding modeOfAll
 first-5 ps n = rw n
 
-each-in : (m : ℕ) (ps : List (List ℕ)) → allSummaries ps ≡ true → allOf m ps ≡ true → AllIn m ps
-each-in m [] a b = tt
-each-in m (p ∷ ps) a b = go (isSummary p) refl a (eqb m (modeAt p)) refl b (λ x y. each-in m ps x y)
-  where
-    go : (x : Bool) → isSummary p ≡ x → x && allSummaries ps ≡ true → (y : Bool) → eqb m (modeAt p) ≡ y → y && allOf m ps ≡ true → (allSummaries ps ≡ true → allOf m ps ≡ true → AllIn m ps) → AllIn m (p ∷ ps)
-    go true ex a true ey b ih = (record { is = decide-summary p .from ex; mode-is = sym (eqb-true m (modeAt p) ey) }, ih a b)
-    go true ex a false ey b ih = let z : _≡_ {A = ℕ} 0 1 = cc in absurd (omega arith)
-    go false ex a y ey b ih = let z : _≡_ {A = ℕ} 0 1 = cc in absurd (omega arith)
-
 -- ---- merging a row: 4, 5, 6
 
 module _ (row : List ℕ) (cap : ℕ) {n : ℕ} (e : n ≡ min 65 (length (rowPieces row))) where
@@ -178,7 +169,7 @@ module _ (row : List ℕ) (cap : ℕ) {n : ℕ} (e : n ≡ min 65 (length (rowPi
               result m ≡ question 5 x (question 6 y (result (firstMode (rowPieces row)))) → AllIn m (rowPieces row)
           go true ex true ey q =
               let f : firstMode (rowPieces row) ≡ m = cc in
-              subst (λ (k : ℕ). AllIn k (rowPieces row)) f (each-in (firstMode (rowPieces row)) (rowPieces row) ex ey)
+              subst (λ (k : ℕ). AllIn k (rowPieces row)) f (all-of (firstMode (rowPieces row)) (rowPieces row) ex ey)
           go true ex false ey q = let z : _≡_ {A = ℕ} 0 1 = cc in absurd (omega arith)
           go false ex y ey q = let z : _≡_ {A = ℕ} 0 1 = cc in absurd (omega arith)
 

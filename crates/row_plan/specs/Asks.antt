@@ -5,9 +5,11 @@ use Prim.Native.Nat.{ℕ, _≤_}
 use lib.ListN.{length}
 use Rattle.gate.specs.Outcome.{Outcome, refused, result, onward}
 use Rattle.row.specs.Row.{rowPieces}
+use Rattle.hill.specs.Verdict.{pass}
 use Rattle.summary.specs.Decode.{decode}
 use Rattle.join_plan.specs.Plan.{planOfRow}
 use Rattle.join_plan.specs.Scan.{plan}
+use Rattle.plan_work.specs.Gate.{rowFault}
 use Rattle.outcome.specs.Outcomes.{Summaries, askRow, askLog}
 use Rattle.outcome.specs.Laws.{AllIn}
 use Rattle.row_plan.specs.declared.ask.Asked.{Asked}
@@ -30,6 +32,7 @@ pub record Through (row : List ℕ) (count m : ℕ) (kinds starts peaks ends ope
   pub some : 2 ≤ count
   pub few : count ≤ 64
   pub all : AllIn m (rowPieces row)
+  pub faultless : rowFault (map (decode m) (rowPieces row)) ≡ pass
   pub whole : Whole kinds starts peaks ends openeds
   pub noted : AllNoted (rowPieces row) kinds starts peaks ends openeds
   pub plan-is : plan (levelsIn starts peaks ends) count ≡ planOfRow (map (decode m) (rowPieces row))

@@ -3,3 +3,5 @@ pub mod Levels
 pub mod Laws
 pub mod StandsFor
 pub mod Lines
+pub mod Along
+pub mod AlongLaws

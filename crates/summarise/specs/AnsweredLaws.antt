@@ -1,20 +1,18 @@
 -- Question 12 and the three cases of a chunk's summary. Assumes nothing.
 use mathlib.Core.Path.{_≡_, refl, sym, ap, subst, _∙_}
-use mathlib.Core.Bool.{Bool, true, false, not}
+use mathlib.Core.Bool.{true, false, not}
 use mathlib.Core.List.{List, [], _∷_}
-use Prim.Native.Nat.{ℕ, zero, suc, _+_, _-_, _*_, _≤_, _<_}
+use Prim.Native.Nat.{ℕ, _+_, _-_, _*_, _≤_, _<_}
 use native.Mathlib.Omega.{arith}
-use lib.Dec.{leb}
 use lib.ListN.{length}
 use borrow.Author.Tests.{le-leb, lt-leb}
-use Rattle.gate.specs.Outcome.{Outcome, result, written}
+use Rattle.gate.specs.Outcome.{result, written}
 use Rattle.gate.specs.declared.Written.{Written}
 use Rattle.gate.specs.declared.Written.the-variants.{Bytes, Refused}
 use Rattle.codec.specs.Contracts.{Wrote}
-use Rattle.hill.specs.Verdict.{Verdict, pass, refuse, low, count, cut}
 use Rattle.hill.specs.VerdictLaws.{low-pass, cut-few}
-use Rattle.hill.specs.Log.{Record, startLevel, endOf, peakOf, openedOf, joints, faultOf}
-use Rattle.hill.specs.Summary.{Hill, Part, Summary, blank, part, spoilt, whole, judged, rise, partOf, summaryOf}
+use Rattle.hill.specs.Log.{Record, peakOf, openedOf, faultOf}
+use Rattle.hill.specs.Summary.{Hill, Part, blank, part, spoilt, whole, judged, partOf}
 use Rattle.hill.specs.Building.{hillOf}
 use Rattle.hill.specs.SummaryLaws.{partOf-built}
 use Rattle.figure.specs.FourModes.{Amounts}
@@ -22,14 +20,16 @@ use Rattle.figure.specs.Mode.{Mode, modeOf}
 use Rattle.slopes.specs.declared.Counts.{Counts}
 use Rattle.slopes.specs.Arrays.{Arrays, slopesOf, Fig}
 use Rattle.slopes.specs.Laws.{rise-slopes, fall-slopes, rise-is}
-use Rattle.summary.specs.Layout.{SummaryIn, encode}
+use Rattle.summary.specs.Layout.{encode}
 use Rattle.summary.specs.Accepted.{encode-length}
 use Rattle.summary.specs.Outcomes.{summaryBytes}
 use Rattle.summarise.specs.declared.Tally.{Tally}
-use Rattle.summarise.specs.Tallies.{verdictOf, Tells, Tallied}
+use Rattle.fault.specs.Fault.{noFault, verdictOf}
+use Rattle.fault.specs.Laws.{found, count-few}
+use Rattle.summarise.specs.Tallies.{Tells, Tallied}
 use Rattle.summarise.specs.TallyLaws.{begun, not-begun, not-both, joints-pass}
 use Rattle.summarise.specs.Scans.{Summed}
-use Rattle.summarise.specs.ScanLaws.{count-few, start-low, start-is, part-whole}
+use Rattle.summarise.specs.ScanLaws.{start-low, start-is, part-whole}
 use Rattle.summarise.specs.Answered.{Answers, Writable}
 
 -- ---- question 12
@@ -48,9 +48,8 @@ hill-length-is m p o A c = encode-length m (part (whole p o (slopesOf (modeOf m)
 
 -- ---- blank, spoilt or hill
 
-judged-spoilt : {Fig R : Type 0} (k s e o p : ℕ) (h : Hill Fig R) → (k ≡ 0 → ⊥) → o ≤ 100000 → judged (verdictOf k) s e o p h ≡ spoilt k s e o
-judged-spoilt zero s e o p h nz le = absurd (nz refl)
-judged-spoilt (suc k) s e o p h nz le = ap (spoilt (suc k) s e) (cut-few o le)
+judged-spoilt : {Fig R : Type 0} (k s e o p : ℕ) (h : Hill Fig R) → k < noFault → o ≤ 100000 → judged (verdictOf k) s e o p h ≡ spoilt k s e o
+judged-spoilt k s e o p h some le = rw (found k some) (ap (spoilt k s e) (cut-few o le))
 
 module _ (m : ℕ) where
   abbrev M : Mode
@@ -63,19 +62,19 @@ module _ (m : ℕ) (t : Tally) where
   blank-is (x ∷ xs) b s = absurd (not-both (s .begun) (not-begun (t .begun) b))
 
   module _ (b : not (t .begun) ≡ false) where
-    part-spoilt : (x : Record Amounts) (xs : List (Record Amounts)) → (t .fault ≡ 0 → ⊥) → openedOf (x ∷ xs) ≤ 65536 → Tells x xs t
+    part-spoilt : (x : Record Amounts) (xs : List (Record Amounts)) → t .fault < noFault → openedOf (x ∷ xs) ≤ 65536 → Tells x xs t
         → spoilt (t .fault) (t .start) (t .level) (t .opened) ≡ partOf (M m .algebra) x xs
-    part-spoilt x xs nz few s =
-        let v : faultOf x xs ≡ verdictOf (t .fault) = rw (count-few (M m) (openedOf (x ∷ xs)) (omega arith), ← s .fault) (low-pass (verdictOf (t .fault))) in
+    part-spoilt x xs some few s =
+        let v : faultOf x xs ≡ verdictOf (t .fault) = rw (count-few (openedOf (x ∷ xs)) (omega arith), ← s .fault) (low-pass (verdictOf (t .fault))) in
         sym (partOf-built (M m .algebra) (M m .laws) x xs
-        ∙ rw (v, ← s .start, ← s .level, ← s .opened) (judged-spoilt (t .fault) (t .start) (t .level) (t .opened) (peakOf x xs) (hillOf (M m .algebra) (x ∷ xs)) nz (omega (arith, s .opened))))
+        ∙ rw (v, ← s .start, ← s .level, ← s .opened) (judged-spoilt (t .fault) (t .start) (t .level) (t .opened) (peakOf x xs) (hillOf (M m .algebra) (x ∷ xs)) some (omega (arith, s .opened))))
 
-    pub spoilt-is : {A : Arrays} {c : Counts} (xs : List (Record Amounts)) → (t .fault ≡ 0 → ⊥) → Summed (M m) A c t xs → encode m (part (spoilt (t .fault) (t .start) (t .level) (t .opened))) ≡ summaryBytes m xs
+    pub spoilt-is : {A : Arrays} {c : Counts} (xs : List (Record Amounts)) → t .fault < noFault → Summed (M m) A c t xs → encode m (part (spoilt (t .fault) (t .start) (t .level) (t .opened))) ≡ summaryBytes m xs
     unfolding summaryBytes
-    spoilt-is [] nz s = absurd (not-both (begun (t .begun) b) (s .tallied .begun))
-    spoilt-is (x ∷ xs) nz s = ap (λ (p : Part (Fig (M m)) Amounts). encode m (part p)) (part-spoilt x xs nz (s .few) (s .tallied))
+    spoilt-is [] some s = absurd (not-both (begun (t .begun) b) (s .tallied .begun))
+    spoilt-is (x ∷ xs) some s = ap (λ (p : Part (Fig (M m)) Amounts). encode m (part p)) (part-spoilt x xs some (s .few) (s .tallied))
 
-    module _ (z : t .fault ≡ 0) where
+    module _ (z : noFault ≤ t .fault) where
       -- the peak is as many levels below the start as there are left values
       pub rises : {A : Arrays} {c : Counts} (xs : List (Record Amounts)) → Summed (M m) A c t xs → (c .nl ≤ t .start) × (t .start ≤ 64)
       rises [] s = absurd (not-both (begun (t .begun) b) (s .tallied .begun))

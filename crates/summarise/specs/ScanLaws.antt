@@ -2,21 +2,20 @@
 use mathlib.Core.Path.{_≡_, refl, sym, ap, subst, _∙_}
 use mathlib.Core.Bool.{Bool, true, false, cond}
 use mathlib.Core.List.{List, [], _∷_, _++_}
-use Prim.Native.Nat.{ℕ, zero, suc, _+_, _-_, _*_, _^_, _≤_, _<_}
+use Prim.Native.Nat.{ℕ, _+_, _-_, _*_, _^_, _≤_, _<_}
 use native.Mathlib.Omega.{arith}
-use lib.Dec.{T, leb, eqb}
+use lib.Dec.{T, eqb}
 use lib.IntN.{ℤ}
 use lib.ListN.{length, take, drop}
-use borrow.Author.Tests.{le-leb}
-use Rattle.gate.specs.Outcome.{refused, result}
-use Rattle.record.specs.Record.{readOf, recordsOf}
+use Rattle.gate.specs.Outcome.{result}
+use Rattle.record.specs.Record.{readOf}
 use Rattle.record.specs.Laws.{sound}
 use Rattle.record.specs.Handed as handed
 use Rattle.record.specs.Handed.{Handed}
 use Rattle.record.specs.declared.Fields.{Fields}
-use Rattle.hill.specs.Verdict.{Verdict, pass, low, count}
+use Rattle.hill.specs.Verdict.{pass}
 use Rattle.hill.specs.Log.{Record, opening, closing, depth, startLevel, endOf, peakOf, opens, openedOf, joints, faultOf}
-use Rattle.hill.specs.Summary.{Hill, Part, whole, rise, fall, start, end, partOf}
+use Rattle.hill.specs.Summary.{Hill, whole, rise, fall, start, end, partOf}
 use Rattle.hill.specs.Building.{empty, step, hillOf, run-append}
 use Rattle.hill.specs.Growth.{opened-append}
 use Rattle.hill.specs.SummaryLaws.{partOf-built, levels}
@@ -25,9 +24,11 @@ use Rattle.hill.specs.ValidLaws.{readable-append}
 use Rattle.figure.specs.FourModes.{Amounts, InRange}
 use Rattle.figure.specs.Mode.{Mode}
 use Rattle.figure.specs.Stored.{amounts, none}
+use Rattle.fault.specs.Fault.{noFault}
+use Rattle.fault.specs.Laws.{count-few}
 use Rattle.slopes.specs.declared.Counts.{Counts}
-use Rattle.slopes.specs.Arrays.{Arrays, Fig, Sound, StandsFor}
-use Rattle.slopes.specs.Actions.{CanClose, Room, entry, cost}
+use Rattle.slopes.specs.Arrays.{Arrays, Fig, StandsFor}
+use Rattle.slopes.specs.Actions.{Room, entry, cost}
 use Rattle.slopes.specs.Laws.{counts, able, restate, rise-is, fall-is, after-more, emptied, unit-bound}
 use Rattle.summary.specs.Values.{tells-range}
 use Rattle.summary.specs.Outcomes.{recordOf, chunkOf}
@@ -87,10 +88,6 @@ module _ (M : Mode) where
 
   -- ---- a hill's slopes go from its peak to the start and to the end
 
-  pub count-few : (n : ℕ) → n ≤ 100000 → count n ≡ pass
-  unfolding count
-  count-few n h = rw (le-leb n 100000 h)
-
   module _ (x : Record Amounts) (xs : List (Record Amounts)) (j : joints x xs ≡ pass) (h : openedOf (x ∷ xs) ≤ 100000) where
     pub no-fault : faultOf x xs ≡ pass
     no-fault = rw j (count-few (openedOf (x ∷ xs)) h)
@@ -115,7 +112,7 @@ module _ (M : Mode) where
   fits-room true d r h f = record { up = λ _. (omega (arith, f .records, h .0), h .1); down = λ e. absurd (subst T e tt) }
   fits-room false d r h f = record { up = λ e. absurd (subst T (sym e) tt); down = λ _. f .lefts (omega arith) }
 
-  module _ {A : Arrays} {c : Counts} {b : ℕ} (y : Record Amounts) (t u : Tally) (e : u .fault ≡ 0) where
+  module _ {A : Arrays} {c : Counts} {b : ℕ} (y : Record Amounts) (t u : Tally) (e : noFault ≤ u .fault) where
     hill-fits : (xs : List (Record Amounts)) → openedOf xs ≤ 100000 → AllRead xs → StandsFor M A c (hillOf (M .algebra) xs) b → Tallied xs t → Tallied (xs ++ (y ∷ [])) u
         → Fits c (startLevel y)
     hill-fits [] h a s w v = record { records = omega (arith, fall-is s); lefts = λ _. omega (arith, rise-is s) }
@@ -162,7 +159,7 @@ module _ (M : Mode) where
       in-range = tells-range (f .depth) a .from (sound rest f r .ranged)
 
       module _ (u : Tally) (v : Tallied (chunkOf (i .done) ++ (y ∷ [])) u) where
-        quiet : u .fault ≡ 0 → t .fault ≡ 0
+        quiet : noFault ≤ u .fault → noFault ≤ t .fault
         quiet e = faultless y u e (chunkOf (i .done)) t (i .summed .tallied) v
 
         light : M .sizes .unit * openedOf (chunkOf (i .done)) < 2 ^ 62

@@ -17,6 +17,7 @@ use Rattle.slopes.specs.declared.Counts.{Counts}
 use Rattle.slopes.specs.Arrays.{Arrays, slopesOf, weightOf, Able, StandsFor}
 use Rattle.slopes.specs.Actions.{Room, cost}
 use Rattle.summary.specs.Outcomes.{recordOf, chunkOf}
+use Rattle.fault.specs.Fault.{noFault}
 use Rattle.summarise.specs.declared.Tally.{Tally}
 use Rattle.summarise.specs.declared.Scan.{Scan}
 use Rattle.summarise.specs.declared.Scan.the-variants.{Refused, Done}
@@ -24,13 +25,13 @@ use Rattle.summarise.specs.Tallies.{Tallied}
 
 -- Where there is no fault, the arrays can take the record f.
 pub record Grows (M : Mode) (fault : ℕ) (f : Fields) (A : Arrays) (c : Counts) : Type 0 where
-  pub able : fault ≡ 0 → Able M A c
-  pub room : fault ≡ 0 → Room (eqb (f .kind) 1) (amounts (f .value) (f .floor) (f .ceiling)) c
+  pub able : noFault ≤ fault → Able M A c
+  pub room : noFault ≤ fault → Room (eqb (f .kind) 1) (amounts (f .value) (f .floor) (f .ceiling)) c
 
 -- Where there is no fault, they have taken it.
 abbrev pub Grown : Mode → ℕ → Fields → Arrays → Counts → Arrays → Counts → Type 0
 Grown M fault f A c A′ c′ =
-    fault ≡ 0 → StandsFor M A′ c′ (step (M .algebra) (slopesOf M A c) (recordOf f)) (weightOf M (slopesOf M A c) + cost M (eqb (f .kind) 1))
+    noFault ≤ fault → StandsFor M A′ c′ (step (M .algebra) (slopesOf M A c) (recordOf f)) (weightOf M (slopesOf M A c) + cost M (eqb (f .kind) 1))
 
 -- The arrays are whole.
 pub record Lent (A : Arrays) : Type 0 where
@@ -45,7 +46,7 @@ pub record Summed (M : Mode) (A : Arrays) (c : Counts) (t : Tally) (xs : List (R
   pub readable : AllReadable (M .algebra) (M .sizes) xs
   pub few : openedOf xs ≤ 65536
   pub tallied : Tallied xs t
-  pub hill : t .fault ≡ 0 → StandsFor M A c (hillOf (M .algebra) xs) (M .sizes .unit * openedOf xs)
+  pub hill : noFault ≤ t .fault → StandsFor M A c (hillOf (M .algebra) xs) (M .sizes .unit * openedOf xs)
 
 -- What reading a chunk to its end says of it: "is every record readable?", and the records that were read.
 abbrev pub Scanned : Mode → List ℕ → Arrays → Scan → Type 0

@@ -2,16 +2,11 @@
 use mathlib.Core.Path.{_≡_}
 use mathlib.Core.Bool.{true, false}
 use mathlib.Core.List.{List, [], _∷_}
-use Prim.Native.Nat.{ℕ, zero, suc}
-use Rattle.hill.specs.Verdict.{Verdict, pass, refuse}
+use Prim.Native.Nat.{_≤_}
 use Rattle.hill.specs.Log.{Record, startLevel, endOf, openedOf, joints}
 use Rattle.figure.specs.FourModes.{Amounts}
+use Rattle.fault.specs.Fault.{noFault, verdictOf}
 use Rattle.summarise.specs.declared.Tally.{Tally}
-
--- A fault as a number, where 0 is none.
-abbrev pub verdictOf : ℕ → Verdict
-verdictOf zero = pass
-verdictOf (suc n) = refuse (suc n)
 
 -- t tells of the chunk x ∷ xs: its levels, the lowest of faults 7 and 8, and its opened records.
 pub record Tells (x : Record Amounts) (xs : List (Record Amounts)) (t : Tally) : Type 0 where
@@ -24,7 +19,7 @@ pub record Tells (x : Record Amounts) (xs : List (Record Amounts)) (t : Tally) :
 -- There was no record yet.
 pub record Fresh (t : Tally) : Type 0 where
   pub begun : t .begun ≡ false
-  pub fault : t .fault ≡ 0
+  pub fault : noFault ≤ t .fault
   pub opened : t .opened ≡ 0
 
 abbrev pub Tallied : List (Record Amounts) → Tally → Type 0

@@ -1,52 +1,19 @@
 -- Laws of what a pass keeps beside the hill: one record more, and what it means that there is still no fault. Assumes nothing.
-use mathlib.Core.Path.{_≡_, refl, sym, ap, subst, _∙_}
+use mathlib.Core.Path.{_≡_, refl, sym, subst, _∙_}
 use mathlib.Core.Bool.{Bool, true, false, not}
 use mathlib.Core.List.{List, [], _∷_, _++_}
-use Prim.Native.Nat.{ℕ, zero, suc, _+_, _≤_, _<_}
+use Prim.Native.Nat.{ℕ, _+_, _≤_}
 use native.Mathlib.Omega.{arith}
-use lib.Dec.{T, ltb, eqb}
-use borrow.Author.Tests.{ne-eqb, eq-eqb, lt-ltb, le-ltb}
-use Rattle.hill.specs.Verdict.{Verdict, pass, refuse, lower, low, ask, between}
-use Rattle.hill.specs.VerdictLaws.{low-pass, low-fst, low-snd, between-pass}
-use Rattle.hill.specs.Log.{Record, opening, closing, startLevel, endLevel, endOf, opens, openedOf, joints}
+use lib.Dec.{T}
+use Rattle.hill.specs.Verdict.{pass, low, between}
+use Rattle.hill.specs.VerdictLaws.{low-fst, low-snd, between-pass}
+use Rattle.hill.specs.Log.{Record, startLevel, endLevel, endOf, opens, openedOf, joints}
 use Rattle.hill.specs.Growth.{grown}
 use Rattle.figure.specs.FourModes.{Amounts, net}
 use Rattle.summarise.specs.declared.Tally.{Tally}
-use Rattle.summarise.specs.Tallies.{verdictOf, Tells, Tallied}
-
--- ---- questions 7 and 8 where two records meet
-
-pub joint-unmet : (a b : ℕ) → (a ≡ b → ⊥) → refuse 7 ≡ between a b
-unfolding between
-joint-unmet a b n = rw (ne-eqb a b n) (go (ltb 0 a))
-  where
-    go : (t : Bool) → refuse 7 ≡ low (refuse 7) (ask 8 t)
-    go true = refl
-    go false = refl
-
-pub joint-ground : (a b : ℕ) → a ≡ b → a ≡ 0 → refuse 8 ≡ between a b
-unfolding between
-joint-ground a b e z = rw (eq-eqb a b e, le-ltb 0 a (omega arith))
-
-pub joint-none : (a b : ℕ) → a ≡ b → (a ≡ 0 → ⊥) → pass ≡ between a b
-unfolding between
-joint-none a b e z = rw (eq-eqb a b e, lt-ltb 0 a (omega arith))
-
--- ---- the lower of two faults
-
-pub lower-first : (a b : ℕ) → (a ≡ 0 → ⊥) → (b ≡ 0 → ⊥) → a < b → verdictOf a ≡ low (verdictOf a) (verdictOf b)
-lower-first zero b na nb h = absurd (na refl)
-lower-first (suc a) zero na nb h = absurd (nb refl)
-lower-first (suc a) (suc b) na nb h = ap refuse (omega arith)
-
-pub lower-second : (a b : ℕ) → (a ≡ 0 → ⊥) → (b ≡ 0 → ⊥) → b ≤ a → verdictOf b ≡ low (verdictOf a) (verdictOf b)
-lower-second zero b na nb h = absurd (na refl)
-lower-second (suc a) zero na nb h = absurd (nb refl)
-lower-second (suc a) (suc b) na nb h = ap refuse (omega arith)
-
-no-fault : (n : ℕ) → verdictOf n ≡ pass → n ≡ 0
-no-fault zero e = refl
-no-fault (suc n) e = cc
+use Rattle.fault.specs.Fault.{noFault, verdictOf}
+use Rattle.fault.specs.Laws.{clear, clear-is, is-clear}
+use Rattle.summarise.specs.Tallies.{Tells, Tallied}
 
 -- ---- one record more
 
@@ -65,8 +32,8 @@ pub not-both : {b : Bool} → b ≡ true → b ≡ false → ⊥
 not-both e f = subst T (sym e ∙ f) tt
 
 module _ (y : Record Amounts) {from to o : ℕ} (es : startLevel y ≡ from) (ee : endLevel y ≡ to) (eo : opens y ≡ o) (t : Tally) where
-  pub first : (xs : List (Record Amounts)) → not (t .begun) ≡ true → Tallied xs t → Tallied (xs ++ (y ∷ [])) (tally from to 0 o)
-  first [] b s = record { begun = refl; start = sym es; level = sym ee; fault = refl; opened = omega arith }
+  pub first : (xs : List (Record Amounts)) → not (t .begun) ≡ true → Tallied xs t → Tallied (xs ++ (y ∷ [])) (tally from to noFault o)
+  first [] b s = record { begun = refl; start = sym es; level = sym ee; fault = clear noFault (omega arith); opened = omega arith }
   first (x ∷ xs) b s = absurd (not-both (s .begun) (not-begun (t .begun) b))
 
   pub further : (xs : List (Record Amounts)) (f j : ℕ) → not (t .begun) ≡ false → verdictOf f ≡ low (verdictOf (t .fault)) (verdictOf j) → verdictOf j ≡ between (t .level) from → Tallied xs t
@@ -88,16 +55,16 @@ opened-is (x ∷ xs) t s = s .opened
 
 -- ---- where there is still no fault after one record more, there was none before it, and the two met
 
-module _ (y : Record Amounts) (u : Tally) (e : u .fault ≡ 0) where
+module _ (y : Record Amounts) (u : Tally) (e : noFault ≤ u .fault) where
   no-joint : (x : Record Amounts) (xs : List (Record Amounts)) → Tells x (xs ++ (y ∷ [])) u → low (joints x xs) (between (endOf x xs) (startLevel y)) ≡ pass
-  no-joint x xs s = sym (grown net x xs y .joint) ∙ sym (s .fault) ∙ ap verdictOf e
+  no-joint x xs s = sym (grown net x xs y .joint) ∙ clear-is (s .fault) e
 
   pub met : (x : Record Amounts) (xs : List (Record Amounts)) → Tells x (xs ++ (y ∷ [])) u → endOf x xs ≡ startLevel y
   met x xs s = between-pass (endOf x xs) (startLevel y) (low-snd (joints x xs) (between (endOf x xs) (startLevel y)) (no-joint x xs s))
 
-  pub faultless : (xs : List (Record Amounts)) (t : Tally) → Tallied xs t → Tallied (xs ++ (y ∷ [])) u → t .fault ≡ 0
+  pub faultless : (xs : List (Record Amounts)) (t : Tally) → Tallied xs t → Tallied (xs ++ (y ∷ [])) u → noFault ≤ t .fault
   faultless [] t s v = s .fault
-  faultless (x ∷ xs) t s v = no-fault (t .fault) (s .fault ∙ low-fst (joints x xs) (between (endOf x xs) (startLevel y)) (no-joint x xs v))
+  faultless (x ∷ xs) t s v = is-clear (t .fault) (s .fault ∙ low-fst (joints x xs) (between (endOf x xs) (startLevel y)) (no-joint x xs v))
 
-pub joints-pass : (x : Record Amounts) (xs : List (Record Amounts)) (t : Tally) → Tells x xs t → t .fault ≡ 0 → joints x xs ≡ pass
-joints-pass x xs t s e = sym (s .fault) ∙ ap verdictOf e
+pub joints-pass : (x : Record Amounts) (xs : List (Record Amounts)) (t : Tally) → Tells x xs t → noFault ≤ t .fault → joints x xs ≡ pass
+joints-pass x xs t s e = clear-is (s .fault) e

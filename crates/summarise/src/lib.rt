@@ -4,7 +4,7 @@ ghost use mathlib.Core.List.{List, [], _∷_, _++_};
 ghost use Prim.Native.Nat.{ℕ, _≤_};
 ghost use lib.ListN.{length};
 ghost use Rattle.hill.specs.Log.{Record, startLevel, endLevel, opens as openedBy};
-ghost use Rattle.hill.specs.Verdict.{low, between, ends};
+ghost use Rattle.hill.specs.Verdict.{ends};
 ghost use Rattle.hill.specs.Finish.{outcome};
 ghost use Rattle.figure.specs.FourModes.{Amounts, storeHeld};
 ghost use Rattle.figure.specs.Mode.{modeOf};
@@ -16,7 +16,7 @@ ghost use Rattle.summary.specs.Layout.{encode};
 ghost use Rattle.summary.specs.Outcomes.{summariseOutcome, summaryBytes, finishOutcome};
 ghost use Rattle.hill.specs.Summary.{blank, part, spoilt, whole};
 ghost use Rattle.slopes.specs.Arrays.{arrays, slopesOf};
-ghost use Rattle.summarise.specs.Tallies.{verdictOf, Tallied};
+ghost use Rattle.summarise.specs.Tallies.{Tallied};
 ghost use Rattle.summarise.specs.Scans.{Grows, Grown, Lent, Summed, Scanned, Concludes};
 ghost use Rattle.summarise.specs.Answered.{Answers, Writable};
 use gate::Finished;
@@ -28,48 +28,19 @@ use record::Fields;
 use record::Read;
 use slopes::Counts;
 
-// What a pass over records keeps beside their hill: whether there was one, the start level, the level reached, the lowest of faults 7 and 8 (0 is none)
-// and the opened records.
+// What a pass over records keeps beside their hill: whether there was one, the start level, the level reached, the lowest of faults 7 and 8, and the
+// opened records.
 struct Tally {
     begun: bool,
     start: u16,
     level: u16,
-    fault: u16,
+    fault: u8,
     opened: u32,
 }
 
 enum Scan {
     Refused,
     Done(Tally, Counts),
-}
-
-// Questions 7 and 8 between a record that ends at one level and the next, which starts at another: the lowest "no", or 0.
-fn joint(end: u16, start: u16) -> u16
-    ensures { λ r. ⌜ verdictOf r ≡ between end start ⌝ }
-{
-    if end != start {
-        return 7;
-    }
-    if end == 0 {
-        return 8;
-    }
-    0
-}
-
-// The lower of two faults.
-fn lower(a: u16, b: u16) -> u16
-    ensures { λ r. ⌜ verdictOf r ≡ low (verdictOf a) (verdictOf b) ⌝ }
-{
-    if a == 0 {
-        return b;
-    }
-    if b == 0 {
-        return a;
-    }
-    if a < b {
-        return a;
-    }
-    b
 }
 
 // One record more, which goes from one level to another.
@@ -82,7 +53,7 @@ fn passed(t: Tally, from: u16, to: u16, opens: u32) -> Tally
             begun: true,
             start: from,
             level: to,
-            fault: 0,
+            fault: fault::NONE,
             opened: opens,
         };
     }
@@ -90,7 +61,7 @@ fn passed(t: Tally, from: u16, to: u16, opens: u32) -> Tally
         begun: true,
         start: t.start,
         level: to,
-        fault: lower(t.fault, joint(t.level, from)),
+        fault: fault::lower(t.fault, fault::joint(t.level, from)),
         opened: t.opened + opens,
     }
 }
@@ -108,7 +79,7 @@ fn note(t: Tally, opens: bool, depth: u16) -> Tally
 // The hill takes a record as long as there is no fault: a chunk with one has no hill.
 fn grow(
     mode: u16,
-    fault: u16,
+    fault: u8,
     f: Fields,
     left: &mut [i64; 64],
     values: &mut [i32; 64],
@@ -121,7 +92,7 @@ fn grow(
     ensures { λ r. ⌜ Grown (modeOf mode) fault f (arrays (now (left .entry)) (now (values .entry)) (now (floors .entry)) (now (ceilings .entry)) (now (held .entry))) c
         (arrays (now (left .exit)) (now (values .exit)) (now (floors .exit)) (now (ceilings .exit)) (now (held .exit))) r ⌝ }
 {
-    if fault != 0 {
+    if fault < fault::NONE {
         return c;
     }
     slopes::apply(
@@ -157,7 +128,7 @@ fn read_chunk(
         begun: false,
         start: 0,
         level: 0,
-        fault: 0,
+        fault: fault::NONE,
         opened: 0,
     };
     let mut c = Counts {
@@ -195,7 +166,7 @@ fn put_spoilt(mode: u16, t: Tally, out: &mut [u8]) -> Written
     if out.len() < 16 {
         return Written::Refused(12);
     }
-    Written::Bytes(codec::write_spoilt(mode, t.fault, t.start, t.level, t.opened, out))
+    Written::Bytes(codec::write_spoilt(mode, t.fault as u16, t.start, t.level, t.opened, out))
 }
 
 fn put_hill(
@@ -250,7 +221,7 @@ fn conclude(
     if !t.begun {
         return put_blank(mode, out);
     }
-    if t.fault != 0 {
+    if t.fault < fault::NONE {
         return put_spoilt(mode, t, out);
     }
     let peak = t.start - (c.nl as u16);
@@ -305,11 +276,9 @@ pub fn summarise(chunk: &[u8], mode: u32, out: &mut [u8]) -> Written
 fn finish_hill(h: HillHead) -> Finished
     ensures { λ r. ⌜ finishedAnswer r ≡ outcome (ends (h .start) (h .end)) (storeHeld (h .middle)) ⌝ }
 {
-    if h.start != 0 {
-        return Finished::Refused(11);
-    }
-    if h.end != 0 {
-        return Finished::Refused(11);
+    let fault = fault::ends(h.start, h.end);
+    if fault < fault::NONE {
+        return Finished::Refused(fault);
     }
     let middle = h.middle;
     Finished::Figure(figure::store_held(middle))

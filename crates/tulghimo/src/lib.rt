@@ -5,7 +5,8 @@ ghost use lib.ListN.{length};
 ghost use Rattle.gate.specs.Outcome.{result, bufferAfter};
 ghost use Rattle.gate.specs.Answers.{writtenAnswer, lengthAnswered};
 ghost use Rattle.record.specs.Record.{readOf};
-ghost use Rattle.summary.specs.Outcomes.{summariseOutcome, finishOutcome};
+ghost use Rattle.summary.specs.Outcomes.{summariseOutcome, mergeOutcome, finishOutcome};
+ghost use Rattle.outcome.specs.Outcomes.{mergeRowOutcome, planOutcome, runsOutcome};
 ghost use Rattle.day.specs.Day.{dayOutcome};
 ghost use Rattle.tulghimo.specs.Interface.{statusOf, lengthStatus, Short, fieldsAfter, figureAfter, figuresAfter};
 use day::Day;
@@ -82,6 +83,25 @@ pub extern "C" fn tulghimo_summarise(chunk: &[u8], mode: u32, out: &mut [u8]) ->
     status(summarise::summarise(chunk, mode, out))
 }
 
+// Merges two summaries: the length of theirs, or -5, -6 or -12 and `out` as it was.
+#[no_mangle]
+pub extern "C" fn tulghimo_merge(left: &[u8], right: &[u8], out: &mut [u8]) -> i64
+    ensures answer { λ r. ⌜ r ≡ lengthStatus (lengthAnswered (mergeOutcome (now (left .entry)) (now (right .entry)) (length (now (out .entry))))) ⌝ }
+    ensures buffer { λ _. ⌜ now (out .exit) ≡ bufferAfter (mergeOutcome (now (left .entry)) (now (right .entry)) (length (now (out .entry)))) (now (out .entry)) ⌝ }
+{
+    status(merge::merge(left, right, out))
+}
+
+// Merges a row, its summaries end to end: the length of theirs, or -4, -5, -6 or -12 and `out` as it was.
+#[no_mangle]
+pub extern "C" fn tulghimo_merge_row(row: &[u8], out: &mut [u8]) -> i64
+    ensures answer { λ r. ⌜ r ≡ lengthStatus (lengthAnswered (mergeRowOutcome (now (row .entry)) (length (now (out .entry))))) ⌝ }
+    ensures buffer { λ _. ⌜ now (out .exit) ≡ bufferAfter (mergeRowOutcome (now (row .entry)) (length (now (out .entry)))) (now (out .entry)) ⌝ }
+{
+    let w = merge::merge_row(row, out);
+    status(w)
+}
+
 // Finishes one summary: 0 and its figure, or minus the refusal and `figure` as it was.
 #[no_mangle]
 pub extern "C" fn tulghimo_finish(summary: &[u8], figure: &mut [i64; 1]) -> i64
@@ -93,6 +113,26 @@ pub extern "C" fn tulghimo_finish(summary: &[u8], figure: &mut [i64; 1]) -> i64
         Finished::Figure(z) => put_figure(z, figure),
         Finished::Refused(n) => refusal(n),
     }
+}
+
+// The plan of a row: the length of its lines, or -4 to -12 and `out` as it was.
+#[no_mangle]
+pub extern "C" fn tulghimo_plan(row: &[u8], out: &mut [u8]) -> i64
+    ensures answer { λ r. ⌜ r ≡ lengthStatus (lengthAnswered (planOutcome (now (row .entry)) (length (now (out .entry))))) ⌝ }
+    ensures buffer { λ _. ⌜ now (out .exit) ≡ bufferAfter (planOutcome (now (row .entry)) (length (now (out .entry)))) (now (out .entry)) ⌝ }
+{
+    let lines = plan::plan(row, out);
+    status(lines)
+}
+
+// The runs of a row's plan, one for each line: their length, or -4 to -12 and `out` as it was.
+#[no_mangle]
+pub extern "C" fn tulghimo_runs(row: &[u8], out: &mut [u8]) -> i64
+    ensures answer { λ r. ⌜ r ≡ lengthStatus (lengthAnswered (runsOutcome (now (row .entry)) (length (now (out .entry))))) ⌝ }
+    ensures buffer { λ _. ⌜ now (out .exit) ≡ bufferAfter (runsOutcome (now (row .entry)) (length (now (out .entry)))) (now (out .entry)) ⌝ }
+{
+    let written = runs::runs(row, out);
+    status(written)
 }
 
 // The figures of a whole log: 0 and net, heaviest, eaten and stamp, or minus the refusal and `figures` as it was.

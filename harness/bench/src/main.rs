@@ -2,6 +2,7 @@
 //! not cleared between calls. Run with `cargo run --release -p bench`.
 
 mod recursion;
+mod rows;
 
 use reference::gen::logs::{encode_mixed, log, Shape, Values};
 use reference::gen::Rng;
@@ -53,9 +54,9 @@ fn main() {
         let chunk = full_chunk(shape);
         let records = records_of(&chunk).expect("readable").len();
         for mode in 1..=4u32 {
-            assert!(tulghimo::summarise(&chunk, mode, &mut out) > 0);
+            assert!(tulghimo::raw::summarise(&chunk, mode, &mut out) > 0);
             let library = seconds(200, || {
-                black_box(tulghimo::summarise(black_box(&chunk), mode, &mut out));
+                black_box(tulghimo::raw::summarise(black_box(&chunk), mode, &mut out));
             });
             let plain = seconds(200, || {
                 black_box(recursion::figure(black_box(&chunk), mode));
@@ -63,14 +64,15 @@ fn main() {
             line(&format!("summarise {mode} {name}"), chunk.len(), records, library, plain);
         }
         let mut figures = [0i64; 4];
-        assert_eq!(tulghimo::day(&chunk, &mut figures), 0);
+        assert_eq!(tulghimo::raw::day(&chunk, &mut figures), 0);
         assert_eq!(Some(figures), recursion::all_figures(&chunk));
         let library = seconds(200, || {
-            black_box(tulghimo::day(black_box(&chunk), &mut figures));
+            black_box(tulghimo::raw::day(black_box(&chunk), &mut figures));
         });
         let plain = seconds(200, || {
             black_box(recursion::all_figures(black_box(&chunk)));
         });
         line(&format!("day {name}"), chunk.len(), records, library, plain);
     }
+    rows::bench();
 }

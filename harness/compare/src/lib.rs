@@ -1,4 +1,6 @@
-//! Lent buffers with guards around them, for comparing what a call leaves in every byte.
+//! Lent buffers with guards around them, for comparing what a call leaves in every byte; [`agree`] compares each call so.
+
+pub mod agree;
 
 /// Numbers that no call answers: a field that still holds one was not written.
 pub const UNTOUCHED: i64 = 0x5aa5_1234_5aa5_4321;
@@ -50,7 +52,7 @@ impl LentBytes {
 
     /// The call's answer, with every byte of the buffer and of the guards held to what the call must come to: the result at the
     /// front and the rest as it was, or all as it was.
-    pub fn check(mut self, expected: &Result<Vec<u8>, u8>, call: impl FnOnce(&mut [u8]) -> i64) {
+    pub fn check(mut self, expected: &Result<Vec<u8>, u8>, call: impl FnOnce(&mut [u8]) -> i64) -> i64 {
         let mut wanted = self.all.clone();
         let wanted_answer = match expected {
             Ok(written) => {
@@ -60,18 +62,56 @@ impl LentBytes {
             Err(number) => -i64::from(*number),
         };
         let answer = call(&mut self.all[GUARD..GUARD + self.capacity]);
-        assert_eq!(answer, wanted_answer);
-        assert!(self.all == wanted, "a byte differs");
+        assert_eq!(answer, wanted_answer, "the library's answer and the reference's, with {} bytes lent", self.capacity);
+        let differs = (0..wanted.len()).find(|&place| self.all[place] != wanted[place]);
+        assert_eq!(differs.map(|place| place as i64 - GUARD as i64), None, "the place of a byte that differs");
+        answer
     }
 }
 
-/// Buffers around the length of a result: empty, one short, exact, one longer, much longer.
+/// Buffers around the length of a result: all up to a short one, a few around a long one, and a much longer one.
 pub fn capacities(ample: &Result<Vec<u8>, u8>) -> Vec<usize> {
-    match ample {
-        Ok(written) => {
-            let exact = written.len();
-            vec![0, exact.saturating_sub(1), exact, exact + 1, exact + 300]
-        }
+    match ample.as_ref().map(Vec::len) {
+        Ok(exact) if exact <= 16 => (0..=exact + 2).chain([exact + 300]).collect(),
+        Ok(exact) => vec![0, 6, exact - 2, exact - 1, exact, exact + 1, exact + 2, exact + 300],
         Err(_) => vec![0, 6, 300],
+    }
+}
+
+#[cfg(test)]
+mod tests {
+    use super::LentBytes;
+    use std::panic::catch_unwind;
+
+    /// Whether a call passes that answers a number and writes these bytes at a place, where two bytes 7 are wanted in six.
+    fn passes(answer: i64, place: usize, written: &'static [u8]) -> bool {
+        let call = move |out: &mut [u8]| {
+            out[place..place + written.len()].copy_from_slice(written);
+            answer
+        };
+        catch_unwind(move || LentBytes::new(6).check(&Ok(vec![7, 7]), call)).is_ok()
+    }
+
+    #[test]
+    fn a_wrong_answer_or_byte_is_noticed() {
+        assert!(passes(2, 0, &[7, 7]));
+        assert!(!passes(3, 0, &[7, 7]));
+        assert!(!passes(-12, 0, &[7, 7]));
+        assert!(!passes(2, 0, &[7]));
+        assert!(!passes(2, 1, &[7, 7]));
+        assert!(!passes(2, 0, &[7, 7, 0]));
+    }
+
+    #[test]
+    fn a_byte_in_a_guard_is_noticed() {
+        for beyond in [-1, 6] {
+            let call = move |out: &mut [u8]| {
+                out[..2].fill(7);
+                // SAFETY: the guards stand in the same allocation as the lent bytes.
+                unsafe { *out.as_mut_ptr().offset(beyond) ^= 1 };
+                2
+            };
+            assert!(catch_unwind(move || LentBytes::new(6).check(&Ok(vec![7, 7]), call)).is_err());
+        }
     }
 }

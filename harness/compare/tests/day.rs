@@ -1,14 +1,9 @@
 //! The day's figures: the proved library against the recursive tally.
 
-use compare::{numbers_outcome, LentNumbers};
-use reference::calls;
+use compare::agree::day as agree;
+use compare::LentNumbers;
 use reference::gen::{damage, logs, Rng};
 use reference::record::{encode_all, encode_close, Open, Record};
-
-fn agree(log: &[u8]) {
-    let answer = LentNumbers::default().lend(|figures| tulghimo::day(log, figures));
-    assert_eq!(answer, numbers_outcome(calls::day(log)));
-}
 
 fn open(depth: usize, value: i64, floor: i64, ceiling: i64) -> Record {
     Record::Open(Open { depth, value, floor, ceiling })
@@ -21,7 +16,7 @@ fn close(depth: usize) -> Record {
 #[test]
 fn log_d() {
     let log = [open(0, 10, 0, 100), open(1, 5, 0, 4), close(1), open(1, -3, 0, 100), close(1), close(0)];
-    let answer = LentNumbers::default().lend(|figures| tulghimo::day(&encode_all(&log), figures));
+    let answer = LentNumbers::default().lend(|figures| tulghimo::raw::day(&encode_all(&log), figures));
     // Document 01: `12 15 14 72`.
     assert_eq!(answer, (0, [12, 15, 14, 72]));
 }

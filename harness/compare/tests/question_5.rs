@@ -1,17 +1,13 @@
 //! Question 5 by way of finish: each clause at its edge and past it, in each mode, the proved library against the reference.
 
-use compare::{numbers_outcome, LentNumbers};
-use reference::calls;
+use compare::agree::finish;
 
 const LEAST: i64 = i64::MIN;
 const GRAMS: i64 = 1_000_000_000;
 
-/// Finish must answer alike; whether the bytes are taken is what the reference says.
+/// Finish must answer alike. Gives whether the bytes are taken.
 fn agree(bytes: &[u8]) -> bool {
-    let answer = LentNumbers::default().lend(|figure| tulghimo::finish(bytes, figure));
-    let expected = calls::finish(bytes);
-    assert_eq!(answer, numbers_outcome(expected.map(|figure| [figure])), "{bytes:?}");
-    expected != Err(5)
+    finish(bytes) != [-5]
 }
 
 /// A hill, field by field, whether accepted or not.

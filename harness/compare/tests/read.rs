@@ -1,19 +1,14 @@
 //! Reading the first record: the proved library against the reference and against document 01.
 
-use compare::{numbers_outcome, LentNumbers};
-use reference::calls;
+use compare::agree::read as agree;
+use compare::LentNumbers;
 use reference::gen::{damage, logs, Rng};
 use reference::record::{encode_all, encode_close, encode_full, encode_short, Open};
 
 const LIMIT: i64 = 1_000_000_000;
 
 fn read(chunk: &[u8]) -> (i64, [i64; 6]) {
-    LentNumbers::default().lend(|fields| tulghimo::read(chunk, fields))
-}
-
-/// The library and the reference agree on the answer and on every number of the buffer.
-fn agree(chunk: &[u8]) {
-    assert_eq!(read(chunk), numbers_outcome(calls::read(chunk)), "chunk {chunk:?}");
+    LentNumbers::default().lend(|fields| tulghimo::raw::read(chunk, fields))
 }
 
 /// An open record of length 18, field by field, whether readable or not.

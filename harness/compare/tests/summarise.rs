@@ -1,6 +1,6 @@
 //! Summarise and finish: the proved library against the reference, every byte of every buffer.
 
-use compare::{capacities, numbers_outcome, LentBytes, LentNumbers};
+use compare::agree::{finish as finish_agrees, summarise as agree};
 use reference::calls;
 use reference::gen::{damage, forged, logs, Rng};
 use reference::layout::encode;
@@ -8,20 +8,6 @@ use reference::mode::Mode;
 use reference::record::{encode_all, encode_close, encode_full, encode_short, Open, Record};
 
 const AMPLE: usize = 4096;
-
-/// Summarise a chunk in a mode into buffers of all lengths that matter.
-fn agree(chunk: &[u8], mode: u32) {
-    for capacity in capacities(&calls::summarise(chunk, mode, AMPLE)) {
-        let expected = calls::summarise(chunk, mode, capacity);
-        LentBytes::new(capacity).check(&expected, |out| tulghimo::summarise(chunk, mode, out));
-    }
-}
-
-/// Finish bytes.
-fn finish_agrees(summary: &[u8]) {
-    let answer = LentNumbers::default().lend(|figure| tulghimo::finish(summary, figure));
-    assert_eq!(answer, numbers_outcome(calls::finish(summary).map(|figure| [figure])), "{summary:?}");
-}
 
 /// A chunk in each mode, and the finish of its summary.
 fn all_modes(chunk: &[u8]) {

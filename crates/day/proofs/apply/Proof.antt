@@ -35,7 +35,7 @@ stamp-is : (c : tie.After-struct-told7) → toZ w64 (ofZ w64 (c .before .before 
 stamp-is c = let h : mag (c .before .before .before .before .before .before .before .before .before .before .before .before .before .before .before .before .before .before .before .before .before .before .before .before .before .before .before .args .mid .stamp) < 2 ^ 63 = search needs in back w64 (c .before .before .before .before .before .before .before .before .before .before .before .before .before .before .before .before .before .before .before .before .before .before .before .before .before .before .before .args .mid .stamp) h
 
 returns : tie.Need-returns
-returns c z = absurd (c .if1 .taken z)
+returns c z = absurd (omega (arith, c .if1 .taken))
 
 cast-depth : tie.Need-cast-depth
 cast-depth c = search needs

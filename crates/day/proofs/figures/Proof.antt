@@ -11,7 +11,7 @@ use Rattle.gate.specs.Outcome.{result}
 use Rattle.record.specs.Record.{readOf, answerOf}
 use Rattle.record.specs.Laws.{sound}
 use Rattle.hill.specs.Verdict.{low, ask}
-use Rattle.day.specs.Levels.{verdictOf}
+use Rattle.fault.specs.Fault.{verdictOf}
 use Rattle.day.specs.DayLaws.{too-long}
 use Rattle.day.specs.Loop as laws
 use Rattle.day.specs.Loop.{Inv}
@@ -52,7 +52,7 @@ nothing-requires-4 c κs = search needs
 
 loop-holds : tie.Need-loop-holds Inv-loop μ-loop
 loop-holds c =
-    laws.begin (c .before .before .before .before .if1 .left) refl refl refl
+    laws.begin (c .before .before .before .before .if1 .left) refl refl (omega arith)
     (record {
       values = refl;
       floors = refl;

@@ -7,7 +7,8 @@ use Rattle.hill.specs.Verdict.{low}
 use Rattle.record.specs.declared.Fields.{Fields}
 use Rattle.summary.specs.Outcomes.{recordOf}
 use Rattle.day.specs.declared.Tally.{Tally}
-use Rattle.day.specs.Levels.{verdictOf, meeting, Noted}
+use Rattle.fault.specs.Fault.{verdictOf}
+use Rattle.day.specs.Levels.{meeting, Noted}
 use Rattle.day.specs.Pass.{is-open, is-close}
 use borrow.Author.Needs.{needs}
 use Rattle.day.proofs.note.Statement.{statement}
@@ -23,9 +24,6 @@ module _ (t : Tally) (f : Fields) {t′ : Tally} (m s : ℕ) where
       → verdictOf (t′ .fault) ≡ low (verdictOf (t .fault)) (verdictOf m) → Noted t (recordOf f) t′
   close-way k b l e p q = rw (is-close f k) record { begun = b; level = l; fault = rw (sym e) (q ∙ ap (low (verdictOf (t .fault))) p) }
 
-cast-depth : tie.Need-cast-depth
-cast-depth c = search needs
-
 add-t5 : tie.Need-add-t5
 add-t5 c = search needs
 
@@ -36,7 +34,7 @@ lower-requires : tie.Need-lower-requires
 lower-requires c κs = search needs
 
 returns : tie.Need-returns
-returns c = let a = c .before .before .before .before .before .args in open-way (a .t) (a .f) (c .before .meet .result) (a .f .depth) (c .before .before .if1 .taken) refl (add-one _) refl (c .before .meet .ensures) (c .lower .ensures)
+returns c = let a = c .before .before .before .before .args in open-way (a .t) (a .f) (c .before .meet .result) (a .f .depth) (c .before .before .if1 .taken) refl (add-one _) refl (c .before .meet .ensures) (c .lower .ensures)
 
 add-meet : tie.Need-add-meet
 add-meet c = search needs
@@ -48,13 +46,12 @@ lower-requires-2 : tie.Need-lower-requires-2
 lower-requires-2 c κs = search needs
 
 returns-2 : tie.Need-returns-2
-returns-2 c = let a = c .before .before .before .before .before .args in close-way (a .t) (a .f) (c .before .meet2 .result) (a .f .depth + 1) (c .before .before .if1 .left) refl refl (add-one _) (c .before .meet2 .ensures) (c .lower2 .ensures)
+returns-2 c = let a = c .before .before .before .before .args in close-way (a .t) (a .f) (c .before .meet2 .result) (a .f .depth + 1) (c .before .before .if1 .left) refl refl (add-one _) (c .before .meet2 .ensures) (c .lower2 .ensures)
 
 pub note-spec : {M : Type 1} → statement M
 note-spec =
     tie.close
     (tie.spec
-    cast-depth
     add-t5
     meet-requires
     lower-requires

@@ -7,11 +7,6 @@ use denote.Ref.{now}
 use Rattle.summarise.specs.AnsweredLaws.{become, blank-is, spoilt-is, rises, writable, hill-is}
 use Rattle.summarise.proofs.conclude.Statement.{statement}
 use Rattle.summarise.proofs.conclude.Tie as tie
-use Rattle.summarise.proofs.conclude.Reads as reads
-use Rattle.summarise.proofs.conclude.Lts as lts
-use Rattle.summarise.proofs.put_blank.Reads as put-blank-reads
-use Rattle.summarise.proofs.put_hill.Reads as put-hill-reads
-use Rattle.summarise.proofs.put_spoilt.Reads as put-spoilt-reads
 
 put-blank-requires : tie.Need-put-blank-requires
 put-blank-requires c κs = search needs

@@ -7,10 +7,6 @@ use Rattle.judge.specs.Laws.{Judges, judges, judges-not}
 use Rattle.summarise.specs.FinishLaws.{not-one, is-blank, fault-small, is-spoilt, is-hill}
 use Rattle.summarise.proofs.finish.Statement.{statement}
 use Rattle.summarise.proofs.finish.Tie as tie
-use Rattle.summarise.proofs.finish.Reads as reads
-use Rattle.summarise.proofs.finish.Lts as lts
-use Rattle.judge.proofs.judge.Reads as judge-reads
-use Rattle.summarise.proofs.finish_hill.Reads as finish-hill-reads
 
 -- the bytes are the summary that was told
 judged : (c : tie.After-p) → Judges (now (c .before .before .before .before .args .summary)) (c .p .given .0 .0)

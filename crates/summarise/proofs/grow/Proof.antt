@@ -1,5 +1,6 @@
 -- `summarise::grow` meets its contract. Assumes nothing.
 use mathlib.Core.Path.{_≡_}
+use native.Mathlib.Omega.{arith}
 use borrow.Author.Needs.{needs}
 use denote.Ref.{now}
 use mir.Syntax.{w32}
@@ -10,9 +11,6 @@ use Rattle.slopes.specs.Arrays.{arrays, slopesOf}
 use Rattle.summarise.specs.ScanLaws.{same-room, taken}
 use Rattle.summarise.proofs.grow.Statement.{statement}
 use Rattle.summarise.proofs.grow.Tie as tie
-use Rattle.summarise.proofs.grow.Reads as reads
-use Rattle.summarise.proofs.grow.Lts as lts
-use Rattle.slopes.proofs.apply.Reads as apply-reads
 
 -- the record's numbers, as they are read
 abbrev f : tie.After-struct-told3 → Fields
@@ -28,7 +26,7 @@ ceiling-is : (c : tie.After-struct-told3) → toZ w32 (ofZ w32 (f c .ceiling)) �
 ceiling-is c = search needs
 
 returns : tie.Need-returns
-returns c e = absurd (c .if1 .taken e)
+returns c e = absurd (omega (arith, c .if1 .taken))
 
 apply-requires : tie.Need-apply-requires
 apply-requires c κs =

@@ -2,8 +2,7 @@
 use mathlib.Core.Path.{_≡_, refl, sym}
 use mathlib.Core.Bool.{Bool, true, false}
 use mathlib.Core.List.{List, [], _∷_, _++_}
-use Prim.Native.Nat.{ℕ, suc, _+_}
-use native.Mathlib.Omega.{arith}
+use Prim.Native.Nat.{ℕ, _+_}
 use native.Mathlib.Numerals.{add-one}
 use borrow.Author.Needs.{needs}
 use Rattle.hill.specs.Log.{Record, startLevel, endLevel, opens}
@@ -13,9 +12,6 @@ use Rattle.summarise.specs.declared.Tally.{Tally}
 use Rattle.summarise.specs.Tallies.{Tallied}
 use Rattle.summarise.proofs.note.Statement.{statement}
 use Rattle.summarise.proofs.note.Tie as tie
-use Rattle.summarise.proofs.note.Reads as reads
-use Rattle.summarise.proofs.note.Lts as lts
-use Rattle.summarise.proofs.passed.Reads as passed-reads
 
 -- what `passed` has left
 abbrev More : Tally → (from to o : ℕ) → Tally → Type 0

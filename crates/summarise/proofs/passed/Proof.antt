@@ -3,10 +3,6 @@ use borrow.Author.Needs.{needs}
 use Rattle.summarise.specs.TallyLaws.{first, further}
 use Rattle.summarise.proofs.passed.Statement.{statement}
 use Rattle.summarise.proofs.passed.Tie as tie
-use Rattle.summarise.proofs.passed.Reads as reads
-use Rattle.summarise.proofs.passed.Lts as lts
-use Rattle.summarise.proofs.joint.Reads as joint-reads
-use Rattle.summarise.proofs.lower.Reads as lower-reads
 
 returns : tie.Need-returns
 returns c xs y s es ee eo = first y es ee eo (c .before .before .args .t) xs (c .if1 .taken) s

@@ -7,9 +7,6 @@ use Rattle.summary.specs.Accepted.{encode-length}
 use Rattle.summarise.specs.AnsweredLaws.{too-long, fitting}
 use Rattle.summarise.proofs.put_blank.Statement.{statement}
 use Rattle.summarise.proofs.put_blank.Tie as tie
-use Rattle.summarise.proofs.put_blank.Reads as reads
-use Rattle.summarise.proofs.put_blank.Lts as lts
-use Rattle.codec.proofs.write_blank.Reads as write-blank-reads
 
 returns : tie.Need-returns
 returns c =

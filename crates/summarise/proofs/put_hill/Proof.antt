@@ -5,14 +5,10 @@ use denote.Ref.{now}
 use Rattle.hill.specs.Summary.{part, whole}
 use Rattle.figure.specs.Mode.{modeOf}
 use Rattle.slopes.specs.Arrays.{arrays, slopesOf}
-use Rattle.codec.specs.Contracts.{Writes}
 use Rattle.summary.specs.Layout.{encode}
 use Rattle.summarise.specs.AnsweredLaws.{too-long, fitting, hill-length-is}
 use Rattle.summarise.proofs.put_hill.Statement.{statement}
 use Rattle.summarise.proofs.put_hill.Tie as tie
-use Rattle.summarise.proofs.put_hill.Reads as reads
-use Rattle.summarise.proofs.put_hill.Lts as lts
-use Rattle.codec.proofs.write_hill.Reads as write-hill-reads
 
 mul-if1 : tie.Need-mul-if1
 mul-if1 c = search needs

@@ -1,6 +1,6 @@
 -- `summarise::read_chunk` meets its contract. The invariant's laws are in `ScanLaws`. Assumes nothing.
 use mathlib.Core.Path.{_≡_, refl, sym, ap, _∙_}
-use mathlib.Core.List.{List, [], _∷_, _++_}
+use mathlib.Core.List.{[], _∷_, _++_}
 use native.Mathlib.Omega.{arith}
 use borrow.Author.Needs.{needs}
 use lib.Dec.{eqb}
@@ -21,12 +21,6 @@ use Rattle.summarise.specs.Tallies.{Tallied}
 use Rattle.summarise.specs.ScanLaws.{Inv, begin, opened-low, in-range, grows, again}
 use Rattle.summarise.proofs.read_chunk.Statement.{statement}
 use Rattle.summarise.proofs.read_chunk.Tie as tie
-use Rattle.summarise.proofs.read_chunk.Reads as reads
-use Rattle.summarise.proofs.read_chunk.Lts as lts
-use Rattle.figure.proofs.nothing.Reads as nothing-reads
-use Rattle.record.proofs.read_first.Reads as read-first-reads
-use Rattle.summarise.proofs.grow.Reads as grow-reads
-use Rattle.summarise.proofs.note.Reads as note-reads
 
 abbrev Inv-loop : tie.InvT-loop
 Inv-loop mode chunk left₀ values₀ floors₀ ceilings₀ held₀ t₀ c₀ rest₀ left values floors ceilings held t c rest =
@@ -53,7 +47,7 @@ nothing-requires c κs = search needs
 loop-holds : tie.Need-loop-holds Inv-loop μ-loop
 loop-holds c =
     let a = c .before .before in
-    begin (modeOf (a .args .mode)) _ _ _ _ (a .pre .1) (back w64 (c .nothing .result) (c .nothing .ok) ∙ c .nothing .ensures) (record { begun = refl; fault = refl; opened = refl })
+    begin (modeOf (a .args .mode)) _ _ _ _ (a .pre .1) (back w64 (c .nothing .result) (c .nothing .ok) ∙ c .nothing .ensures) (record { begun = refl; fault = omega arith; opened = refl })
 
 read-first-requires : tie.Need-read-first-requires Inv-loop μ-loop
 read-first-requires c κs = search needs

@@ -11,11 +11,6 @@ use Rattle.summarise.specs.TallyLaws.{begun, not-begun}
 use Rattle.summarise.specs.CallLaws.{mode-small, no-mode, too-many, not-readable, refuses, comes-to}
 use Rattle.summarise.proofs.summarise.Statement.{statement}
 use Rattle.summarise.proofs.summarise.Tie as tie
-use Rattle.summarise.proofs.summarise.Reads as reads
-use Rattle.summarise.proofs.summarise.Lts as lts
-use Rattle.figure.proofs.in_use.Reads as in-use-reads
-use Rattle.summarise.proofs.conclude.Reads as conclude-reads
-use Rattle.summarise.proofs.read_chunk.Reads as read-chunk-reads
 
 -- the mode is in use
 used : (c : tie.Else1) → modeInUse (c .before .before .before .before .args .mode) ≡ true

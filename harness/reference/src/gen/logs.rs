@@ -262,6 +262,25 @@ pub fn cut(rng: &mut Rng, records: &[Record], count: usize) -> Vec<Vec<Record>> 
         .collect()
 }
 
+/// A well-formed log in `count` chunks, 2 to 64, with as many joins as there can be:
+/// the first chunk opens a record for each later one to close, and each later one but
+/// the last also opens one for the next to close.
+pub fn longest_plan(rng: &mut Rng, count: usize) -> Vec<Vec<Record>> {
+    let mut open_at = |depth| Record::Open(open(rng, depth, Values::Small));
+    let mut chunks = vec![(0..count - 1).map(&mut open_at).collect::<Vec<Record>>()];
+    for depth in (0..count - 1).rev() {
+        let mut chunk = vec![Record::Close { depth }];
+        if chunks.len() > 1 {
+            chunk.insert(0, Record::Close { depth: depth + 1 });
+        }
+        if depth > 0 {
+            chunk.push(open_at(depth));
+        }
+        chunks.push(chunk);
+    }
+    chunks
+}
+
 /// A list of merges on the row of these chunks, each possible on the row as it then
 /// stands. Buffers are exact, one short, empty, longer, or of any length.
 pub fn merge_list(rng: &mut Rng, mode: Mode, chunks: &[Vec<Record>]) -> Vec<Step> {

@@ -1,0 +1,154 @@
+//! The calls, with buffers of their own.
+
+use crate::{raw, Figures, Kind, Line, Mode, Record, Refusal};
+
+/// No summary is longer, in bytes.
+const LONGEST_SUMMARY: usize = 1_788;
+
+/// The plan of 64 summaries has at most 2 × 64 - 3 lines.
+const MOST_LINES: usize = 125;
+
+/// The number that a C function answers, or the refusal that it stands for.
+fn answer(status: i64) -> Result<usize, Refusal> {
+    match usize::try_from(status) {
+        Ok(number) => Ok(number),
+        Err(_) => Err(Refusal::from_number(-status).expect("a refusal has a number from 1 to 12")),
+    }
+}
+
+/// The bytes that a call writes into a buffer that is long enough.
+fn written(capacity: usize, call: impl FnOnce(&mut [u8]) -> i64) -> Result<Vec<u8>, Refusal> {
+    let mut out = vec![0; capacity];
+    let length = answer(call(&mut out))?;
+    out.truncate(length);
+    Ok(out)
+}
+
+/// The numbers that a call writes.
+fn numbers<const N: usize>(call: impl FnOnce(&mut [i64; N]) -> i64) -> Result<[i64; N], Refusal> {
+    let mut numbers = [0; N];
+    answer(call(&mut numbers))?;
+    Ok(numbers)
+}
+
+/// Reads the first record of a chunk. Later bytes are not judged. Refused: 3.
+///
+/// ```
+/// use tulghimo::{example, read, Kind, Record, Refusal};
+///
+/// let open = Record { kind: Kind::Open, length: 18, depth: 0, value: 10, floor: 0, ceiling: 100 };
+/// assert_eq!(read(example::LOG_D), Ok(open));
+/// assert_eq!(read(&[]), Err(Refusal::Unreadable));
+/// ```
+pub fn read(chunk: &[u8]) -> Result<Record, Refusal> {
+    let [kind, length, depth, value, floor, ceiling] = numbers(|fields| raw::read(chunk, fields))?;
+    // The call's ranges: length 6, 10 or 18, depth 0 to 63, grams within ±1,000,000,000.
+    Ok(Record {
+        kind: if kind == 1 { Kind::Open } else { Kind::Close },
+        length: length as usize,
+        depth: depth as u8,
+        value: value as i32,
+        floor: floor as i32,
+        ceiling: ceiling as i32,
+    })
+}
+
+/// The summary of a chunk of at most 65,536 bytes. Refused: 2, 3.
+///
+/// ```
+/// use tulghimo::{example, summarise, Mode};
+///
+/// let (one, two) = example::two_stretches();
+/// let (one, two) = (summarise(one, Mode::Net)?, summarise(two, Mode::Net)?);
+/// assert_eq!((one.len(), two.len()), (64, 40));
+/// // The second stretch closes two records: the values on its left are 0 and -3.
+/// assert_eq!(two[16..24], 0i64.to_le_bytes());
+/// assert_eq!(two[24..32], (-3i64).to_le_bytes());
+/// # Ok::<(), tulghimo::Refusal>(())
+/// ```
+pub fn summarise(chunk: &[u8], mode: Mode) -> Result<Vec<u8>, Refusal> {
+    written(LONGEST_SUMMARY, |out| raw::summarise(chunk, mode.number(), out))
+}
+
+/// Two summaries merged: the summary of the joined chunks, the left one first. Refused: 5, 6.
+///
+/// ```
+/// use tulghimo::{example, finish, merge, summarise, Mode};
+///
+/// let (one, two) = example::two_stretches();
+/// for (mode, figure) in Mode::ALL.into_iter().zip([12, 15, 14, 72]) {
+///     let merged = merge(&summarise(one, mode)?, &summarise(two, mode)?)?;
+///     assert_eq!(merged, summarise(example::LOG_D, mode)?);
+///     assert_eq!(finish(&merged), Ok(figure));
+/// }
+/// # Ok::<(), tulghimo::Refusal>(())
+/// ```
+pub fn merge(left: &[u8], right: &[u8]) -> Result<Vec<u8>, Refusal> {
+    written(LONGEST_SUMMARY, |out| raw::merge(left, right, out))
+}
+
+/// A row of 2 to 64 summaries, end to end in one slice, merged. Refused: 4, 5, 6.
+///
+/// ```
+/// use tulghimo::{example, merge_row, summarise, Mode, Refusal};
+///
+/// let (one, two) = example::two_stretches();
+/// let row = [summarise(one, Mode::Net)?, summarise(&[], Mode::Net)?, summarise(two, Mode::Net)?];
+/// assert_eq!(merge_row(&row.concat()), summarise(example::LOG_D, Mode::Net));
+/// assert_eq!(merge_row(&row[0]), Err(Refusal::PieceCount));
+/// # Ok::<(), Refusal>(())
+/// ```
+pub fn merge_row(row: &[u8]) -> Result<Vec<u8>, Refusal> {
+    written(LONGEST_SUMMARY, |out| raw::merge_row(row, out))
+}
+
+/// The join plan of a row of 2 to 64 summaries, end to end in one slice. Refused: 4 to 11.
+///
+/// ```
+/// use tulghimo::{example, plan, summarise, Line, Mode};
+///
+/// let (one, two) = example::two_stretches();
+/// let row = [summarise(one, Mode::Net)?, summarise(two, Mode::Net)?].concat();
+/// assert_eq!(plan(&row), Ok(vec![Line { i: 0, j: 1, lowest: 0, highest: 1 }]));
+/// # Ok::<(), tulghimo::Refusal>(())
+/// ```
+pub fn plan(row: &[u8]) -> Result<Vec<Line>, Refusal> {
+    let lines = written(MOST_LINES * Line::LENGTH, |out| raw::plan(row, out))?;
+    Ok(lines.chunks_exact(Line::LENGTH).map(Line::read).collect())
+}
+
+/// The figure of one summary: that of the log it stands for. In mode 2 bytes that no chunk makes may hold nothing, which is
+/// -2^63. Refused: 5, and 7 to 11 where the log is not whole.
+///
+/// ```
+/// use tulghimo::{example, finish, summarise, Mode, Refusal};
+///
+/// let whole = summarise(example::LOG_D, Mode::Eaten)?;
+/// assert_eq!(finish(&whole), Ok(14));
+///
+/// let blank = summarise(&[], Mode::Eaten)?;
+/// assert_eq!(finish(&blank), Err(Refusal::NoRecord));
+/// # Ok::<(), Refusal>(())
+/// ```
+pub fn finish(summary: &[u8]) -> Result<i64, Refusal> {
+    numbers(|figure| raw::finish(summary, figure)).map(|[figure]| figure)
+}
+
+/// The four figures of a whole log of at most 65,536 bytes. Refused: 2, 3, 7 to 11.
+///
+/// ```
+/// use tulghimo::{day, example, Figures, Refusal};
+///
+/// let figures = day(example::LOG_D)?;
+/// assert_eq!(figures, Figures { net: 12, heaviest: 15, eaten: 14, stamp: 72 });
+/// assert_eq!(figures.to_string(), "12 15 14 72");
+///
+/// let (one, _) = example::two_stretches();
+/// assert_eq!(day(one), Err(Refusal::NotWhole));
+/// # Ok::<(), Refusal>(())
+/// ```
+pub fn day(log: &[u8]) -> Result<Figures, Refusal> {
+    let [net, heaviest, eaten, stamp] = numbers(|figures| raw::day(log, figures))?;
+    // A stamp is 0 to 2^32 - 1.
+    Ok(Figures { net, heaviest, eaten, stamp: stamp as u32 })
+}

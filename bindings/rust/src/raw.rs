@@ -1,0 +1,51 @@
+//! The C functions on slices, with the buffers that the caller lends.
+//!
+//! Each function passes its slices on as they are and answers what the C function answers: nothing is checked, copied or hidden
+//! here, so that a test sees every byte that the library writes. A refusal is the negative number of its question.
+
+mod ffi {
+    extern "C" {
+        pub fn tulghimo_read(chunk: *const u8, n: usize, fields: *mut i64) -> i64;
+        pub fn tulghimo_summarise(chunk: *const u8, n: usize, mode: u32, out: *mut u8, cap: usize) -> i64;
+        pub fn tulghimo_merge(left: *const u8, ln: usize, right: *const u8, rn: usize, out: *mut u8, cap: usize) -> i64;
+        pub fn tulghimo_merge_row(row: *const u8, n: usize, out: *mut u8, cap: usize) -> i64;
+        pub fn tulghimo_finish(summary: *const u8, n: usize, figure: *mut i64) -> i64;
+        pub fn tulghimo_plan(row: *const u8, n: usize, out: *mut u8, cap: usize) -> i64;
+        pub fn tulghimo_day(log: *const u8, n: usize, figures: *mut i64) -> i64;
+    }
+}
+
+/// Reads the first record of a chunk: 0 and kind, length, depth, value, floor and ceiling, or -3.
+pub fn read(chunk: &[u8], fields: &mut [i64; 6]) -> i64 {
+    unsafe { ffi::tulghimo_read(chunk.as_ptr(), chunk.len(), fields.as_mut_ptr()) }
+}
+
+/// Summarises a chunk in a mode into `out`: the length written, or minus the refusal (1, 2, 3 or 12).
+pub fn summarise(chunk: &[u8], mode: u32, out: &mut [u8]) -> i64 {
+    unsafe { ffi::tulghimo_summarise(chunk.as_ptr(), chunk.len(), mode, out.as_mut_ptr(), out.len()) }
+}
+
+/// Merges two summaries into `out`: the length written, or minus the refusal (5, 6 or 12).
+pub fn merge(left: &[u8], right: &[u8], out: &mut [u8]) -> i64 {
+    unsafe { ffi::tulghimo_merge(left.as_ptr(), left.len(), right.as_ptr(), right.len(), out.as_mut_ptr(), out.len()) }
+}
+
+/// Merges a row of summaries, end to end, into `out`: the length written, or minus the refusal (4, 5, 6 or 12).
+pub fn merge_row(row: &[u8], out: &mut [u8]) -> i64 {
+    unsafe { ffi::tulghimo_merge_row(row.as_ptr(), row.len(), out.as_mut_ptr(), out.len()) }
+}
+
+/// Finishes one summary: 0 and its figure, or minus the refusal (5 or 7 to 11).
+pub fn finish(summary: &[u8], figure: &mut [i64; 1]) -> i64 {
+    unsafe { ffi::tulghimo_finish(summary.as_ptr(), summary.len(), figure.as_mut_ptr()) }
+}
+
+/// Writes the join plan of a row into `out`: the length written, or minus the refusal (4 to 12).
+pub fn plan(row: &[u8], out: &mut [u8]) -> i64 {
+    unsafe { ffi::tulghimo_plan(row.as_ptr(), row.len(), out.as_mut_ptr(), out.len()) }
+}
+
+/// The figures of a whole log: 0 and net, heaviest, eaten and stamp, or minus the refusal (2, 3 or 7 to 11).
+pub fn day(log: &[u8], figures: &mut [i64; 4]) -> i64 {
+    unsafe { ffi::tulghimo_day(log.as_ptr(), log.len(), figures.as_mut_ptr()) }
+}

@@ -1,0 +1,102 @@
+//! What the calls take and answer.
+
+use crate::Refusal;
+use std::fmt;
+
+/// The figure that is asked for.
+#[derive(Clone, Copy, Debug, PartialEq, Eq, Hash)]
+#[repr(u8)]
+pub enum Mode {
+    /// A record's value and the held figures, added.
+    Net = 1,
+    /// A record's value and the greatest held figure.
+    Heaviest = 2,
+    /// As net, but at each record raised to its floor and lowered to its ceiling.
+    Eaten = 3,
+    /// A record's value and 31 times the held stamps, modulo 2^32.
+    Stamp = 4,
+}
+
+impl Mode {
+    /// The four modes in the order of their numbers.
+    pub const ALL: [Mode; 4] = [Mode::Net, Mode::Heaviest, Mode::Eaten, Mode::Stamp];
+
+    /// The mode's number, 1 to 4.
+    pub fn number(self) -> u32 {
+        self as u32
+    }
+}
+
+/// A number that is not 1 to 4 gets refusal 1.
+impl TryFrom<u32> for Mode {
+    type Error = Refusal;
+
+    fn try_from(number: u32) -> Result<Mode, Refusal> {
+        Mode::ALL.into_iter().find(|mode| mode.number() == number).ok_or(Refusal::Mode)
+    }
+}
+
+/// Whether a record opens or closes.
+#[derive(Clone, Copy, Debug, PartialEq, Eq, Hash)]
+pub enum Kind {
+    /// Kind 1.
+    Open,
+    /// Kind 2.
+    Close,
+}
+
+/// A record of a log. Value, floor and ceiling, in grams, are 0 for a close.
+#[derive(Clone, Copy, Debug, PartialEq, Eq, Hash)]
+#[allow(missing_docs)]
+pub struct Record {
+    pub kind: Kind,
+    /// In bytes: the next record, if there is one, begins after these.
+    pub length: usize,
+    pub depth: u8,
+    pub value: i32,
+    pub floor: i32,
+    pub ceiling: i32,
+}
+
+/// The 16-bit number at a place.
+fn unsigned(bytes: &[u8], place: usize) -> u16 {
+    u16::from_le_bytes([bytes[place], bytes[place + 1]])
+}
+
+/// A line of the join plan: chunk `j` closes records that chunk `i` opened, of these depths. Chunks are counted from 0.
+#[derive(Clone, Copy, Debug, PartialEq, Eq, Hash)]
+#[allow(missing_docs)]
+pub struct Line {
+    pub i: u16,
+    pub j: u16,
+    pub lowest: u16,
+    pub highest: u16,
+}
+
+impl Line {
+    /// In bytes.
+    pub(crate) const LENGTH: usize = 12;
+
+    /// After length and kind come the four numbers.
+    pub(crate) fn read(bytes: &[u8]) -> Line {
+        let [i, j, lowest, highest] = [4, 6, 8, 10].map(|place| unsigned(bytes, place));
+        Line { i, j, lowest, highest }
+    }
+}
+
+/// The four figures of a whole log.
+#[derive(Clone, Copy, Debug, PartialEq, Eq, Hash)]
+#[allow(missing_docs)]
+pub struct Figures {
+    pub net: i64,
+    pub heaviest: i64,
+    pub eaten: i64,
+    pub stamp: u32,
+}
+
+/// As the day program prints them, without the newline.
+impl fmt::Display for Figures {
+    fn fmt(&self, f: &mut fmt::Formatter<'_>) -> fmt::Result {
+        write!(f, "{} {} {} {}", self.net, self.heaviest, self.eaten, self.stamp)
+    }
+}

@@ -1,0 +1,54 @@
+//! One function a call: the proved library and the reference must agree on the answer and on every lent byte, whatever the length
+//! of the buffer. Each gives the library's answers, one for each time that it was called, and panics on a difference.
+
+use crate::{capacities, numbers_outcome, LentBytes, LentNumbers};
+use reference::calls;
+use reference::gate::question_12;
+use tulghimo::raw;
+
+/// Longer than any result: 128 runs have 3,840 bytes.
+const AMPLE: usize = 8192;
+
+/// A call that writes bytes. It puts question 12 last, so the reference is asked once.
+fn bytes(ample: Result<Vec<u8>, u8>, call: impl Fn(&mut [u8]) -> i64) -> Vec<i64> {
+    let agree = |capacity| {
+        let expected = ample.clone().and_then(|result| question_12(result, capacity));
+        LentBytes::new(capacity).check(&expected, &call)
+    };
+    capacities(&ample).into_iter().map(agree).collect()
+}
+
+/// A call that writes `N` numbers.
+fn numbers<const N: usize>(expected: Result<[i64; N], u8>, call: impl Fn(&mut [i64; N]) -> i64) -> Vec<i64> {
+    let outcome = LentNumbers::default().lend(call);
+    assert_eq!(outcome, numbers_outcome(expected));
+    vec![outcome.0]
+}
+
+pub fn read(chunk: &[u8]) -> Vec<i64> {
+    numbers(calls::read(chunk), |fields| raw::read(chunk, fields))
+}
+
+pub fn summarise(chunk: &[u8], mode: u32) -> Vec<i64> {
+    bytes(calls::summarise(chunk, mode, AMPLE), |out| raw::summarise(chunk, mode, out))
+}
+
+pub fn merge(left: &[u8], right: &[u8]) -> Vec<i64> {
+    bytes(calls::merge(left, right, AMPLE), |out| raw::merge(left, right, out))
+}
+
+pub fn merge_row(row: &[u8]) -> Vec<i64> {
+    bytes(calls::merge_row(row, AMPLE), |out| raw::merge_row(row, out))
+}
+
+pub fn plan(row: &[u8]) -> Vec<i64> {
+    bytes(calls::plan(row, AMPLE), |out| raw::plan(row, out))
+}
+
+pub fn finish(summary: &[u8]) -> Vec<i64> {
+    numbers(calls::finish(summary).map(|figure| [figure]), |figure| raw::finish(summary, figure))
+}
+
+pub fn day(log: &[u8]) -> Vec<i64> {
+    numbers(calls::day(log), |figures| raw::day(log, figures))
+}

@@ -1,0 +1,92 @@
+//! The join plan: the proved library against the reference, every byte of every buffer.
+
+use compare::agree::plan as agree;
+use compare::LentBytes;
+use reference::calls;
+use reference::gen::{damage, forged, logs, Rng};
+use reference::layout::encode;
+use reference::mode::Mode;
+use reference::plan::{encode_plan, plan_by_records};
+use reference::record::{encode_all, Record};
+
+const AMPLE: usize = 8192;
+
+fn row_of(chunks: &[Vec<Record>], mode: Mode) -> Vec<u8> {
+    let summary = |chunk: &Vec<Record>| calls::summarise(&encode_all(chunk), mode.number(), AMPLE).unwrap();
+    chunks.iter().map(summary).collect::<Vec<_>>().concat()
+}
+
+#[test]
+fn random_cuts_of_random_logs() {
+    let mut rng = Rng::new(0x91a1);
+    for round in 0..800 {
+        let log = logs::any_log(&mut rng, if round % 10 == 0 { 400 } else { 40 });
+        let count = 2 + rng.below(if round % 10 == 0 { 63 } else { 8 });
+        let chunks = logs::cut(&mut rng, &log, count);
+        for mode in Mode::ALL {
+            agree(&row_of(&chunks, mode));
+        }
+    }
+}
+
+#[test]
+fn lines_are_the_joins_by_records() {
+    let mut rng = Rng::new(0x91a2);
+    for _ in 0..300 {
+        let log = logs::any_log(&mut rng, 40);
+        let count = 2 + rng.below(9);
+        let chunks = logs::cut(&mut rng, &log, count);
+        let row = row_of(&chunks, Mode::Net);
+        let expected = Ok(encode_plan(&plan_by_records(&chunks)));
+        LentBytes::new(AMPLE).check(&expected, |out| tulghimo::raw::plan(&row, out));
+    }
+}
+
+#[test]
+fn plans_of_2p_minus_3_lines() {
+    let mut rng = Rng::new(0x91a6);
+    for count in 2..=64 {
+        for mode in Mode::ALL {
+            let row = row_of(&logs::longest_plan(&mut rng, count), mode);
+            assert_eq!(tulghimo::raw::plan(&row, &mut [0; AMPLE]), 12 * (2 * count as i64 - 3));
+            agree(&row);
+        }
+    }
+}
+
+#[test]
+fn forged_rows() {
+    let mut rng = Rng::new(0x91a3);
+    for round in 0..1500 {
+        let mode = rng.pick(&Mode::ALL);
+        let count = 1 + rng.below(if round % 10 == 0 { 64 } else { 9 });
+        let row: Vec<u8> = forged::row(&mut rng, mode, count).iter().map(encode).collect::<Vec<_>>().concat();
+        agree(&row);
+        agree(&damage::damage(&mut rng, &row));
+        let faulty: Vec<u8> = forged::neighbours(&mut rng, mode, count, 20).iter().map(encode).collect::<Vec<_>>().concat();
+        agree(&faulty);
+    }
+}
+
+#[test]
+fn how_many_pieces() {
+    let mut rng = Rng::new(0x91a4);
+    for count in [1, 2, 3, 63, 64, 65, 66] {
+        for mode in Mode::ALL {
+            let row: Vec<u8> = forged::row(&mut rng, mode, count).iter().map(encode).collect::<Vec<_>>().concat();
+            agree(&row);
+        }
+    }
+    agree(&[]);
+}
+
+#[test]
+fn rows_cut_short_at_every_byte() {
+    let mut rng = Rng::new(0x91a5);
+    for mode in Mode::ALL {
+        let row: Vec<u8> = forged::row(&mut rng, mode, 3).iter().map(encode).collect::<Vec<_>>().concat();
+        for length in 0..row.len() {
+            agree(&row[..length]);
+        }
+    }
+}

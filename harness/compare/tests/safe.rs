@@ -1,0 +1,86 @@
+//! The safe functions of the crate `tulghimo`: what they answer, in the types of their users, against the reference.
+
+use reference::calls;
+use reference::gen::{damage, forged, logs, Rng};
+use reference::layout::encode;
+use reference::mode;
+use reference::plan::{encode_plan, Line};
+use tulghimo::{Kind, Mode, Refusal};
+
+/// Longer than any result.
+const AMPLE: usize = 8192;
+
+/// Results as they are, refusals by number.
+fn by_number<T>(answer: Result<T, Refusal>) -> Result<T, u8> {
+    answer.map_err(Refusal::number)
+}
+
+fn agree_on_log(log: &[u8]) {
+    let read = by_number(tulghimo::read(log)).map(|r| {
+        let kind = if r.kind == Kind::Open { 1 } else { 2 };
+        [kind, r.length as i64, r.depth.into(), r.value.into(), r.floor.into(), r.ceiling.into()]
+    });
+    assert_eq!(read, calls::read(log));
+    let day = by_number(tulghimo::day(log)).map(|f| [f.net, f.heaviest, f.eaten, f.stamp.into()]);
+    assert_eq!(day, calls::day(log));
+}
+
+fn agree_on_chunk(chunk: &[u8], mode: Mode) {
+    let summary = by_number(tulghimo::summarise(chunk, mode));
+    assert_eq!(summary, calls::summarise(chunk, mode.number(), AMPLE));
+    if let Ok(summary) = summary {
+        assert_eq!(by_number(tulghimo::finish(&summary)), calls::finish(&summary));
+    }
+}
+
+#[test]
+fn random_logs_and_their_chunks() {
+    let mut rng = Rng::new(0x5afe);
+    for _ in 0..500 {
+        let log = logs::any_log(&mut rng, 40);
+        let bytes = logs::encode_mixed(&mut rng, &log);
+        agree_on_log(&bytes);
+        agree_on_log(&damage::damage(&mut rng, &bytes));
+        for chunk in logs::cut(&mut rng, &log, 3) {
+            let bytes = logs::encode_mixed(&mut rng, &chunk);
+            agree_on_log(&bytes);
+            let mode = rng.pick(&Mode::ALL);
+            agree_on_chunk(&bytes, mode);
+            agree_on_chunk(&damage::damage(&mut rng, &bytes), mode);
+        }
+    }
+}
+
+fn agree_on_row(row: &[u8]) {
+    assert_eq!(by_number(tulghimo::merge_row(row)), calls::merge_row(row, AMPLE));
+    let plan = by_number(tulghimo::plan(row)).map(|lines| {
+        let plain = |line: &tulghimo::Line| {
+            let [i, j, lowest, highest] = [line.i, line.j, line.lowest, line.highest].map(usize::from);
+            Line { i, j, lowest, highest }
+        };
+        encode_plan(&lines.iter().map(plain).collect::<Vec<_>>())
+    });
+    assert_eq!(plan, calls::plan(row, AMPLE));
+}
+
+#[test]
+fn forged_rows_and_damaged_ones() {
+    let mut rng = Rng::new(0x5aff);
+    for round in 0..600 {
+        let mode = rng.pick(&mode::Mode::ALL);
+        let count = if round % 20 == 0 { 64 } else { 2 + rng.below(6) };
+        let row = if round % 4 == 0 { forged::neighbours(&mut rng, mode, count, 20) } else { forged::row(&mut rng, mode, count) };
+        let row: Vec<Vec<u8>> = row.iter().map(encode).collect();
+        assert_eq!(by_number(tulghimo::merge(&row[0], &row[1])), calls::merge(&row[0], &row[1], AMPLE));
+        agree_on_row(&row.concat());
+        agree_on_row(&damage::damage(&mut rng, &row.concat()));
+    }
+}
+
+#[test]
+fn modes_by_number() {
+    for number in [0, 1, 2, 3, 4, 5, 257, 65_537, u32::MAX] {
+        let mode = Mode::try_from(number);
+        assert_eq!(mode.map(Mode::number), if (1..=4).contains(&number) { Ok(number) } else { Err(Refusal::Mode) });
+    }
+}

@@ -1,0 +1,95 @@
+//! The calls under test, and what each is given.
+
+use compare::agree;
+use std::fmt;
+
+/// What a call takes.
+#[derive(Clone, Copy, Debug, PartialEq, Eq)]
+pub enum Takes {
+    /// A chunk of a log, perhaps the whole of it, and a mode for the call that wants one.
+    Chunk,
+    /// One piece.
+    Piece,
+    /// Two pieces.
+    Pieces,
+    /// A row as one slice.
+    Row,
+}
+
+/// What a call is given. `second` is the right one of two pieces, and empty elsewhere.
+#[derive(Clone, Debug, PartialEq, Eq)]
+pub struct Input {
+    pub takes: Takes,
+    pub mode: u32,
+    pub first: Vec<u8>,
+    pub second: Vec<u8>,
+}
+
+/// A call: its name, what it takes, and its comparison with the reference, which gives the library's answers.
+pub struct Call {
+    pub name: &'static str,
+    pub takes: Takes,
+    pub compare: fn(&Input) -> Vec<i64>,
+}
+
+/// Every call of the library.
+pub const CALLS: &[Call] = &[
+    Call { name: "read", takes: Takes::Chunk, compare: |given| agree::read(&given.first) },
+    Call { name: "summarise", takes: Takes::Chunk, compare: |given| agree::summarise(&given.first, given.mode) },
+    Call { name: "merge", takes: Takes::Pieces, compare: |given| agree::merge(&given.first, &given.second) },
+    Call { name: "merge_row", takes: Takes::Row, compare: |given| agree::merge_row(&given.first) },
+    Call { name: "plan", takes: Takes::Row, compare: |given| agree::plan(&given.first) },
+    Call { name: "finish", takes: Takes::Piece, compare: |given| agree::finish(&given.first) },
+    Call { name: "day", takes: Takes::Chunk, compare: |given| agree::day(&given.first) },
+];
+
+/// The words that `--replay` takes after the call's name.
+impl fmt::Display for Input {
+    fn fmt(&self, f: &mut fmt::Formatter<'_>) -> fmt::Result {
+        write!(f, "{} {} {}", self.mode, hex(&self.first), hex(&self.second))
+    }
+}
+
+/// Bytes as two digits each; a dash for none.
+fn hex(bytes: &[u8]) -> String {
+    if bytes.is_empty() {
+        return "-".into();
+    }
+    bytes.iter().map(|byte| format!("{byte:02x}")).collect()
+}
+
+/// What `hex` wrote.
+fn unhex(text: &str) -> Option<Vec<u8>> {
+    if text == "-" {
+        return Some(Vec::new());
+    }
+    let pairs = text.as_bytes().chunks(2);
+    pairs.map(|pair| u8::from_str_radix(std::str::from_utf8(pair).ok()?, 16).ok()).collect()
+}
+
+/// The call and the input that the words after `--replay` name.
+pub fn replayed(words: &[String]) -> Option<(&'static Call, Input)> {
+    let [name, mode, first, second] = words else {
+        return None;
+    };
+    let call = CALLS.iter().find(|call| call.name == name)?;
+    let input = Input { takes: call.takes, mode: mode.parse().ok()?, first: unhex(first)?, second: unhex(second)? };
+    Some((call, input))
+}
+
+#[cfg(test)]
+mod tests {
+    use super::*;
+
+    #[test]
+    fn what_is_printed_can_be_replayed() {
+        for first in [vec![], vec![0], vec![0x0a, 0xff, 7]] {
+            let input = Input { takes: Takes::Chunk, mode: 65_537, first, second: vec![] };
+            let words: Vec<String> = format!("summarise {input}").split(' ').map(String::from).collect();
+            let (call, read) = replayed(&words).expect("a call and its input");
+            assert_eq!((call.name, read), ("summarise", input));
+        }
+        assert!(replayed(&["summarise".into(), "1".into(), "0g".into(), "-".into()]).is_none());
+        assert!(replayed(&["none".into(), "1".into(), "-".into(), "-".into()]).is_none());
+    }
+}

@@ -1,0 +1,196 @@
+//! The inputs of a round: logs, cuts, lists of merges, forged and damaged bytes, from the generators of the reference.
+
+use crate::calls::{Input, Takes};
+use reference::calls;
+use reference::gen::{damage, forged, logs, Rng};
+use reference::layout::encode;
+use reference::mode::Mode;
+use reference::record::Record;
+use reference::replay::Stretches;
+
+/// Longer than any summary.
+const AMPLE: usize = 4096;
+
+fn chunk(mode: u32, bytes: Vec<u8>) -> Input {
+    Input { takes: Takes::Chunk, mode, first: bytes, second: Vec::new() }
+}
+
+fn piece(bytes: Vec<u8>) -> Input {
+    Input { takes: Takes::Piece, mode: 0, first: bytes, second: Vec::new() }
+}
+
+fn pieces(left: Vec<u8>, right: Vec<u8>) -> Input {
+    Input { takes: Takes::Pieces, mode: 0, first: left, second: right }
+}
+
+fn row(bytes: Vec<u8>) -> Input {
+    Input { takes: Takes::Row, mode: 0, first: bytes, second: Vec::new() }
+}
+
+/// The inputs that a seed gives.
+pub fn inputs(seed: u64) -> Vec<Input> {
+    let rng = &mut Rng::new(seed);
+    match rng.below(9) {
+        0 => whole_log(rng),
+        1 => faulty_log(rng),
+        2 | 3 => cut_log(rng),
+        4 => merge_list(rng),
+        5 | 6 => forged_pieces(rng),
+        7 => forged_row(rng),
+        _ => noise(rng),
+    }
+}
+
+/// The input as it is, and with one thing changed in each of its bytes.
+fn with_damage(rng: &mut Rng, input: Input) -> Vec<Input> {
+    let mut first = input.clone();
+    first.first = damage::damage(rng, &input.first);
+    let mut second = input.clone();
+    second.second = damage::damage(rng, &input.second);
+    if input.takes == Takes::Pieces {
+        vec![input, first, second]
+    } else {
+        vec![input, first]
+    }
+}
+
+/// A mode, once in ten times none of the four.
+fn any_mode(rng: &mut Rng) -> u32 {
+    let mode = 1 + rng.below(4) as u32;
+    let other = rng.bits() as u32;
+    if rng.one_in(10) {
+        rng.pick(&[0, 5, 256 + mode, 65_536 + mode, u32::MAX, other])
+    } else {
+        mode
+    }
+}
+
+/// A size: mostly small, now and then a large one.
+fn size(rng: &mut Rng, small: usize, large: usize) -> usize {
+    let most = if rng.one_in(25) { large } else { small };
+    1 + rng.below(most)
+}
+
+fn whole_log(rng: &mut Rng) -> Vec<Input> {
+    let most = size(rng, 60, 4000);
+    let log = logs::any_log(rng, most);
+    let input = chunk(any_mode(rng), logs::encode_mixed(rng, &log));
+    with_damage(rng, input)
+}
+
+fn faulty_log(rng: &mut Rng) -> Vec<Input> {
+    let fault = rng.pick(&[7, 8, 10, 11]);
+    let log = logs::with_fault(rng, fault);
+    let input = chunk(any_mode(rng), logs::encode_mixed(rng, &log));
+    with_damage(rng, input)
+}
+
+/// A well-formed log, or one with a fault, cut into chunks.
+fn chunks(rng: &mut Rng) -> Vec<Vec<Record>> {
+    if rng.one_in(20) {
+        let count = 1 + size(rng, 8, 63);
+        return logs::longest_plan(rng, count);
+    }
+    let most = size(rng, 40, 400);
+    let log = if rng.one_in(6) {
+        let fault = rng.pick(&[7, 8, 10, 11]);
+        logs::with_fault(rng, fault)
+    } else {
+        logs::any_log(rng, most)
+    };
+    let count = 1 + size(rng, 8, 64);
+    logs::cut(rng, &log, count)
+}
+
+/// Chunks, their summaries, neighbours and the row of them all.
+fn cut_log(rng: &mut Rng) -> Vec<Input> {
+    let mode = rng.pick(&Mode::ALL);
+    let mut summaries = Vec::new();
+    let mut inputs = Vec::new();
+    for records in chunks(rng) {
+        let bytes = logs::encode_mixed(rng, &records);
+        summaries.push(calls::summarise(&bytes, mode.number(), AMPLE).expect("readable records"));
+        inputs.extend(with_damage(rng, chunk(mode.number(), bytes)));
+    }
+    inputs.extend(of_summaries(rng, mode, summaries));
+    inputs
+}
+
+/// Summaries one by one, by neighbours and as a row; the row also damaged, cut short, and with a piece that does not belong.
+fn of_summaries(rng: &mut Rng, mode: Mode, mut summaries: Vec<Vec<u8>>) -> Vec<Input> {
+    let mut inputs = Vec::new();
+    for two in summaries.windows(2).take(4) {
+        inputs.extend(with_damage(rng, pieces(two[0].clone(), two[1].clone())));
+        inputs.extend(with_damage(rng, piece(two[0].clone())));
+    }
+    let whole = summaries.concat();
+    let short = whole[..rng.below(whole.len() + 1)].to_vec();
+    inputs.extend(with_damage(rng, row(whole)));
+    inputs.push(row(short));
+    if !summaries.is_empty() {
+        let place = rng.below(summaries.len());
+        let other = rng.pick(&[mode, Mode::Net, Mode::Heaviest, Mode::Eaten, Mode::Stamp]);
+        summaries[place] = encode(&forged::summary(rng, other));
+        inputs.push(row(summaries.concat()));
+    }
+    inputs
+}
+
+/// Each merge of a list on the row as it then stands. The row is kept by the stretches, whose summaries are made afresh.
+fn merge_list(rng: &mut Rng) -> Vec<Input> {
+    let mode = rng.pick(&Mode::ALL);
+    let chunks = chunks(rng);
+    let steps = logs::merge_list(rng, mode, &chunks);
+    let mut stretches = Stretches { mode, stretches: chunks };
+    let mut inputs = vec![row(stretches.row().concat())];
+    for step in &steps {
+        let lent = &stretches.row()[step.place..step.place + step.count];
+        inputs.push(row(lent.concat()));
+        inputs.push(pieces(lent[0].clone(), lent[1].clone()));
+        let _ = stretches.step(step);
+    }
+    inputs.extend(stretches.row().into_iter().map(piece));
+    inputs
+}
+
+/// Two accepted summaries that mostly meet, or any two.
+fn forged_pieces(rng: &mut Rng) -> Vec<Input> {
+    let mode = rng.pick(&Mode::ALL);
+    let other = if rng.one_in(4) { rng.pick(&Mode::ALL) } else { mode };
+    let stray = rng.pick(&[2, 20, 1000]);
+    let mut two: Vec<Vec<u8>> = forged::neighbours(rng, mode, 2, stray).iter().map(encode).collect();
+    if rng.one_in(4) {
+        two[1] = encode(&forged::summary(rng, other));
+    }
+    let mut inputs = with_damage(rng, piece(two[0].clone()));
+    let [left, right] = [two.remove(0), two.remove(0)];
+    inputs.extend(with_damage(rng, pieces(left, right)));
+    inputs
+}
+
+/// A row of accepted summaries: without a fault, or as they come.
+fn forged_row(rng: &mut Rng) -> Vec<Input> {
+    let mode = rng.pick(&Mode::ALL);
+    let few = 1 + rng.below(9);
+    let count = rng.pick(&[few, few, few, few, 63, 64, 65, 66]);
+    let summaries = if rng.one_in(3) {
+        let stray = rng.pick(&[2, 20, 400]);
+        forged::neighbours(rng, mode, count, stray)
+    } else {
+        forged::row(rng, mode, count)
+    };
+    of_summaries(rng, mode, summaries.iter().map(encode).collect())
+}
+
+/// Bytes without any order, short and long.
+fn noise(rng: &mut Rng) -> Vec<Input> {
+    let longest = rng.pick(&[8, 24, 80]);
+    let bytes = damage::noise(rng, longest);
+    let long = vec![bytes.len() as u8; rng.pick(&[65_535, 65_536, 65_537, 70_000])];
+    let mut inputs = vec![piece(bytes.clone()), row(bytes.clone()), pieces(bytes.clone(), damage::noise(rng, longest))];
+    inputs.push(chunk(any_mode(rng), bytes));
+    if rng.one_in(50) {
+        inputs.extend([chunk(any_mode(rng), long.clone()), piece(long.clone()), row(long)]);
+    }
+    inputs
+}
