@@ -82,6 +82,7 @@ INSIDE = hill(1, 1, 1, 1, 1, [], 1)
 OPEN = hill(1, 0, 0, 1, 1, [], 0, [(10, 0, 100, 0)])
 SHUT = hill(1, 1, 0, 0, 0, [0], 0)
 NEGATIVE = opening(0, -3) + close(0)
+TEN_OVER = short(0, 10) + short(1, 1) + close(1) + short(1, 5) + close(1) + close(0)
 NINE = short(0, 0) + short(1, 9) + close(1) + short(1, 1) + close(1) + close(0)
 TWO_DAYS = 2 * (short(0, 1) + close(0))
 LONGEST = short(0, 1) + 4095 * (short(1, 1) + close(1)) + close(0)
@@ -102,7 +103,7 @@ INPUTS = {
     "fault/highest_fault": summarise(1, short(0, 1) + TWO_DAYS),
     "fault/takes_100001": merge(hill(1, 0, 0, 1, 50_001, [], 0, [(10, 0, 100, 0)]), hill(1, 1, 1, 1, 50_000, [], 1)),
     "figure/floor_as_ceiling": call("day::figures", D),
-    "figure/lightest_line": call("day::figures", D),
+    "figure/first_held": call("day::figures", TEN_OVER),
     "figure/other_figure_dropped": call("runs::runs", HEAD[:4] + b"\2" + HEAD[5:] + TAIL),
     "figure/stamp_factor": call("day::figures", D),
     "judge/fault_10": call("summarise::finish", spoilt(1, 10, 0, 0, 1)),
