@@ -73,9 +73,19 @@ def merge(left, right, room=200):
     return call("merge::merge", left + right, len(left), room)
 
 
-# Log D cut after record 2, in mode 1.
-HEAD = hill(1, 0, 0, 2, 2, [], 0, [(10, 0, 100, 0), (5, 0, 4, 0)])
-TAIL = hill(1, 2, 0, 0, 1, [0, -3], 0)
+def halves(mode, floor=0):
+    """Log D cut after record 2, its first record with this floor."""
+    none = NOTHING if mode == 2 else 0
+    last = {1: -3, 2: -3, 3: 0, 4: 2**32 - 3}[mode]
+    head = hill(mode, 0, 0, 2, 2, [], none, [(10, floor, 100, none), (5, 0, 4, none)])
+    return head, hill(mode, 2, 0, 0, 1, [none, last], none)
+
+
+def runs(mode, floor=0):
+    return call("runs::runs", b"".join(halves(mode, floor)))
+
+
+HEAD, TAIL = halves(1)
 WHOLE = hill(1, 0, 0, 0, 3, [], 12)
 # A closed record of one gram at depth 1, and the two halves of what may hold it.
 INSIDE = hill(1, 1, 1, 1, 1, [], 1)
@@ -104,7 +114,9 @@ INPUTS = {
     "fault/takes_100001": merge(hill(1, 0, 0, 1, 50_001, [], 0, [(10, 0, 100, 0)]), hill(1, 1, 1, 1, 50_000, [], 1)),
     "figure/floor_as_ceiling": call("day::figures", D),
     "figure/first_held": call("day::figures", TEN_OVER),
-    "figure/other_figure_dropped": call("runs::runs", HEAD[:4] + b"\2" + HEAD[5:] + TAIL),
+    "figure/floor_once": runs(3, 50),
+    "figure/nothing_moved": runs(2),
+    "figure/other_figure_dropped": runs(2),
     "figure/stamp_factor": call("day::figures", D),
     "judge/fault_10": call("summarise::finish", spoilt(1, 10, 0, 0, 1)),
     "judge/ground_passed": call("summarise::finish", hill(1, 2, 0, 1, 1, [0, 0], 0, [(0, 0, 0, 0)])),
@@ -126,6 +138,12 @@ INPUTS = {
     "record/kind_for_length": call("record::read_first", D),
     "row_plan/meets_is_7": call("plan::plan", OPEN + OPEN),
     "row_plan/no_shared_record": call("plan::plan", OPEN + INSIDE + SHUT),
+    "runs/fit_of_lines": runs(1),
+    "runs/floor_as_ceiling": runs(3),
+    "runs/hills_swapped": runs(1),
+    "runs/inside_out": runs(3),
+    "runs/kind_of_run": runs(1),
+    "runs/levels_left_out": runs(1),
     "slopes/add_drops_what_was_held": summarise(1, opening(1, 5) + close(1) + opening(1, 7) + close(1)),
     "slopes/close_ceiling_as_floor": summarise(3, D),
     "slopes/left_level_twice": summarise(1, close(3)),
