@@ -111,7 +111,7 @@ INPUTS = {
     "day/stamp_for_eaten": call("day::figures", D),
     "fault/ground_not_asked": summarise(1, TWO_DAYS),
     "fault/highest_fault": summarise(1, short(0, 1) + TWO_DAYS),
-    "fault/takes_100001": merge(hill(1, 0, 0, 1, 50_001, [], 0, [(10, 0, 100, 0)]), hill(1, 1, 1, 1, 50_000, [], 1)),
+    "fault/takes_100001": call("plan::plan", hill(1, 0, 0, 1, 50_001, [], 0, [(10, 0, 100, 0)]) + hill(1, 1, 0, 0, 50_000, [0], 0)),
     "figure/floor_as_ceiling": call("day::figures", D),
     "figure/first_held": call("day::figures", TEN_OVER),
     "figure/floor_once": runs(3, 50),
