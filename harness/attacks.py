@@ -11,7 +11,7 @@ past the end of a slice stops the edited program, and that counts as an answer.
     python3 harness/attacks.py merge/ day/   those whose name begins so
 
 Prints a line for each and "N told apart, M not"; the exit status is 0 only if M is 0
-and every edit of code has an input here. Takes two or three seconds an edit.
+and every edit of code has an input here. Takes a second or two an edit.
 """
 
 import pathlib
@@ -66,21 +66,23 @@ def call(name, data, number=0, room=200):
 
 
 def summarise(mode, chunk, room=200):
-    return call("summarise", chunk, mode, room)
+    return call("summarise::summarise", chunk, mode, room)
 
 
 def merge(left, right, room=200):
-    return call("merge", left + right, len(left), room)
+    return call("merge::merge", left + right, len(left), room)
 
 
 # Log D cut after record 2, in mode 1.
 HEAD = hill(1, 0, 0, 2, 2, [], 0, [(10, 0, 100, 0), (5, 0, 4, 0)])
 TAIL = hill(1, 2, 0, 0, 1, [0, -3], 0)
+WHOLE = hill(1, 0, 0, 0, 3, [], 12)
 # A closed record of one gram at depth 1, and the two halves of what may hold it.
 INSIDE = hill(1, 1, 1, 1, 1, [], 1)
 OPEN = hill(1, 0, 0, 1, 1, [], 0, [(10, 0, 100, 0)])
 SHUT = hill(1, 1, 0, 0, 0, [0], 0)
 NEGATIVE = opening(0, -3) + close(0)
+NINE = short(0, 0) + short(1, 9) + close(1) + short(1, 1) + close(1) + close(0)
 TWO_DAYS = 2 * (short(0, 1) + close(0))
 LONGEST = short(0, 1) + 4095 * (short(1, 1) + close(1)) + close(0)
 
@@ -90,36 +92,39 @@ INPUTS = {
     "codec/left_from_peak": summarise(1, D[36:]),
     "codec/middle_left_out": merge(HEAD, hill(1, 2, 1, 1, 1, [0], 7)),
     "codec/start_for_end": summarise(1, D[:36]),
-    "day/end_level": call("figures", short(0, 1)),
-    "day/fault_before_3": call("figures", D[:71]),
-    "day/log_65535": call("figures", LONGEST),
-    "day/nothing_is_0": call("figures", opening(0, 10) + opening(1, -3) + close(1) + close(0)),
-    "day/rest_unread": call("figures", D),
-    "day/stamp_for_eaten": call("figures", D),
-    "figure/floor_as_ceiling": call("figures", D),
-    "figure/heaviest_adds": call("figures", D),
-    "figure/other_figure_dropped": call("runs", HEAD[:4] + b"\2" + HEAD[5:] + TAIL),
-    "figure/stamp_factor": call("figures", D),
-    "judge/fault_10": call("finish", spoilt(1, 10, 0, 0, 1)),
-    "judge/ground_passed": call("finish", hill(1, 2, 0, 1, 1, [0, 0], 0, [(0, 0, 0, 0)])),
-    "judge/hill_100001": call("finish", hill(1, 0, 0, 0, 100_001, [], 0)),
-    "judge/one_gram_more": call("finish", hill(1, 0, 0, 0, 1, [], GRAMS + 1)),
+    "day/end_level": call("day::figures", short(0, 1)),
+    "day/fault_before_3": call("day::figures", D[:71]),
+    "day/log_65535": call("day::figures", LONGEST),
+    "day/nothing_is_0": call("day::figures", opening(0, 10) + opening(1, -3) + close(1) + close(0)),
+    "day/rest_unread": call("day::figures", D),
+    "day/stamp_for_eaten": call("day::figures", D),
+    "fault/ground_not_asked": summarise(1, TWO_DAYS),
+    "fault/highest_fault": summarise(1, short(0, 1) + TWO_DAYS),
+    "fault/takes_100001": merge(hill(1, 0, 0, 1, 50_001, [], 0, [(10, 0, 100, 0)]), hill(1, 1, 1, 1, 50_000, [], 1)),
+    "figure/floor_as_ceiling": call("day::figures", D),
+    "figure/lightest_line": call("day::figures", D),
+    "figure/other_figure_dropped": call("runs::runs", HEAD[:4] + b"\2" + HEAD[5:] + TAIL),
+    "figure/stamp_factor": call("day::figures", D),
+    "judge/fault_10": call("summarise::finish", spoilt(1, 10, 0, 0, 1)),
+    "judge/ground_passed": call("summarise::finish", hill(1, 2, 0, 1, 1, [0, 0], 0, [(0, 0, 0, 0)])),
+    "judge/hill_100001": call("summarise::finish", hill(1, 0, 0, 0, 100_001, [], 0)),
+    "judge/one_gram_more": call("summarise::finish", hill(1, 0, 0, 0, 1, [], GRAMS + 1)),
     "merge/hands_back_left": merge(blank(1), HEAD),
     "merge/join_fault_ignored": merge(OPEN, OPEN),
     "merge/left_alone_written": merge(HEAD, TAIL),
     "merge/opened_not_cut": merge(spoilt(1, 9, 0, 1, 100_001), INSIDE),
     "merge/peak_counted_twice": merge(HEAD, TAIL, 24),
-    "merge/pieces_cut_alike": call("merge_row", HEAD + TAIL + blank(1)),
-    "merge/six_before_five": call("merge_row", blank(1) + struct.pack("<HHH", 6, 15, 1)),
-    "merge/takes_65": call("merge_row", 65 * blank(1)),
-    "plan/line_kind": call("plan", HEAD + TAIL),
-    "plan/meets_is_7": call("plan", OPEN + OPEN),
-    "plan/no_shared_record": call("plan", OPEN + INSIDE + SHUT),
-    "record/cut_close": call("read", close(1)[:5]),
-    "record/default_floor": call("read", short(0, -5)),
-    "record/depth_64": call("read", close(64)),
-    "record/floor_equals_ceiling": call("read", opening(0, 1, 5, 5)),
-    "record/kind_for_length": call("read", D),
+    "merge/pieces_cut_alike": call("merge::merge_row", blank(1) + HEAD),
+    "merge/six_before_five": call("merge::merge_row", blank(1) + struct.pack("<HHH", 6, 15, 1)),
+    "merge/takes_65": call("merge::merge_row", 65 * blank(1)),
+    "plan/line_kind": call("plan::plan", HEAD + TAIL),
+    "record/cut_close": call("record::read_first", close(1)[:5]),
+    "record/default_floor": call("record::read_first", short(0, -5)),
+    "record/depth_64": call("record::read_first", close(64)),
+    "record/floor_equals_ceiling": call("record::read_first", opening(0, 1, 5, 5)),
+    "record/kind_for_length": call("record::read_first", D),
+    "row_plan/meets_is_7": call("plan::plan", OPEN + OPEN),
+    "row_plan/no_shared_record": call("plan::plan", OPEN + INSIDE + SHUT),
     "slopes/add_drops_what_was_held": summarise(1, opening(1, 5) + close(1) + opening(1, 7) + close(1)),
     "slopes/close_ceiling_as_floor": summarise(3, D),
     "slopes/left_level_twice": summarise(1, close(3)),
@@ -127,56 +132,69 @@ INPUTS = {
     "summarise/always_blank": summarise(1, D),
     "summarise/buffer_before_input": summarise(1, D[:71]),
     "summarise/closes_counted": summarise(1, D),
-    "summarise/end_level_ignored": call("finish", OPEN),
+    "summarise/end_level_ignored": call("summarise::finish", OPEN),
     "summarise/first_chunk_only": summarise(1, D[36:]),
-    "summarise/ground_not_asked": summarise(1, TWO_DAYS),
-    "text/figures_swapped": call("text", D),
-    "text/leading_zero": call("text", D),
-    "text/minus_sign": call("text", NEGATIVE),
-    "text/no_newline": call("text", D),
-    "text/refusal_space": call("text", b""),
-    "text/zero_digit": call("text", D),
-    "tulghimo/day_stamp_for_eaten": call("tulghimo_day", D),
-    "tulghimo/read_ceiling_for_floor": call("tulghimo_read", D),
-    "tulghimo/read_status": call("tulghimo_read", b""),
-    "tulghimo/refusal_positive": call("tulghimo_day", b""),
+    "summarise/joint_not_asked": summarise(1, opening(0, 10) + opening(0, 10)),
+    "text/figures_swapped": call("day::text", D),
+    "text/leading_zero": call("day::text", NINE),
+    "text/minus_sign": call("day::text", NEGATIVE),
+    "text/no_newline": call("day::text", D),
+    "text/refusal_space": call("day::text", b""),
+    "text/zero_digit": call("day::text", D),
+    "tulghimo/day_stamp_for_eaten": call("tulghimo::tulghimo_day", D),
+    "tulghimo/finish_always_5": call("tulghimo::tulghimo_finish", blank(1)),
+    "tulghimo/finish_zero": call("tulghimo::tulghimo_finish", WHOLE),
+    "tulghimo/merge_left_twice": call("tulghimo::tulghimo_merge", HEAD + TAIL, len(HEAD)),
+    "tulghimo/merge_row_always_12": call("tulghimo::tulghimo_merge_row", HEAD + TAIL),
+    "tulghimo/merge_row_length_6": call("tulghimo::tulghimo_merge_row", HEAD + TAIL),
+    "tulghimo/merge_swapped": call("tulghimo::tulghimo_merge", HEAD + TAIL, len(HEAD)),
+    "tulghimo/plan_always_4": call("tulghimo::tulghimo_plan", HEAD + TAIL),
+    "tulghimo/plan_one_line": call("tulghimo::tulghimo_plan", WHOLE + blank(1)),
+    "tulghimo/read_ceiling_for_floor": call("tulghimo::tulghimo_read", D),
+    "tulghimo/read_status": call("tulghimo::tulghimo_read", b""),
+    "tulghimo/refusal_positive": call("tulghimo::tulghimo_day", b""),
+    "tulghimo/status_always_12": call("tulghimo::tulghimo_merge_row", 65 * blank(1)),
+    "tulghimo/summarise_always_net": call("tulghimo::tulghimo_summarise", D, 4),
+    "tulghimo/summarise_mode_cut": call("tulghimo::tulghimo_summarise", D, 65_537),
 }
 
 # ---- the program that is run: how each call is made, and in which crate it stands
 
 WRITTEN = "written({}, &out)"
 ARMS = {
-    "read": ("record", """match record::read_first(&input) {
+    "record::read_first": """match record::read_first(&input) {
             record::Read::Record(f) => format!("{} {} {} {} {} {}", f.kind, f.length, f.depth, f.value, f.floor, f.ceiling),
             record::Read::Refused => "refused".to_string(),
-        }"""),
-    "summarise": ("summarise", WRITTEN.format("summarise::summarise(&input, number as u32, &mut out)")),
-    "finish": ("summarise", """match summarise::finish(&input) {
+        }""",
+    "summarise::summarise": WRITTEN.format("summarise::summarise(&input, number as u32, &mut out)"),
+    "summarise::finish": """match summarise::finish(&input) {
             gate::Finished::Figure(z) => format!("{z}"),
             gate::Finished::Refused(n) => format!("refused {n}"),
-        }"""),
-    "merge": ("merge", WRITTEN.format("merge::merge(&input[..number], &input[number..], &mut out)")),
-    "merge_row": ("merge", WRITTEN.format("merge::merge_row(&input, &mut out)")),
-    "plan": ("plan", WRITTEN.format("plan::plan(&input, &mut out)")),
-    "runs": ("runs", WRITTEN.format("runs::runs(&input, &mut out)")),
-    "figures": ("day", """match day::figures(&input) {
+        }""",
+    "merge::merge": WRITTEN.format("merge::merge(&input[..number], &input[number..], &mut out)"),
+    "merge::merge_row": WRITTEN.format("merge::merge_row(&input, &mut out)"),
+    "plan::plan": WRITTEN.format("plan::plan(&input, &mut out)"),
+    "runs::runs": WRITTEN.format("runs::runs(&input, &mut out)"),
+    "day::figures": """match day::figures(&input) {
             day::Day::Figures(f) => format!("{} {} {} {}", f.net, f.heaviest, f.eaten, f.stamp),
             day::Day::Refused(n) => format!("refused {n}"),
-        }"""),
-    "text": ("day", """{
+        }""",
+    "day::text": """{
             let mut line = [0_u8; 128];
             let n = day::text(&input, &mut line);
             format!("{:?}", String::from_utf8_lossy(&line[..n]))
-        }"""),
-    "tulghimo_read": ("tulghimo", """{
-            let mut fields = [-7; 6];
-            format!("{} {fields:?}", tulghimo::tulghimo_read(&input, &mut fields))
-        }"""),
-    "tulghimo_day": ("tulghimo", """{
-            let mut figures = [-7; 4];
-            format!("{} {figures:?}", tulghimo::tulghimo_day(&input, &mut figures))
-        }"""),
+        }""",
 }
+# The C functions: those that write bytes, and those that store numbers, with how many.
+LENGTHS = {"summarise": "&input, number as u32", "merge": "&input[..number], &input[number..]",
+           "merge_row": "&input", "plan": "&input", "runs": "&input"}
+NUMBERS = {"read": 6, "finish": 1, "work": 3, "day": 4}
+ARMS |= {f"tulghimo::tulghimo_{name}": f"""length(tulghimo::tulghimo_{name}({lent}, &mut out), &out)"""
+         for name, lent in LENGTHS.items()}
+ARMS |= {f"tulghimo::tulghimo_{name}": f"""{{
+            let mut numbers = [-7_i64; {count}];
+            format!("{{}} {{numbers:?}}", tulghimo::tulghimo_{name}(&input, &mut numbers))
+        }}""" for name, count in NUMBERS.items()}
 
 MAIN = """
 fn bytes(hex: &str) -> Vec<u8> {
@@ -184,11 +202,15 @@ fn bytes(hex: &str) -> Vec<u8> {
 }
 
 fn written(answer: gate::Written, out: &[u8]) -> String {
-    let hex = |b: &[u8]| b.iter().map(|x| format!("{x:02x}")).collect::<String>();
     match answer {
-        gate::Written::Bytes(n) => format!("{n} {}", hex(&out[..n.min(out.len())])),
+        gate::Written::Bytes(n) => length(n as i64, out),
         gate::Written::Refused(n) => format!("refused {n}"),
     }
+}
+
+fn length(n: i64, out: &[u8]) -> String {
+    let told = &out[..out.len().min(n.max(0) as usize)];
+    format!("{n} {}", told.iter().map(|x| format!("{x:02x}")).collect::<String>())
 }
 
 fn main() {
@@ -241,11 +263,20 @@ def rustc(folder, source, words, deps):
         raise SystemExit(f"rustc: {source}\n{built.stderr}")
 
 
-def build(folder, crate=None, file=None, change=None):
-    """The program in a folder, with one file changed."""
+def has(call):
+    crate, name = call.split("::")
+    return any(f"fn {name}(" in f.read_text() for f in (CRATES / crate / "src").glob("*.rt"))
+
+
+def build(folder, crate=None, file=None, change=None, base=None):
+    """The program in a folder, with one file changed. The libraries that do not stand
+    on the changed one are taken from base."""
     folder.mkdir()
     names = [name for name, _ in libraries()]
     for name, deps in libraries():
+        if base and crate != name and crate not in deps:
+            (folder / f"lib{name}.rlib").symlink_to(base / f"lib{name}.rlib")
+            continue
         (folder / name).mkdir()
         for source in (CRATES / name / "src").glob("*.rt"):
             text = source.read_text()
@@ -254,7 +285,7 @@ def build(folder, crate=None, file=None, change=None):
             (folder / name / f"{source.stem}.rs").write_text(plain(text))
         rustc(folder, folder / name / "lib.rs",
               ["--crate-type", "rlib", "--crate-name", name, "-o", folder / f"lib{name}.rlib"], deps)
-    arms = "".join(f'        "{name}" => {how},\n' for name, (where, how) in ARMS.items() if where in names)
+    arms = "".join(f'        "{name}" => {how},\n' for name, how in ARMS.items() if has(name))
     (folder / "main.rs").write_text(MAIN % arms)
     rustc(folder, folder / "main.rs", ["-o", folder / "main"], names)
     return folder / "main"
@@ -278,7 +309,10 @@ def cut(text, most=100):
 
 
 def main(chosen):
-    apart = failed = 0
+    apart, failed = 0, 0
+    for name in sorted(set(INPUTS) - {name for name, _ in edits()}):
+        print(f"{name}: NO SUCH EDIT")
+        failed += 1
     with tempfile.TemporaryDirectory() as scratch:
         scratch = pathlib.Path(scratch)
         program = build(scratch / "as-it-is")
@@ -291,7 +325,7 @@ def main(chosen):
                 continue
             old, new = words["old"], words["new"]
             edited = build(scratch / str(number), name.split("/")[0], words["file"],
-                           lambda text: text.replace(old, new))
+                           lambda text: text.replace(old, new), scratch / "as-it-is")
             right, wrong = ask(program, INPUTS[name]), ask(edited, INPUTS[name])
             apart, failed = (apart + 1, failed) if right != wrong else (apart, failed + 1)
             print(f"{name}: {INPUTS[name].split(' ')[0]}\n    right: {cut(right)}\n"

@@ -22,7 +22,7 @@ fn deep_row(mode: Mode) -> Vec<u8> {
     let mut row = Vec::new();
     let mut out = vec![0u8; 2048];
     for chunk in records.chunks(records.len().div_ceil(64)) {
-        let length = tulghimo::summarise(&encode_all(chunk), mode.number(), &mut out);
+        let length = tulghimo::raw::summarise(&encode_all(chunk), mode.number(), &mut out);
         row.extend(&out[..length as usize]);
     }
     row
@@ -32,17 +32,17 @@ fn merging(mode: Mode, out: &mut [u8]) {
     let mut rng = Rng::new(11);
     let row: Vec<Vec<u8>> = (0..64).map(|_| full_hill(&mut rng, mode)).collect();
     let lent = row.concat();
-    assert_eq!(tulghimo::merge(&row[0], &row[1], out), 1_788);
-    assert_eq!(tulghimo::merge_row(&lent, out), 1_788);
+    assert_eq!(tulghimo::raw::merge(&row[0], &row[1], out), 1_788);
+    assert_eq!(tulghimo::raw::merge_row(&lent, out), 1_788);
     let two = seconds(2_000, || {
-        black_box(tulghimo::merge(black_box(&row[0]), black_box(&row[1]), out));
+        black_box(tulghimo::raw::merge(black_box(&row[0]), black_box(&row[1]), out));
     });
     let all = seconds(50, || {
-        black_box(tulghimo::merge_row(black_box(&lent), out));
+        black_box(tulghimo::raw::merge_row(black_box(&lent), out));
     });
     let chunk = full_chunk(Shape::Deep);
     let one = seconds(200, || {
-        black_box(tulghimo::summarise(black_box(&chunk), mode.number(), out));
+        black_box(tulghimo::raw::summarise(black_box(&chunk), mode.number(), out));
     });
     println!("merge {:<16} {:>9.2} {:>9.2} {:>9.2} {:>7.2}", mode.number(), two * 1e6, all * 1e6, one * 1e6, one / all);
 }
@@ -54,10 +54,10 @@ pub fn bench() {
         merging(mode, &mut out);
     }
     let row = deep_row(Mode::Net);
-    let length = tulghimo::plan(&row, &mut out);
+    let length = tulghimo::raw::plan(&row, &mut out);
     assert!(length > 0);
     let plan = seconds(200, || {
-        black_box(tulghimo::plan(black_box(&row), &mut out));
+        black_box(tulghimo::raw::plan(black_box(&row), &mut out));
     });
     println!("\nplan of 64 chunks of a deep log: {} lines in {:.2} us, {:.2} us a chunk", length / 12, plan * 1e6, plan * 1e6 / 64.0);
 }

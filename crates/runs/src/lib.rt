@@ -1,0 +1,92 @@
+// The call on a row of summaries that writes the runs of its join plan.
+ghost use mathlib.Core.Path.{_≡_};
+ghost use lib.ListN.{length};
+ghost use Rattle.gate.specs.Outcome.{bufferAfter};
+ghost use Rattle.gate.specs.Answers.{writtenAnswer, lengthAnswered};
+ghost use Rattle.join_plan.specs.Plan.{planOfRow};
+ghost use Rattle.outcome.specs.Outcomes.{runsOutcome};
+ghost use Rattle.row_plan.specs.Wrote.{Wrote};
+ghost use Rattle.run_level.specs.Along.{rowIn, LetThrough};
+ghost use Rattle.runs.specs.Runs.{linesRuns};
+use gate::Written;
+use row_plan::ask::Asked;
+use row_plan::ask::ask;
+use row_plan::scan::scan;
+use run_level::begin_pieces;
+
+mod bytes;
+mod each;
+mod line;
+
+// The runs of a row that is let through, where they fit.
+fn write_runs(
+    row: &[u8],
+    starts: &[u8; 64],
+    peaks: &[u8; 64],
+    ends: &[u8; 64],
+    count: usize,
+    mode: u16,
+    out: &mut [u8],
+) -> Written
+    requires { ⌜ LetThrough (now row) count mode (now starts) (now peaks) (now ends) ⌝ }
+    ensures { λ r. ⌜ Wrote (linesRuns (now (row .entry)) mode (planOfRow (rowIn mode (now (row .entry))))) (writtenAnswer r) (now (out .entry)) (now (out .exit)) ⌝ }
+{
+    let mut is = [0u8; 128];
+    let mut js = [0u8; 128];
+    let mut lows = [0u8; 128];
+    let mut highs = [0u8; 128];
+    let n = scan(
+        starts,
+        peaks,
+        ends,
+        count,
+        &mut is,
+        &mut js,
+        &mut lows,
+        &mut highs,
+    );
+    let total = 30 * n;
+    if out.len() < total {
+        return Written::Refused(12);
+    }
+    let mut ats = [0usize; 64];
+    begin_pieces(row, count, &mut ats);
+    each::write_each(
+        row,
+        &ats,
+        starts,
+        peaks,
+        &is,
+        &js,
+        &lows,
+        &highs,
+        n,
+        mode,
+        out,
+    );
+    Written::Bytes(total)
+}
+
+// The runs of a row, one for each line of its plan.
+pub fn runs(row: &[u8], out: &mut [u8]) -> Written
+    ensures answer { λ r. ⌜ writtenAnswer r ≡ lengthAnswered (runsOutcome (now (row .entry)) (length (now (out .entry)))) ⌝ }
+    ensures buffer { λ _. ⌜ now (out .exit) ≡ bufferAfter (runsOutcome (now (row .entry)) (length (now (out .entry)))) (now (out .entry)) ⌝ }
+{
+    let mut kinds = [0u8; 64];
+    let mut starts = [0u8; 64];
+    let mut peaks = [0u8; 64];
+    let mut ends = [0u8; 64];
+    let mut opened = [0u32; 64];
+    let asked = ask(
+        row,
+        &mut kinds,
+        &mut starts,
+        &mut peaks,
+        &mut ends,
+        &mut opened,
+    );
+    match asked {
+        Asked::Refused(n) => Written::Refused(n),
+        Asked::Row(count, mode) => write_runs(row, &starts, &peaks, &ends, count, mode, out),
+    }
+}
