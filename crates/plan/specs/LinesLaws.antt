@@ -4,12 +4,13 @@ use mathlib.Core.List.{List, [], _∷_, _++_, append-assoc, append-nil}
 use Prim.Native.Nat.{ℕ, _+_, _*_}
 use native.Mathlib.Numerals.{add-one}
 use native.Mathlib.Omega.{arith}
-use lib.ListN.{length, length-append}
+use lib.ListN.{length}
 use lib.Seq.{sets}
 use Rattle.number.specs.Bytes.{bytesOf, putAt}
 use Rattle.number.specs.Laws.{sets-append}
 use Rattle.join_plan.specs.Plan.{Line}
 use Rattle.outcome.specs.Outcomes.{lineBytes, linesBytes}
+use Rattle.outcome.specs.Through.{lines-length}
 use Rattle.row_plan.specs.Arrays.{line, lineIn, linesIn}
 use Rattle.row_plan.specs.ScanLaws.{length-lines}
 use Rattle.row_plan.specs.WroteLaws.{put-next}
@@ -32,14 +33,6 @@ pub line-written : (o a b c d e f : List ℕ) (at i j low high : ℕ) → a ≡ 
     f ≡ putAt 2 e (at + 10) high → f ≡ sets o at (lineBytes (line i j low high))
 line-written o a b c d e f at i j low high p q r s t u = rw (u, t, s, r, q, p) (line-stored o at i j low high)
 
-length-line : (l : Line) → length (lineBytes l) ≡ 12
-unfolding lineBytes bytesOf
-length-line l = refl
-
-pub length-lines-bytes : (ls : List Line) → length (linesBytes ls) ≡ 12 * length ls
-length-lines-bytes [] = refl
-length-lines-bytes (l ∷ ls) = omega (arith, length-append (lineBytes l) (linesBytes ls), length-line l, length-lines-bytes ls)
-
 lines-append : (a b : List Line) → linesBytes (a ++ b) ≡ linesBytes a ++ linesBytes b
 lines-append [] b = refl
 lines-append (l ∷ a) b = ap (λ (t : List ℕ). lineBytes l ++ t) (lines-append a b) ∙ sym (append-assoc (lineBytes l) (linesBytes a) (linesBytes b))
@@ -50,7 +43,7 @@ module _ (is js lows highs : List ℕ) where
       out′ ≡ sets b 0 (linesBytes (linesIn is js lows highs (k + 1)))
   lines-next b out out′ k e f =
       let w : List ℕ = linesBytes (linesIn is js lows highs k) in
-      let n : 12 * k ≡ 0 + length w = omega (arith, length-lines-bytes (linesIn is js lows highs k), length-lines is js lows highs k) in
+      let n : 12 * k ≡ 0 + length w = omega (arith, lines-length (linesIn is js lows highs k), length-lines is js lows highs k) in
       f ∙ ap₂ (λ (o : List ℕ) (a : ℕ). sets o a (lineBytes (lineIn is js lows highs k))) e n ∙ sym (sets-append b 0 w (lineBytes (lineIn is js lows highs k))) ∙
       ap (sets b 0) (ap (λ (t : List ℕ). w ++ t) (sym (append-nil _)) ∙ sym (lines-append (linesIn is js lows highs k) (lineIn is js lows highs k ∷ []))) ∙
       ap (λ (i : ℕ). sets b 0 (linesBytes (linesIn is js lows highs i))) (sym (add-one k))

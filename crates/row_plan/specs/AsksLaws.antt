@@ -15,13 +15,14 @@ use Rattle.join_plan.specs.Scan.{plan}
 use Rattle.plan_work.specs.Gate.{rowFault}
 use Rattle.outcome.specs.Outcomes.{Summaries, twoTo64, allSummaries, allOf, firstMode, askRow, askLog}
 use Rattle.outcome.specs.Laws.{ask-4, ask-5, ask-6, ask-none, two-to-64, too-few, too-many, AllIn}
+use Rattle.outcome.specs.Through.{all-in}
 use Rattle.row_plan.specs.Arrays.{levelsIn, Kept}
 use Rattle.fault.specs.Fault.{noFault, verdictOf}
 use Rattle.fault.specs.Laws.{clear, found}
 use Rattle.row_plan.specs.Told.{toldsFrom, faultOf}
 use Rattle.row_plan.specs.Notes.{Whole, AllJudged}
 use Rattle.row_plan.specs.ScanLaws.{length-lines}
-use Rattle.row_plan.specs.RowLaws.{all-in, row-fault, row-plan, row-room}
+use Rattle.row_plan.specs.RowLaws.{row-fault, row-plan, row-room}
 use Rattle.row_plan.specs.Asks.{askAll, summariesIn, Through}
 
 -- ---- refusals

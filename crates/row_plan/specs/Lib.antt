@@ -12,3 +12,4 @@ pub mod NotesLaws
 pub mod RowLaws
 pub mod AsksLaws
 pub mod WroteLaws
+pub mod CallLaws

@@ -1,24 +1,16 @@
 -- What is noted of a row's pieces is what its summaries say: its fault, its levels and its plan. Assumes nothing.
 use mathlib.Core.Path.{_≡_, refl, sym, ap, ap₂, _∙_}
-use mathlib.Core.Bool.{Bool, true, false, _&&_}
 use mathlib.Core.List.{List, [], _∷_, _++_, map}
 use Prim.Native.Nat.{ℕ, zero, suc, _+_, _≤_, _<_}
 use native.Mathlib.Nat.{zero-add}
 use native.Mathlib.Omega.{arith}
-use lib.Dec.{eqb}
-use borrow.Author.Tests.{le-leb, eqb-true, ne-eqb}
+use borrow.Author.Tests.{le-leb, ne-eqb}
 use lib.ListN.{length, getD, length-map}
-use Rattle.gate.specs.Outcome.{result}
 use Rattle.figure.specs.Mode.{modeOf}
-use Rattle.hill.specs.Verdict.{Verdict, pass, refuse}
-use Rattle.hill.specs.Finish.{outcome, finishOf}
-use Rattle.hill.specs.Row.{mergeRow}
-use Rattle.hill.specs.RowLaws.{mergeRow-inOrder}
-use Rattle.hill.specs.Summary.{blank, middle}
-use Rattle.summary.specs.Judge.{IsSummary, isBlank, isSpoilt, isHill, modeAt, riseAt, fallAt, startAt, peakAt, endAt, openedAt, faultAt}
+use Rattle.hill.specs.Verdict.{pass, refuse}
+use Rattle.hill.specs.Summary.{blank}
+use Rattle.summary.specs.Judge.{IsSummary, isBlank, isSpoilt, isHill, riseAt, fallAt, startAt, peakAt, endAt, openedAt, faultAt}
 use Rattle.summary.specs.Decode.{decode}
-use Rattle.summary.specs.Decide.{isSummary}
-use Rattle.summary.specs.DecideLaws.{decide-summary}
 use Rattle.summary.specs.Values.{lefts-length, rights-length, reading-blank, reading-spoilt, reading-hill}
 use Rattle.summary.specs.Accepted.{decoded}
 use Rattle.summary.specs.Layout.{SummaryIn}
@@ -26,13 +18,10 @@ use Rattle.judge.specs.Judged.{headAt}
 use Rattle.judge.specs.Laws.{head-blank, head-spoilt, head-hill}
 use Rattle.join_plan.specs.Plan.{Levels, blank as noLevels, hill as levels, levelsOfSummary, planOfRow}
 use Rattle.join_plan.specs.Scan.{lineOf, passed, walk, linesTo, plan}
-use Rattle.join_plan.specs.Gate.{gate-bound}
-use Rattle.plan_work.specs.Runs.{slopesOf}
 use Rattle.plan_work.specs.Gate.{rowFault, ValidRow}
-use Rattle.plan_work.specs.GateExact.{mergeAll, finish-row, fair-row}
 use Rattle.plan_work.specs.RowLevels.{plan-row}
-use Rattle.outcome.specs.Outcomes.{allSummaries, allOf}
 use Rattle.outcome.specs.Laws.{AllIn}
+use Rattle.outcome.specs.Through.{few-lines}
 use Rattle.row_plan.specs.Arrays.{levelsFrom, levelsIn}
 use Rattle.row_plan.specs.Told.{Told, tells, toldOf, toldFrom, toldIn, toldsFrom, faultOf}
 use Rattle.row_plan.specs.ToldLaws.{told-all, fault-row, own-hill, own-spoilt}
@@ -105,21 +94,6 @@ module _ (f g : ℕ → Levels) where
 
 -- ---- the pieces of a row
 
-and-left : (a b : Bool) → (a && b) ≡ true → a ≡ true
-and-left true b e = refl
-and-left false b e = e
-
-and-right : (a b : Bool) → (a && b) ≡ true → b ≡ true
-and-right true b e = e
-and-right false b e = cc
-
-pub all-in : (m : ℕ) (ps : List (List ℕ)) → allSummaries ps ≡ true → allOf m ps ≡ true → AllIn m ps
-all-in m [] g s = tt
-all-in m (p ∷ ps) g s = (
-  record { is = decide-summary p .from (and-left (isSummary p) (allSummaries ps) g); mode-is = sym (eqb-true m (modeAt p) (and-left (eqb m (modeAt p)) (allOf m ps) s)) },
-  all-in m ps (and-right (isSummary p) (allSummaries ps) g) (and-right (eqb m (modeAt p)) (allOf m ps) s),
-)
-
 module _ (m : ℕ) where
   pub valid-row : (ps : List (List ℕ)) → AllIn m ps → ValidRow (modeOf m .algebra) (modeOf m .sizes) (map (decode m) ps)
   valid-row [] a = tt
@@ -157,12 +131,4 @@ module _ (m : ℕ) where
 
   -- at most 125 lines
   pub row-room : (ps : List (List ℕ)) → AllIn m ps → 2 ≤ length ps → length ps ≤ 64 → rowFault (map (decode m) ps) ≡ pass → length (planOfRow (map (decode m) ps)) ≤ 128
-  row-room ps a l h v =
-      let 𝒜 = modeOf m .algebra in
-      let ℒ = modeOf m .laws in
-      let r : List (SummaryIn m) = map (decode m) ps in
-      let n : length r ≡ length ps = length-map ps (decode m) in
-      let w = middle (slopesOf 𝒜 (mergeAll 𝒜 r)) in
-      let e : finishOf 𝒜 (mergeRow 𝒜 r) ≡ result w =
-      ap (finishOf 𝒜) (mergeRow-inOrder 𝒜 ℒ r) ∙ finish-row 𝒜 ℒ r (fair-row 𝒜 (modeOf m .sizes) r (valid-row ps a)) ∙ ap (λ (x : Verdict). outcome x w) v in
-      omega (arith, gate-bound 𝒜 ℒ r w e (omega arith))
+  row-room ps a l h v = omega (arith, few-lines m ps a l v)

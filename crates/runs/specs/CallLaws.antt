@@ -1,22 +1,28 @@
 -- What the call comes to, where a row is refused and where it is let through. Assumes nothing.
-use mathlib.Core.Path.{_≡_, sym, ap, _∙_}
-use mathlib.Core.List.{List}
+use mathlib.Core.Path.{_≡_, sym, ap, subst, _∙_}
+use mathlib.Core.List.{List, map}
 use Prim.Native.Nat.{ℕ, _*_, _≤_}
 use native.Mathlib.Omega.{arith}
 use lib.ListN.{length}
 use lib.Seq.{sets}
-use Rattle.gate.specs.Outcome.{Outcome, refused, result, onward, written, bufferAfter}
+use Rattle.gate.specs.Outcome.{Outcome, refused, result, bufferAfter}
 use Rattle.gate.specs.Answers.{lengthAnswered}
 use Rattle.row.specs.Row.{rowPieces}
 use Rattle.figure.specs.Mode.{modeOf}
+use Rattle.hill.specs.Verdict.{Verdict, pass, refuse}
+use Rattle.hill.specs.Finish.{outcome}
+use Rattle.summary.specs.Decode.{decode}
 use Rattle.join_plan.specs.Plan.{Line, planOfRow}
 use Rattle.join_plan.specs.Scan.{plan}
 use Rattle.plan_work.specs.Runs.{runsOf}
 use Rattle.plan_work.specs.RunsExact.{runs-count}
-use Rattle.outcome.specs.Outcomes.{Summaries, askRow, runsBytes, runsOutcome}
+use Rattle.plan_work.specs.Gate.{rowFault}
+use Rattle.outcome.specs.Outcomes.{Summaries, firstMode, askRow, askLog, runsBytes, runsOutcome}
+use Rattle.outcome.specs.Through.{Found, ask-found, lines-125}
 use Rattle.row_plan.specs.Arrays.{levelsIn, linesIn, Kept}
 use Rattle.row_plan.specs.Asks.{askAll, Through}
-use Rattle.row_plan.specs.AsksLaws.{after-all, kept-count}
+use Rattle.row_plan.specs.AsksLaws.{kept-count}
+use Rattle.row_plan.specs.CallLaws.{call-refused, call-wrote}
 use Rattle.row_plan.specs.RowLaws.{valid-row}
 use Rattle.row_plan.specs.Wrote.{Wrote}
 use Rattle.row_plan.specs.WroteLaws.{wrote-all}
@@ -54,20 +60,32 @@ module _ {row : List ℕ} {count m : ℕ} {starts peaks ends : List ℕ} (t : Le
 
 -- ---- the call
 
-runs-refused : (row : List ℕ) (cap n : ℕ) → askAll row ≡ refused n → runsOutcome row cap ≡ refused n
-unfolding runsOutcome
-runs-refused row cap n e = after-all (askRow (rowPieces row)) (λ t. written cap (runsBytes t)) ∙ ap (λ (o : Outcome Summaries). onward o (λ t. written cap (runsBytes t))) e
-
-runs-through : (row : List ℕ) (cap count m : ℕ) (kinds starts peaks ends openeds : List ℕ) → Through row count m kinds starts peaks ends openeds → runsOutcome row cap ≡ written cap (linesRuns row m (planOfRow (rowIn m row)))
-unfolding runsOutcome runsBytes
-runs-through row cap count m kinds starts peaks ends openeds t =
-    after-all (askRow (rowPieces row)) (λ t. written cap (runsBytes t)) ∙ ap (λ (o : Outcome Summaries). onward o (λ t. written cap (runsBytes t))) (t .asked)
-
 pub runs-not : (row b : List ℕ) (n : ℕ) → askAll row ≡ refused n → (refused n ≡ lengthAnswered (runsOutcome row (length b))) × (b ≡ bufferAfter (runsOutcome row (length b)) b)
-runs-not row b n e = let f = runs-refused row (length b) n e in (sym (ap lengthAnswered f), sym (ap (λ (o : Outcome (List ℕ)). bufferAfter o b) f))
+unfolding runsOutcome
+runs-not row b n e = call-refused runsBytes row b n e
 
 pub runs-wrote : (row before after : List ℕ) (r : Outcome ℕ) (count m : ℕ) (kinds starts peaks ends openeds : List ℕ) → Through row count m kinds starts peaks ends openeds →
     Wrote (linesRuns row m (planOfRow (rowIn m row))) r before after → (r ≡ lengthAnswered (runsOutcome row (length before))) × (after ≡ bufferAfter (runsOutcome row (length before)) before)
-runs-wrote row before after r count m kinds starts peaks ends openeds t w =
-    let f = runs-through row (length before) count m kinds starts peaks ends openeds t in
-    (w .answer ∙ sym (ap lengthAnswered f), w .buffer ∙ sym (ap (λ (o : Outcome (List ℕ)). bufferAfter o before) f))
+unfolding runsOutcome runsBytes
+runs-wrote row before after r count m kinds starts peaks ends openeds t w = call-wrote runsBytes row before after r count m kinds starts peaks ends openeds t w
+
+-- ---- at most 125 runs
+
+log-same : (s t : Summaries) → askLog s ≡ result t → s ≡ t
+unfolding askLog
+log-same s t e = go (rowFault (s .row)) e
+  where
+    go : (v : Verdict) → outcome v s ≡ result t → s ≡ t
+    go pass e = cc
+    go (refuse n) e = let z : _≡_ {A = ℕ} 0 1 = cc in absurd (omega arith)
+
+-- The runs of a row have at most 3,750 bytes.
+pub runs-3750 : (ps : List (List ℕ)) (s t : Summaries) → askRow ps ≡ result s → askLog s ≡ result t → length (runsBytes t) ≤ 3750
+unfolding runsBytes
+runs-3750 ps s t e f =
+    let h : Found ps s = ask-found ps s e in
+    let m : ℕ = firstMode ps in
+    let q : record { mode = m; row = map (decode m) ps } ≡ t = sym (h .are) ∙ log-same s t f in
+    let n : length (planOfRow (map (decode m) ps)) ≤ 125 = subst (λ (x : Summaries). length (planOfRow (x .row)) ≤ 125) (sym q) (lines-125 ps s t e f) in
+    subst (λ (x : Summaries). length (runsBytes x) ≤ 3750) q
+    (omega (arith, length-each m (runsOf (modeOf m .context) (map (decode m) ps)), runs-count (modeOf m .context) (modeOf m .sizes) (λ r f. f) (map (decode m) ps) (valid-row m ps (h .all)), n))

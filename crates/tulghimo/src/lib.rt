@@ -6,7 +6,7 @@ ghost use Rattle.gate.specs.Outcome.{result, bufferAfter};
 ghost use Rattle.gate.specs.Answers.{writtenAnswer, lengthAnswered};
 ghost use Rattle.record.specs.Record.{readOf};
 ghost use Rattle.summary.specs.Outcomes.{summariseOutcome, mergeOutcome, finishOutcome};
-ghost use Rattle.outcome.specs.Outcomes.{mergeRowOutcome, planOutcome};
+ghost use Rattle.outcome.specs.Outcomes.{mergeRowOutcome, planOutcome, runsOutcome};
 ghost use Rattle.day.specs.Day.{dayOutcome};
 ghost use Rattle.tulghimo.specs.Interface.{statusOf, lengthStatus, Short, fieldsAfter, figureAfter, figuresAfter};
 use day::Day;
@@ -123,6 +123,16 @@ pub extern "C" fn tulghimo_plan(row: &[u8], out: &mut [u8]) -> i64
 {
     let lines = plan::plan(row, out);
     status(lines)
+}
+
+// The runs of a row's plan, one for each line: their length, or -4 to -12 and `out` as it was.
+#[no_mangle]
+pub extern "C" fn tulghimo_runs(row: &[u8], out: &mut [u8]) -> i64
+    ensures answer { λ r. ⌜ r ≡ lengthStatus (lengthAnswered (runsOutcome (now (row .entry)) (length (now (out .entry))))) ⌝ }
+    ensures buffer { λ _. ⌜ now (out .exit) ≡ bufferAfter (runsOutcome (now (row .entry)) (length (now (out .entry)))) (now (out .entry)) ⌝ }
+{
+    let written = runs::runs(row, out);
+    status(written)
 }
 
 // The figures of a whole log: 0 and net, heaviest, eaten and stamp, or minus the refusal and `figures` as it was.
