@@ -1,12 +1,12 @@
--- `row_plan::fault::row_fault` meets its contract: one piece more is passed at each turn.
+-- `row_plan::faults::row_fault` meets its contract: one piece more is passed at each turn.
 -- Assumes nothing.
 use Prim.Native.Nat.{_-_}
 use mathlib.Core.Path.{_∙_}
 use native.Mathlib.Omega.{arith}
 use Rattle.row_plan.specs.ToldLaws.{Spanning, span-start, span-next, span-end}
 use borrow.Author.Needs.{needs}
-use Rattle.row_plan.proofs.fault.row_fault.Statement.{statement}
-use Rattle.row_plan.proofs.fault.row_fault.Tie as tie
+use Rattle.row_plan.proofs.faults.row_fault.Statement.{statement}
+use Rattle.row_plan.proofs.faults.row_fault.Tie as tie
 
 abbrev Inv-loop : tie.InvT-loop
 Inv-loop kinds starts ends opened count s₀ k₀ s k = Spanning kinds starts ends opened count s k

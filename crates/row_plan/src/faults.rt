@@ -3,12 +3,11 @@ ghost use mathlib.Core.Path.{_≡_};
 ghost use mathlib.Core.List.{List, [], _∷_};
 ghost use Prim.Native.Nat.{_+_, _*_, _≤_, min};
 ghost use lib.ListN.{length, getD};
-ghost use Rattle.hill.specs.Verdict.{low, between, count as countOf, ends as endsOf};
-ghost use Rattle.row_plan.specs.Told.{Told, verdictOf, toldFrom, toldsFrom, faultOf, onwardFrom, ownFault, Passed, Few};
-use super::lower;
+ghost use Rattle.fault.specs.Fault.{verdictOf};
+ghost use Rattle.row_plan.specs.Told.{Told, toldFrom, toldsFrom, faultOf, onwardFrom, ownFault, Passed, Few};
 
-// The pieces passed: whether one of them was not blank, and then where the first starts and the last ends, the lowest fault so far (12 for
-// none) and the records opened.
+// The pieces passed: whether one of them was not blank, and then where the first starts and the last ends, the lowest fault so far and the
+// records opened.
 struct Span {
     seen: bool,
     first: u8,
@@ -17,38 +16,11 @@ struct Span {
     opened: u32,
 }
 
-// Questions 7 and 8, where a piece ends at one level and the next starts at another.
-fn meet(last: u8, start: u8) -> u8
-    ensures { λ r. ⌜ verdictOf r ≡ between last start ⌝ }
-{
-    if last != start {
-        return 7;
-    }
-    if last == 0 { 8 } else { 12 }
-}
-
-// Question 9.
-fn count(opened: u32) -> u8
-    ensures { λ r. ⌜ verdictOf r ≡ countOf opened ⌝ }
-{
-    if opened <= 100_000 { 12 } else { 9 }
-}
-
-// Question 11.
-fn ends(first: u8, last: u8) -> u8
-    ensures { λ r. ⌜ verdictOf r ≡ endsOf first last ⌝ }
-{
-    if first != 0 {
-        return 11;
-    }
-    if last == 0 { 12 } else { 11 }
-}
-
 // The fault of a piece by its kind: 1 is a hill's, which has none.
 fn own_fault(kind: u8) -> u8
     ensures { λ r. ⌜ r ≡ ownFault kind ⌝ }
 {
-    if kind == 1 { 12 } else { kind }
+    if kind == 1 { fault::NONE } else { kind }
 }
 
 // One piece more: a kind of 0 is a blank, 1 a hill, and any other is the fault of a spoilt one.
@@ -78,12 +50,15 @@ fn pass(s: Span, kind: u8, start: u8, end: u8, opened: u32) -> Span
         seen: true,
         first,
         last: end,
-        fault: lower(fault, lower(own, meet(last, start))),
+        fault: fault::lower(
+            fault,
+            fault::lower(own, fault::joint(last as u16, start as u16)),
+        ),
         opened: before + opened,
     }
 }
 
-// The lowest fault, 12 for none, once all pieces are passed.
+// The lowest fault, once all pieces are passed.
 fn lowest(s: Span) -> u8
     ensures { λ r. ⌜ verdictOf r ≡ onwardFrom s [] ⌝ }
 {
@@ -95,10 +70,11 @@ fn lowest(s: Span) -> u8
     let first = s.first;
     let last = s.last;
     let opened = s.opened;
-    lower(lower(fault, count(opened)), ends(first, last))
+    let so_far = fault::lower(fault, fault::count(opened));
+    fault::lower(so_far, fault::ends(first as u16, last as u16))
 }
 
-// The lowest fault of a row, 12 for none.
+// The lowest fault of a row.
 pub fn row_fault(
     kinds: &[u8; 64],
     starts: &[u8; 64],
@@ -114,7 +90,7 @@ pub fn row_fault(
         seen: false,
         first: 0,
         last: 0,
-        fault: 12,
+        fault: fault::NONE,
         opened: 0,
     };
     let mut k: usize = 0;

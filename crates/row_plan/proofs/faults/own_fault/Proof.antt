@@ -1,9 +1,9 @@
--- `row_plan::fault::own_fault` meets its contract.
+-- `row_plan::faults::own_fault` meets its contract.
 -- Assumes nothing.
 use native.Mathlib.Omega.{arith}
 use Rattle.row_plan.specs.ToldLaws.{own-hill, own-spoilt}
-use Rattle.row_plan.proofs.fault.own_fault.Statement.{statement}
-use Rattle.row_plan.proofs.fault.own_fault.Tie as tie
+use Rattle.row_plan.proofs.faults.own_fault.Statement.{statement}
+use Rattle.row_plan.proofs.faults.own_fault.Tie as tie
 
 returns : tie.Need-returns
 returns c = own-hill _ (omega arith)

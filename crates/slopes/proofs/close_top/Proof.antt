@@ -1,4 +1,4 @@
--- `day::close_at` meets its contract: the record's figure joins the level below. Assumes nothing.
+-- `slopes::close_top` meets its contract: the record's figure joins the level below. Assumes nothing.
 use mathlib.Core.Path.{_≡_, refl}
 use Prim.Native.Nat.{ℕ}
 use denote.Ref.{now}
@@ -8,22 +8,21 @@ use mir.Facts.{toZ-ofZ}
 use Rattle.number.specs.Word.{back}
 use Rattle.figure.specs.Mode.{Mode, modeOf}
 use Rattle.figure.specs.Stored.{passed}
-use Rattle.slopes.specs.Arrays.{Arrays, at, amountsAt}
-use Rattle.slopes.specs.Laws.{adds, top-passes, top-joins, close-top}
-use Rattle.day.specs.Pass.{rising}
+use Rattle.slopes.specs.Arrays.{Arrays, arrays, at, amountsAt}
+use Rattle.slopes.specs.Laws.{adds, top-passes, top-joins}
 use borrow.Author.Needs.{needs}
-use Rattle.day.proofs.close_at.Statement.{statement}
-use Rattle.day.proofs.close_at.Tie as tie
+use Rattle.slopes.proofs.close_top.Statement.{statement}
+use Rattle.slopes.proofs.close_top.Tie as tie
 
 -- the mode, the arrays at entry, and the record's place
 abbrev M : tie.Start → Mode
 M a = modeOf (a .args .mode)
 
 abbrev A : tie.Start → Arrays
-A a = rising (now (a .args .values)) (now (a .args .floors)) (now (a .args .ceilings)) (now (a .args .held))
+A a = arrays (a .pre .left) (now (a .args .values)) (now (a .args .floors)) (now (a .args .ceilings)) (now (a .args .held))
 
 abbrev top : tie.Start → ℕ
-top a = a .args .depth
+top a = a .args .top
 
 -- what the code reads is what stands there
 module _ (c : tie.After-through-arg4) where
@@ -70,23 +69,22 @@ element-copy-out-through-4 : tie.Need-element-copy-out-through-4
 element-copy-out-through-4 c = search needs
 
 through-requires : tie.Need-through-requires
-through-requires c κs = rw (value-is c, held-is c) (top-passes {M = M (start c)} {A = A (start c)} (start c .pre) (top (start c)) refl)
+through-requires c κs = rw (value-is c, held-is c) (top-passes {M = M (start c)} {A = A (start c)} (start c .pre .able) (top (start c)) refl)
 
 add-requires : tie.Need-add-requires
 add-requires c κs =
     let t = c .before in
     let a = start (t .before) in
-    rw (toZ-ofZ (a .fits .mid), back w64 (t .through .result) (t .through .ok)) (adds (top-joins {M = M a} {A = A a} (a .pre) (top a) refl (figure-is t)))
+    rw (toZ-ofZ (a .fits .mid), back w64 (t .through .result) (t .through .ok)) (adds (top-joins {M = M a} {A = A a} (a .pre .able) (top a) refl (figure-is t)))
 
 returns : tie.Need-returns
 returns c =
     let t = c .before .before in
     let a = start (t .before) in
-    close-top {M = M a} {A = A a} (a .pre) (top a) refl (figure-is t)
-    (rw (back w64 (c .add .result) (c .add .ok)) (rw (toZ-ofZ (a .fits .mid), back w64 (t .through .result) (t .through .ok)) at (c .add .ensures)))
+    rw (← figure-is t, back w64 (c .add .result) (c .add .ok)) (rw (toZ-ofZ (a .fits .mid), back w64 (t .through .result) (t .through .ok)) at (c .add .ensures))
 
-pub close-at-spec : {M : Type 1} → statement M
-close-at-spec =
+pub close-top-spec : {M : Type 1} → statement M
+close-top-spec =
     tie.close
     (tie.spec
     mul-through
