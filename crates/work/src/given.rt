@@ -120,9 +120,10 @@ pub fn given(
     requires { ⌜ Gives (now row) count mode (now ats) (now starts) (now peaks) (now outs) n e ⌝ }
     ensures { λ r. ⌜ Given (now (row .entry)) mode (now (is .entry)) (now (js .entry)) (now (lows .entry)) (now (outs .entry)) n e r ⌝ }
 {
-    let level = e.high + 1;
     let i = e.i;
     let j = e.j;
+    let high = e.high;
+    let level = high + 1;
     let between = middles(row, count, mode, ats, starts, peaks, i, j, level);
     figure::combine(
         mode,
