@@ -5,7 +5,8 @@ ghost use Rattle.summary.specs.Judge.{middleAt};
 ghost use Rattle.plan_work.specs.Work.{middlesAt, between};
 ghost use Rattle.run_level.specs.Levels.{pieceOf};
 ghost use Rattle.work.specs.Stores.{Stores};
-ghost use Rattle.work.specs.Contracts.{IsPlaceOfHill, AddsMiddle, withMiddle, AddsOutcome, withOutcome, rowIn, Middles, OutsStored, Outcomes, Gives, Given};
+ghost use Rattle.run_level.specs.Along.{rowIn};
+ghost use Rattle.work.specs.Contracts.{IsPlaceOfHill, AddsMiddle, withMiddle, AddsOutcome, withOutcome, Middles, OutsStored, Outcomes, Gives, Given};
 use run_level::Place;
 
 // A line of the plan.
