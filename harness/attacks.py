@@ -73,15 +73,26 @@ def merge(left, right, room=200):
     return call("merge::merge", left + right, len(left), room)
 
 
-# Log D cut after record 2, in mode 1.
-HEAD = hill(1, 0, 0, 2, 2, [], 0, [(10, 0, 100, 0), (5, 0, 4, 0)])
-TAIL = hill(1, 2, 0, 0, 1, [0, -3], 0)
+def halves(mode, floor=0):
+    """Log D cut after record 2, its first record with this floor."""
+    none = NOTHING if mode == 2 else 0
+    last = {1: -3, 2: -3, 3: 0, 4: 2**32 - 3}[mode]
+    head = hill(mode, 0, 0, 2, 2, [], none, [(10, floor, 100, none), (5, 0, 4, none)])
+    return head, hill(mode, 2, 0, 0, 1, [none, last], none)
+
+
+def runs(mode, floor=0):
+    return call("runs::runs", b"".join(halves(mode, floor)))
+
+
+HEAD, TAIL = halves(1)
 WHOLE = hill(1, 0, 0, 0, 3, [], 12)
 # A closed record of one gram at depth 1, and the two halves of what may hold it.
 INSIDE = hill(1, 1, 1, 1, 1, [], 1)
 OPEN = hill(1, 0, 0, 1, 1, [], 0, [(10, 0, 100, 0)])
 SHUT = hill(1, 1, 0, 0, 0, [0], 0)
 NEGATIVE = opening(0, -3) + close(0)
+TEN_OVER = short(0, 10) + short(1, 1) + close(1) + short(1, 5) + close(1) + close(0)
 NINE = short(0, 0) + short(1, 9) + close(1) + short(1, 1) + close(1) + close(0)
 TWO_DAYS = 2 * (short(0, 1) + close(0))
 LONGEST = short(0, 1) + 4095 * (short(1, 1) + close(1)) + close(0)
@@ -100,10 +111,12 @@ INPUTS = {
     "day/stamp_for_eaten": call("day::figures", D),
     "fault/ground_not_asked": summarise(1, TWO_DAYS),
     "fault/highest_fault": summarise(1, short(0, 1) + TWO_DAYS),
-    "fault/takes_100001": merge(hill(1, 0, 0, 1, 50_001, [], 0, [(10, 0, 100, 0)]), hill(1, 1, 1, 1, 50_000, [], 1)),
+    "fault/takes_100001": call("plan::plan", hill(1, 0, 0, 1, 50_001, [], 0, [(10, 0, 100, 0)]) + hill(1, 1, 0, 0, 50_000, [0], 0)),
     "figure/floor_as_ceiling": call("day::figures", D),
-    "figure/lightest_line": call("day::figures", D),
-    "figure/other_figure_dropped": call("runs::runs", HEAD[:4] + b"\2" + HEAD[5:] + TAIL),
+    "figure/first_held": call("day::figures", TEN_OVER),
+    "figure/floor_once": runs(3, 50),
+    "figure/nothing_moved": runs(2),
+    "figure/other_figure_dropped": runs(2),
     "figure/stamp_factor": call("day::figures", D),
     "judge/fault_10": call("summarise::finish", spoilt(1, 10, 0, 0, 1)),
     "judge/ground_passed": call("summarise::finish", hill(1, 2, 0, 1, 1, [0, 0], 0, [(0, 0, 0, 0)])),
@@ -117,6 +130,8 @@ INPUTS = {
     "merge/pieces_cut_alike": call("merge::merge_row", blank(1) + HEAD),
     "merge/six_before_five": call("merge::merge_row", blank(1) + struct.pack("<HHH", 6, 15, 1)),
     "merge/takes_65": call("merge::merge_row", 65 * blank(1)),
+    "plan/fit_of_runs": call("plan::plan", HEAD + TAIL, room=12),
+    "plan/lowest_depth": call("plan::plan", HEAD + TAIL),
     "plan/line_kind": call("plan::plan", HEAD + TAIL),
     "record/cut_close": call("record::read_first", close(1)[:5]),
     "record/default_floor": call("record::read_first", short(0, -5)),
@@ -125,6 +140,12 @@ INPUTS = {
     "record/kind_for_length": call("record::read_first", D),
     "row_plan/meets_is_7": call("plan::plan", OPEN + OPEN),
     "row_plan/no_shared_record": call("plan::plan", OPEN + INSIDE + SHUT),
+    "runs/fit_of_lines": runs(1),
+    "runs/floor_as_ceiling": runs(3),
+    "runs/hills_swapped": runs(1),
+    "runs/inside_out": runs(3),
+    "runs/kind_of_run": runs(1),
+    "runs/levels_left_out": runs(1),
     "slopes/add_drops_what_was_held": summarise(1, opening(1, 5) + close(1) + opening(1, 7) + close(1)),
     "slopes/close_ceiling_as_floor": summarise(3, D),
     "slopes/left_level_twice": summarise(1, close(3)),
@@ -145,14 +166,14 @@ INPUTS = {
     "tulghimo/finish_always_5": call("tulghimo::tulghimo_finish", blank(1)),
     "tulghimo/finish_zero": call("tulghimo::tulghimo_finish", WHOLE),
     "tulghimo/merge_left_twice": call("tulghimo::tulghimo_merge", HEAD + TAIL, len(HEAD)),
-    "tulghimo/merge_row_always_12": call("tulghimo::tulghimo_merge_row", HEAD + TAIL),
-    "tulghimo/merge_row_length_6": call("tulghimo::tulghimo_merge_row", HEAD + TAIL),
+    "tulghimo/merge_row_of_blanks": call("tulghimo::tulghimo_merge_row", HEAD + TAIL),
+    "tulghimo/merge_row_unread": call("tulghimo::tulghimo_merge_row", HEAD + TAIL),
     "tulghimo/merge_swapped": call("tulghimo::tulghimo_merge", HEAD + TAIL, len(HEAD)),
-    "tulghimo/plan_always_4": call("tulghimo::tulghimo_plan", HEAD + TAIL),
-    "tulghimo/plan_one_line": call("tulghimo::tulghimo_plan", WHOLE + blank(1)),
+    "tulghimo/plan_unread": call("tulghimo::tulghimo_plan", HEAD + TAIL),
     "tulghimo/read_ceiling_for_floor": call("tulghimo::tulghimo_read", D),
     "tulghimo/read_status": call("tulghimo::tulghimo_read", b""),
     "tulghimo/refusal_positive": call("tulghimo::tulghimo_day", b""),
+    "tulghimo/runs_unread": call("tulghimo::tulghimo_runs", HEAD + TAIL),
     "tulghimo/status_always_12": call("tulghimo::tulghimo_merge_row", 65 * blank(1)),
     "tulghimo/summarise_always_net": call("tulghimo::tulghimo_summarise", D, 4),
     "tulghimo/summarise_mode_cut": call("tulghimo::tulghimo_summarise", D, 65_537),
