@@ -2,7 +2,6 @@
 pub mod Stretch
 pub mod Asks
 pub mod RowAsks
-pub mod FaultLaws
 pub mod SayLaws
 pub mod KeptLaws
 pub mod AnswerLaws

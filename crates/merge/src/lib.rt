@@ -18,22 +18,17 @@ ghost use Rattle.summary.specs.Accepted.{IsSummaryIn};
 ghost use Rattle.summary.specs.Outcomes.{mergeBytes, mergeOutcome};
 ghost use Rattle.slopes.specs.Arrays.{arrays, slopesOf};
 ghost use Rattle.outcome.specs.Outcomes.{mergeRowOutcome};
-ghost use Rattle.merge.specs.Stretch.{verdictOf, SaysPart, SaysOf, FewOpened};
+ghost use Rattle.fault.specs.Fault.{verdictOf};
+ghost use Rattle.merge.specs.Stretch.{SaysPart, SaysOf, FewOpened};
 ghost use Rattle.merge.specs.Asks.{Answers, Arrays64, Kept, Keeps, Writable};
 ghost use Rattle.merge.specs.RowAsks.{Row, rowSummary, rowMerged, modeOfAll, modeAnswer};
 use gate::Written;
 use judge::Judged;
 use slopes::Counts;
 
-// The lowest fault of a stretch, if there is one. `verdictOf` says what each case means.
-enum Fault {
-    Clear,
-    Number(u16),
-}
-
 // What a summary that is not blank says before its slopes. A spoilt one has no peak: 0 stands there.
 struct Part {
-    fault: Fault,
+    fault: u8,
     start: u16,
     peak: u16,
     end: u16,
@@ -64,44 +59,16 @@ fn lower_level(a: u16, b: u16) -> u16
     if a <= b { a } else { b }
 }
 
-// "Several faults: the lowest."
-fn lower_fault(a: Fault, b: Fault) -> Fault
-    ensures { λ r. ⌜ verdictOf r ≡ low (verdictOf a) (verdictOf b) ⌝ }
-{
-    let Fault::Number(m) = a else {
-        return b;
-    };
-    let Fault::Number(n) = b else {
-        return a;
-    };
-    if m <= n { a } else { b }
-}
-
-// The fault of a join of two stretches: the left ends at one level, the right starts at another, and together they open so many records.
-fn join_fault(end: u16, start: u16, opened: u32) -> Fault
-    ensures { λ r. ⌜ verdictOf r ≡ low (between end start) (count opened) ⌝ }
-{
-    if end != start {
-        return Fault::Number(7);
-    }
-    if end == 0 {
-        return Fault::Number(8);
-    }
-    if 100_000 < opened {
-        return Fault::Number(9);
-    }
-    Fault::Clear
-}
-
 // "The lowest of these faults": the left's, the right's and those of the join.
-fn merge_fault(a: Part, b: Part) -> Fault
+fn merge_fault(a: Part, b: Part) -> u8
     requires { ⌜ (a .opened ≤ 100001) × (b .opened ≤ 100001) ⌝ }
     ensures { λ r. ⌜ verdictOf r ≡ low (verdictOf (a .fault)) (low (verdictOf (b .fault)) (low (between (a .end) (b .start)) (count (a .opened + b .opened)))) ⌝ }
 {
-    let l = a.fault;
-    let r = b.fault;
-    let join = join_fault(a.end, b.start, a.opened + b.opened);
-    lower_fault(l, lower_fault(r, join))
+    let join = fault::lower(
+        fault::joint(a.end, b.start),
+        fault::count(a.opened + b.opened),
+    );
+    fault::lower(a.fault, fault::lower(b.fault, join))
 }
 
 // Opened records, where 100,001 means "more".
@@ -126,7 +93,7 @@ fn stretch_of(b: &[u8]) -> Stretch
     let opened = number::read_u32(b, 12);
     if kind == 17 {
         return Stretch::Part(Part {
-            fault: Fault::Number(third),
+            fault: third as u8,
             start: fourth,
             peak: 0,
             end,
@@ -134,7 +101,7 @@ fn stretch_of(b: &[u8]) -> Stretch
         });
     }
     Stretch::Part(Part {
-        fault: Fault::Clear,
+        fault: fault::NONE,
         start: third,
         peak: fourth,
         end,
@@ -192,17 +159,16 @@ fn add_piece(
     let before = a.stretch;
     let c = a.counts;
     let both = follow(before, p);
-    let fault = both.fault;
-    let Fault::Number(_) = fault else {
-        let loaded = codec::load(mode, piece, left, values, floors, ceilings, held, c);
+    if both.fault < fault::NONE {
         return Merged {
             stretch: Stretch::Part(both),
-            counts: loaded,
+            counts: c,
         };
-    };
+    }
+    let loaded = codec::load(mode, piece, left, values, floors, ceilings, held, c);
     Merged {
         stretch: Stretch::Part(both),
-        counts: c,
+        counts: loaded,
     }
 }
 
@@ -274,21 +240,21 @@ fn put_merged(
         return put_blank(mode, out);
     };
     let fault = p.fault;
-    match fault {
-        Fault::Number(n) => put_spoilt(mode, n, p.start, p.end, p.opened, out),
-        Fault::Clear => put_hill(
-            mode,
-            p.peak,
-            p.opened,
-            left,
-            values,
-            floors,
-            ceilings,
-            held,
-            c,
-            out,
-        ),
+    if fault < fault::NONE {
+        return put_spoilt(mode, fault as u16, p.start, p.end, p.opened, out);
     }
+    put_hill(
+        mode,
+        p.peak,
+        p.opened,
+        left,
+        values,
+        floors,
+        ceilings,
+        held,
+        c,
+        out,
+    )
 }
 
 // Nothing merged yet.
