@@ -345,6 +345,10 @@ def main(chosen):
                 failed += 1
                 continue
             old, new = words["old"], words["new"]
+            if (CRATES / name.split("/")[0] / words["file"]).read_text().count(old) != 1:
+                print(f"{name}: its old text does not stand once in {words['file']}")
+                failed += 1
+                continue
             edited = build(scratch / str(number), name.split("/")[0], words["file"],
                            lambda text: text.replace(old, new), scratch / "as-it-is")
             right, wrong = ask(program, INPUTS[name]), ask(edited, INPUTS[name])
