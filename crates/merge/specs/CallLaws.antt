@@ -24,7 +24,7 @@ use Rattle.outcome.specs.Through.{all-in as all-of}
 use Rattle.judge.specs.declared.Piece.{Piece}
 use Rattle.judge.specs.Laws.{Judges}
 use Rattle.merge.specs.Asks.{Answers}
-use Rattle.merge.specs.RowAsks.{Row, rowMerged, modeOfAll, Passed}
+use Rattle.merge.specs.RowAsks.{Row, rowSummary, rowMerged, modeOfAll, Passed}
 
 -- ---- a call that is refused, and one that is not
 
@@ -177,5 +177,5 @@ module _ (row : List ℕ) (cap : ℕ) {n : ℕ} (e : n ≡ min 65 (length (rowPi
       is-row = record { all = all-in; count-is = omega arith; some = omega arith; few = hi }
 
       pub row-is : mergeRowOutcome row cap ≡ written cap (rowMerged m row)
-      unfolding mergeRowOutcome mergedBytes rowMerged
+      unfolding mergeRowOutcome mergedBytes rowSummary
       row-is = ap (λ (o : Outcome Summaries). onward o (λ s. written cap (mergedBytes s))) (ask-all m (rowPieces row) all-in (omega arith) (omega arith))

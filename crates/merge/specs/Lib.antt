@@ -4,7 +4,7 @@ pub mod Asks
 pub mod RowAsks
 pub mod FaultLaws
 pub mod SayLaws
-pub mod HillLaws
+pub mod KeptLaws
 pub mod AnswerLaws
 pub mod CallLaws
 pub mod RowLaws

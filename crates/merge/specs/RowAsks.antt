@@ -8,7 +8,7 @@ use Rattle.gate.specs.Outcome.{Outcome, refused, result, question}
 use Rattle.row.specs.Row.{rowPieces}
 use Rattle.figure.specs.Mode.{modeOf}
 use Rattle.hill.specs.Row.{mergeRow}
-use Rattle.summary.specs.Layout.{encode}
+use Rattle.summary.specs.Layout.{SummaryIn, encode}
 use Rattle.summary.specs.Decode.{decode}
 use Rattle.outcome.specs.Outcomes.{allSummaries, allOf, firstMode}
 use Rattle.outcome.specs.Laws.{AllIn}
@@ -22,9 +22,12 @@ pub record Row (m : ℕ) (row : List ℕ) (count : ℕ) : Type 0 where
   pub some : 1 ≤ count
   pub few : count ≤ 64
 
--- The bytes of its summaries merged, "half with half and each half likewise".
-unfoldable pub rowMerged : ℕ → List ℕ → List ℕ
-rowMerged m row = encode m (mergeRow (modeOf m .algebra) (map (decode m) (rowPieces row)))
+-- Its summaries merged, "half with half and each half likewise", and the bytes of that.
+unfoldable pub rowSummary : (m : ℕ) → List ℕ → SummaryIn m
+rowSummary m row = mergeRow (modeOf m .algebra) (map (decode m) (rowPieces row))
+
+abbrev pub rowMerged : ℕ → List ℕ → List ℕ
+rowMerged m row = encode m (rowSummary m row)
 
 -- Questions 5 and 6 of a row's pieces, and their mode.
 unfoldable pub modeOfAll : List (List ℕ) → Outcome ℕ

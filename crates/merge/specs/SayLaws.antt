@@ -1,30 +1,30 @@
--- What accepted bytes say before their slopes, and what two of them come to. Assumes nothing.
-use mathlib.Core.Path.{_≡_, refl, ap, ap₂, sym, _∙_}
+-- What accepted bytes say before their slopes, and what two stretches say together. Assumes nothing.
+use mathlib.Core.Path.{_≡_, refl, ap, ap₂, sym, subst, _∙_}
 use mathlib.Core.Logic.{_≢_}
 use mathlib.Core.List.{List}
 use Prim.Native.Nat.{ℕ, _+_, _≤_, min}
 use native.Mathlib.Omega.{arith}
 use lib.ListN.{length}
+use Rattle.algebra.specs.Algebra.{Algebra}
+use Rattle.figure.specs.FourModes.{Amounts}
 use Rattle.figure.specs.Mode.{modeOf}
-use Rattle.hill.specs.Verdict.{Verdict, pass, refuse, low, between, count, cut}
-use Rattle.hill.specs.VerdictLaws.{low-fst, low-snd, between-pass, refuse-pass}
-use Rattle.hill.specs.Summary.{blank, part, spoilt, whole, start, end, opened, verdict, peak, slopes, judged}
-use Rattle.hill.specs.Merge.{mergeHills, mergeVerdict, mergePart, mergeSummary}
-use Rattle.hill.specs.SummaryLaws.{merge-blank}
-use Rattle.summary.specs.Judge.{kindAt, faultAt, spoiltStartAt, startAt, peakAt, endAt, openedAt, riseAt, fallAt, IsHill, IsSummary, isBlank, isSpoilt, isHill}
-use Rattle.summary.specs.Layout.{encode, SummaryIn}
+use Rattle.hill.specs.Verdict.{pass, refuse, low, between, count, cut}
+use Rattle.hill.specs.VerdictLaws.{low-fst, low-snd}
+use Rattle.hill.specs.Summary.{blank, part, spoilt, whole, start, end, opened, verdict, peak}
+use Rattle.hill.specs.Summary.{Part as SummaryPart}
+use Rattle.hill.specs.Merge.{mergeVerdict, mergePart, mergeSummary}
+use Rattle.hill.specs.SummaryLaws.{verdict-merge, start-merge, end-merge, opened-merge}
+use Rattle.summary.specs.Judge.{kindAt, faultAt, spoiltStartAt, peakAt, endAt, openedAt, riseAt, fallAt, IsHill, IsSummary, isBlank, isSpoilt, isHill}
+use Rattle.summary.specs.Layout.{SummaryIn}
 use Rattle.summary.specs.Decode.{decode, hillIn}
 use Rattle.summary.specs.Values.{lefts-length, rights-length, reading-blank, reading-spoilt, reading-hill}
-use Rattle.summary.specs.Fields.{AllBytes}
-use Rattle.summary.specs.Accepted.{IsSummaryIn, encode-decode}
-use Rattle.summary.specs.Outcomes.{mergeBytes}
+use Rattle.summary.specs.Accepted.{Accepted}
 use Rattle.merge.specs.declared.Fault.{Fault}
 use Rattle.merge.specs.declared.Fault.the-variants.{Clear, Number}
 use Rattle.merge.specs.declared.Part.{Part}
 use Rattle.merge.specs.declared.Stretch.{Stretch}
 use Rattle.merge.specs.declared.Stretch.the-variants as stretch
-use Rattle.merge.specs.Stretch.{verdictOf, SaysPart, SaysOf}
-use Rattle.merge.specs.Asks.{Meet, Parts}
+use Rattle.merge.specs.Stretch.{verdictOf, SaysPart, SaysOf, FewOpened}
 
 -- ---- the bytes are there
 
@@ -53,11 +53,11 @@ module _ (m : ℕ) (b : List ℕ) where
   unfolding decode
   says-blank e = reading-blank (modeOf m .read) b e
 
-  decode-spoilt : kindAt b ≡ 17 → decode m b ≡ part (spoilt (faultAt b) (spoiltStartAt b) (endAt b) (openedAt b))
+  pub decode-spoilt : kindAt b ≡ 17 → decode m b ≡ part (spoilt (faultAt b) (spoiltStartAt b) (endAt b) (openedAt b))
   unfolding decode
   decode-spoilt e = reading-spoilt (modeOf m .read) b e
 
-  decode-hill : kindAt b ≡ 18 → decode m b ≡ part (whole (peakAt b) (openedAt b) (hillIn (modeOf m .read) b))
+  pub decode-hill : kindAt b ≡ 18 → decode m b ≡ part (whole (peakAt b) (openedAt b) (hillIn (modeOf m .read) b))
   unfolding decode
   decode-hill e = reading-hill (modeOf m .read) b e
 
@@ -66,7 +66,7 @@ module _ (m : ℕ) (b : List ℕ) where
     says-spoilt k = record {
       said = spoilt (faultAt b) (spoiltStartAt b) (endAt b) (openedAt b);
       is = decode-spoilt k;
-      says = record { fault = ap refuse ex; start = ey; peak = refl; end = ee; opened = eo };
+      says = record { fault = ap refuse ex; start = ey; peak = λ v. refl; end = ee; opened = eo };
     }
 
     pub says-hill : IsHill b → SaysPart m (numbers Clear x y e o) (decode m b)
@@ -76,7 +76,7 @@ module _ (m : ℕ) (b : List ℕ) where
       says = record {
         fault = refl;
         start = omega (arith, lefts-length (modeOf m .read) b (riseAt b), v .peak-start);
-        peak = ey;
+        peak = λ v. ey;
         end = omega (arith, rights-length (modeOf m .read) b (fallAt b), v .peak-end);
         opened = eo;
       };
@@ -89,133 +89,55 @@ module _ (m : ℕ) (s : SummaryIn m) (r : Stretch) (h : SaysOf m r s) where
   pub part-said : {p : Part} → r ≡ stretch.Part p → SaysPart m p s
   part-said e = rw e at h
 
--- ---- a blank adds nothing
-
-module _ (m : ℕ) (a b : List ℕ) where
-  pub blank-left : decode m a ≡ blank → AllBytes b → IsSummaryIn m b → mergeBytes m a b ≡ b
-  unfolding mergeBytes
-  blank-left e h i = ap (λ (s : SummaryIn m). encode m (mergeSummary (modeOf m .algebra) s (decode m b))) e ∙ encode-decode m b h i
-
-  pub blank-right : decode m b ≡ blank → AllBytes a → IsSummaryIn m a → mergeBytes m a b ≡ a
-  unfolding mergeBytes
-  blank-right e h i =
-      ap (λ (s : SummaryIn m). encode m (mergeSummary (modeOf m .algebra) (decode m a) s)) e ∙ ap (encode m) (merge-blank (modeOf m .algebra) (decode m a)) ∙ encode-decode m a h i
-
 -- ---- few records are opened
 
-pub few-opened : {m : ℕ} {b : List ℕ} {p : Part} → IsSummaryIn m b → SaysPart m p (decode m b) → p .opened ≤ 100001
-few-opened {m} {b} {p} i s = go (i .is)
+pub few-said : {m : ℕ} {s : SummaryIn m} {p : Part} → Accepted m s → SaysPart m p s → p .opened ≤ 100001
+few-said {m} {s} {p} v h = go (h .said) (h .says .opened) (subst (Accepted m) (h .is) v)
   where
-    go : IsSummary b → p .opened ≤ 100001
-    go (isBlank f) = let z : _≡_ {A = ℕ} 0 1 = cc (says-blank m b (f .kind-fits), s .is) in absurd (omega arith)
-    go (isSpoilt v) =
-        let e : s .said ≡ spoilt (faultAt b) (spoiltStartAt b) (endAt b) (openedAt b) = cc (decode-spoilt m b (v .layout .kind-fits), s .is) in
-        omega (arith, s .says .opened, ap opened e, v .opened-few)
-    go (isHill v) =
-        let e : s .said ≡ whole (peakAt b) (openedAt b) (hillIn (modeOf m .read) b) = cc (decode-hill m b (v .layout .kind-fits), s .is) in
-        omega (arith, s .says .opened, ap opened e, v .opened-few)
+    go : (a : SummaryPart (modeOf m .algebra .Fig) Amounts) → p .opened ≡ opened a → Accepted m (part a) → p .opened ≤ 100001
+    go (spoilt f b e o) i v = omega (arith, v .few)
+    go (whole k o g) i v = omega (arith, v .few)
 
--- ---- a summary with no fault is a hill
+pub few-stretch : (m : ℕ) (s : SummaryIn m) (r : Stretch) → Accepted m s → SaysOf m r s → FewOpened r
+few-stretch m s stretch.Blank v h = tt
+few-stretch m s (stretch.Part p) v h = few-said v h
 
-pub record IsWhole (m : ℕ) (b : List ℕ) (p : Part) : Type 0 where
-  pub hill : IsHill b
-  pub is : decode m b ≡ part (whole (peakAt b) (openedAt b) (hillIn (modeOf m .read) b))
-  pub start-is : p .start ≡ startAt b
-  pub peak-is : p .peak ≡ peakAt b
-  pub end-is : p .end ≡ endAt b
-  pub opened-is : p .opened ≡ openedAt b
+-- ---- two stretches
 
-pub is-whole : {m : ℕ} {b : List ℕ} {p : Part} → IsSummaryIn m b → SaysPart m p (decode m b) → verdictOf (p .fault) ≡ pass → IsWhole m b p
-is-whole {m} {b} {p} i s c = go (i .is)
-  where
-    go : IsSummary b → IsWhole m b p
-    go (isBlank f) = let z : _≡_ {A = ℕ} 0 1 = cc (says-blank m b (f .kind-fits), s .is) in absurd (omega arith)
-    go (isSpoilt v) =
-        let e : s .said ≡ spoilt (faultAt b) (spoiltStartAt b) (endAt b) (openedAt b) = cc (decode-spoilt m b (v .layout .kind-fits), s .is) in
-        absurd (refuse-pass (sym (ap verdict e) ∙ sym (s .says .fault) ∙ c))
-    go (isHill v) =
-        let d = decode-hill m b (v .layout .kind-fits) in
-        let e : s .said ≡ whole (peakAt b) (openedAt b) (hillIn (modeOf m .read) b) = cc (d, s .is) in
+module _ (m : ℕ) where
+  abbrev 𝒜 : Algebra Amounts
+  𝒜 = modeOf m .algebra
+
+  module _ {s t : SummaryIn m} {p : Part} (h : SaysPart m p t) where
+    -- "A blank adds nothing."
+    pub after-blank : s ≡ blank → SaysPart m p (mergeSummary 𝒜 s t)
+    after-blank e = rw e h
+
+    -- "The lowest of these faults, the left's start, the right's end, opened added and cut to 100,001."
+    pub after-part : {q : Part} {f : Fault} {k o : ℕ} → SaysPart m q s →
+        verdictOf f ≡ low (verdictOf (q .fault)) (low (verdictOf (p .fault)) (low (between (q .end) (p .start)) (count (q .opened + p .opened)))) →
+        k ≡ min (q .peak) (p .peak) → o ≡ cut (q .opened + p .opened) → SaysPart m (numbers f (q .start) k (p .end) o) (mergeSummary 𝒜 s t)
+    after-part {q} {f} {k} {o} g ef ek eo =
+        let l = g .says in
+        let r = h .says in
+        let a : SummaryPart (𝒜 .Fig) Amounts = g .said in
+        let b : SummaryPart (𝒜 .Fig) Amounts = h .said in
+        let w : verdictOf f ≡ mergeVerdict 𝒜 a b = ef ∙ rw (l .fault, r .fault, l .end, r .start, l .opened, r .opened) refl in
         record {
-          hill = v;
-          is = d;
-          start-is = omega (arith, s .says .start, ap start e, lefts-length (modeOf m .read) b (riseAt b), v .peak-start);
-          peak-is = omega (arith, s .says .peak, ap (peak (modeOf m .algebra)) e);
-          end-is = omega (arith, s .says .end, ap end e, rights-length (modeOf m .read) b (fallAt b), v .peak-end);
-          opened-is = omega (arith, s .says .opened, ap opened e);
+          said = mergePart 𝒜 a b;
+          is = ap₂ (mergeSummary 𝒜) (g .is) (h .is);
+          says = record {
+            fault = w ∙ sym (verdict-merge 𝒜 a b);
+            start = l .start ∙ sym (start-merge 𝒜 (modeOf m .laws) a b);
+            peak = λ v. lowest a b (sym (verdict-merge 𝒜 a b) ∙ v) ek (l .peak) (r .peak);
+            end = r .end ∙ sym (end-merge 𝒜 (modeOf m .laws) a b);
+            opened = eo ∙ ap₂ (λ (x y : ℕ). cut (x + y)) (l .opened) (r .opened) ∙ sym (opened-merge 𝒜 a b);
+          };
         }
-
--- ---- two that are not blank
-
-abbrev pub faultOf : Part → Part → Verdict
-faultOf p q = low (verdictOf (p .fault)) (low (verdictOf (q .fault)) (low (between (p .end) (q .start)) (count (p .opened + q .opened))))
-
-module _ {m : ℕ} {a b : List ℕ} {p q : Part} (h : Parts m a b p q) where
-  merged-is : mergeBytes m a b ≡ encode m (part (mergePart (modeOf m .algebra) (h .left-says .said) (h .right-says .said)))
-  unfolding mergeBytes
-  merged-is = ap₂ (λ (s t : SummaryIn m). encode m (mergeSummary (modeOf m .algebra) s t)) (h .left-says .is) (h .right-says .is)
-
-  verdict-is : faultOf p q ≡ mergeVerdict (modeOf m .algebra) (h .left-says .said) (h .right-says .said)
-  verdict-is =
-      let l = h .left-says .says in
-      let r = h .right-says .says in
-      rw (l .fault, r .fault, l .end, r .start, l .opened, r .opened)
-
-  judged-as : (v : Verdict) → faultOf p q ≡ v → mergePart (modeOf m .algebra) (h .left-says .said) (h .right-says .said) ≡
-      judged v (start (h .left-says .said)) (end (h .right-says .said)) (opened (h .left-says .said) + opened (h .right-says .said))
-      (min (peak (modeOf m .algebra) (h .left-says .said)) (peak (modeOf m .algebra) (h .right-says .said)))
-      (mergeHills (modeOf m .algebra) (slopes (modeOf m .algebra) (h .left-says .said)) (slopes (modeOf m .algebra) (h .right-says .said)))
-  judged-as v e = rw (sym verdict-is ∙ e)
-
-  -- "the result is spoilt: the lowest of these faults, the left's start, the right's end, opened added and cut to 100,001"
-  pub spoilt-way : {f : Fault} {n k : ℕ} → verdictOf f ≡ faultOf p q → f ≡ Number n → k ≡ cut (p .opened + q .opened) → encode m (part (spoilt n (p .start) (q .end) k)) ≡ mergeBytes m a b
-  spoilt-way {f} {n} e en ek =
-      let l = h .left-says .says in
-      let r = h .right-says .says in
-      let v : faultOf p q ≡ refuse n = sym e ∙ ap verdictOf en in
-      sym (merged-is ∙ ap (λ x. encode m (part x)) (judged-as (refuse n) v) ∙ rw (ek, l .start, r .end, l .opened, r .opened))
-
-  -- nothing is at fault
-  module _ {f : Fault} (e : verdictOf f ≡ faultOf p q) (ec : f ≡ Clear) where
-    passes : faultOf p q ≡ pass
-    passes = sym e ∙ ap verdictOf ec
-
-    left-clear : verdictOf (p .fault) ≡ pass
-    left-clear = low-fst (verdictOf (p .fault)) (low (verdictOf (q .fault)) (low (between (p .end) (q .start)) (count (p .opened + q .opened)))) passes
-
-    rest-clear : low (verdictOf (q .fault)) (low (between (p .end) (q .start)) (count (p .opened + q .opened))) ≡ pass
-    rest-clear = low-snd (verdictOf (p .fault)) (low (verdictOf (q .fault)) (low (between (p .end) (q .start)) (count (p .opened + q .opened)))) passes
-
-    right-clear : verdictOf (q .fault) ≡ pass
-    right-clear = low-fst (verdictOf (q .fault)) (low (between (p .end) (q .start)) (count (p .opened + q .opened))) rest-clear
-
-    meets : p .end ≡ q .start
-    meets =
-        between-pass (p .end) (q .start)
-        (low-fst (between (p .end) (q .start)) (count (p .opened + q .opened)) (low-snd (verdictOf (q .fault)) (low (between (p .end) (q .start)) (count (p .opened + q .opened))) rest-clear))
-
-    pub meet-way : {k : ℕ} → k ≡ min (p .peak) (q .peak) → Meet m a b (p .start) k (q .end)
-    meet-way ek =
-        let l = is-whole (h .left) (h .left-says) left-clear in
-        let r = is-whole (h .right) (h .right-says) right-clear in
-        record {
-          left = l .hill;
-          left-mode = h .left .mode-is;
-          right = r .hill;
-          right-mode = h .right .mode-is;
-          meet = sym (l .end-is) ∙ meets ∙ r .start-is;
-          start-is = l .start-is;
-          peak-is = ek ∙ ap₂ min (l .peak-is) (r .peak-is);
-          end-is = r .end-is;
-        }
-
-    pub hill-way : {k o : ℕ} → k ≡ min (p .peak) (q .peak) → o ≡ p .opened + q .opened →
-        encode m (part (whole k o (mergeHills (modeOf m .algebra) (hillIn (modeOf m .read) a) (hillIn (modeOf m .read) b)))) ≡ mergeBytes m a b
-    hill-way ek eo =
-        let l = is-whole (h .left) (h .left-says) left-clear in
-        let r = is-whole (h .right) (h .right-says) right-clear in
-        let x : h .left-says .said ≡ whole (peakAt a) (openedAt a) (hillIn (modeOf m .read) a) = cc (l .is, h .left-says .is) in
-        let y : h .right-says .said ≡ whole (peakAt b) (openedAt b) (hillIn (modeOf m .read) b) = cc (r .is, h .right-says .is) in
-        sym
-        (merged-is ∙ ap (λ x. encode m (part x)) (judged-as pass passes)
-        ∙ rw (x, y, ek, eo, l .peak-is, r .peak-is, l .opened-is, r .opened-is))
+      where
+        lowest : (a b : SummaryPart (𝒜 .Fig) Amounts) → mergeVerdict 𝒜 a b ≡ pass → k ≡ min (q .peak) (p .peak) → (verdict a ≡ pass → q .peak ≡ peak 𝒜 a) → (verdict b ≡ pass → p .peak ≡ peak 𝒜 b) → k ≡ peak 𝒜 (mergePart 𝒜 a b)
+        lowest a b v ek ea eb =
+            let x = low-fst (verdict a) (low (verdict b) (low (between (end a) (start b)) (count (opened a + opened b)))) v in
+            let y = low-snd (verdict a) (low (verdict b) (low (between (end a) (start b)) (count (opened a + opened b)))) v in
+            let z = low-fst (verdict b) (low (between (end a) (start b)) (count (opened a + opened b))) y in
+            rw v (ek ∙ ap₂ min (ea x) (eb z))

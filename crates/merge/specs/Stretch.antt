@@ -1,6 +1,6 @@
 -- What a summary says before its slopes, as the code holds it, and what that means. Definitions only.
 use mathlib.Core.Path.{_≡_}
-use Prim.Native.Nat.{ℕ}
+use Prim.Native.Nat.{ℕ, _≤_}
 use Rattle.figure.specs.FourModes.{Amounts}
 use Rattle.figure.specs.Mode.{modeOf}
 use Rattle.hill.specs.Verdict.{Verdict, pass, refuse}
@@ -18,11 +18,11 @@ abbrev pub verdictOf : Fault → Verdict
 verdictOf Clear = pass
 verdictOf (Number n) = refuse n
 
--- The numbers in p are those of the summary a, which is not blank.
+-- The numbers in p are those of the summary a, which is not blank. (One with a fault has no peak.)
 pub record Says (m : ℕ) (p : Part) (a : SummaryPart (modeOf m .algebra .Fig) Amounts) : Type 0 where
   pub fault : verdictOf (p .fault) ≡ verdict a
   pub start : p .start ≡ start a
-  pub peak : p .peak ≡ peak (modeOf m .algebra) a
+  pub peak : verdict a ≡ pass → p .peak ≡ peak (modeOf m .algebra) a
   pub end : p .end ≡ end a
   pub opened : p .opened ≡ opened a
 
@@ -35,3 +35,8 @@ pub record SaysPart (m : ℕ) (p : Part) (s : SummaryIn m) : Type 0 where
 abbrev pub SaysOf : (m : ℕ) → Stretch → SummaryIn m → Type 0
 SaysOf m stretch.Blank s = s ≡ blank
 SaysOf m (stretch.Part p) s = SaysPart m p s
+
+-- "at most 100,001, which means 'more'"
+abbrev pub FewOpened : Stretch → Type 0
+FewOpened stretch.Blank = Unit {0}
+FewOpened (stretch.Part p) = p .opened ≤ 100001

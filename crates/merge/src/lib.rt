@@ -1,24 +1,26 @@
 // Merging summaries: two, or a row of them half with half. Document 01, "Summaries".
 ghost use mathlib.Core.Path.{_≡_};
-ghost use Prim.Native.Nat.{ℕ, _+_, _-_, _*_, _≤_, _<_, min};
+ghost use mathlib.Core.List.{List};
+ghost use Prim.Native.Nat.{ℕ, _+_, _≤_, _<_, min};
+ghost use lib.IntN.{ℤ};
 ghost use lib.ListN.{length};
 ghost use Rattle.gate.specs.Outcome.{written, bufferAfter};
 ghost use Rattle.gate.specs.Answers.{writtenAnswer, lengthAnswered};
 ghost use Rattle.row.specs.Row.{rowPieces};
 ghost use Rattle.figure.specs.Mode.{modeOf};
 ghost use Rattle.hill.specs.Verdict.{low, between, count, cut};
-ghost use Rattle.hill.specs.Summary.{part, spoilt, whole};
-ghost use Rattle.hill.specs.Merge.{mergeHills};
+ghost use Rattle.hill.specs.Summary.{blank, part, spoilt, whole};
+ghost use Rattle.hill.specs.Merge.{mergeSummary};
 ghost use Rattle.summary.specs.Judge.{IsSummary};
-ghost use Rattle.summary.specs.Layout.{encode};
-ghost use Rattle.summary.specs.Decode.{decode, hillIn};
+ghost use Rattle.summary.specs.Layout.{SummaryIn, encode};
+ghost use Rattle.summary.specs.Decode.{decode};
 ghost use Rattle.summary.specs.Accepted.{IsSummaryIn};
 ghost use Rattle.summary.specs.Outcomes.{mergeBytes, mergeOutcome};
+ghost use Rattle.slopes.specs.Arrays.{arrays, slopesOf};
 ghost use Rattle.outcome.specs.Outcomes.{mergeRowOutcome};
-ghost use Rattle.codec.specs.Contracts.{Wrote};
-ghost use Rattle.merge.specs.Stretch.{verdictOf, SaysOf};
-ghost use Rattle.merge.specs.Asks.{Answers, Meet, Parts};
-ghost use Rattle.merge.specs.RowAsks.{Row, rowMerged, modeOfAll, modeAnswer};
+ghost use Rattle.merge.specs.Stretch.{verdictOf, SaysPart, SaysOf, FewOpened};
+ghost use Rattle.merge.specs.Asks.{Answers, Arrays64, Kept, Keeps, Writable};
+ghost use Rattle.merge.specs.RowAsks.{Row, rowSummary, rowMerged, modeOfAll, modeAnswer};
 use gate::Written;
 use judge::Judged;
 use slopes::Counts;
@@ -47,6 +49,12 @@ enum OneMode {
 enum Stretch {
     Blank,
     Part(Part),
+}
+
+// Pieces merged so far: what they say together before the slopes, and how much of five arrays their hill takes. `Kept` says what that means.
+struct Merged {
+    stretch: Stretch,
+    counts: Counts,
 }
 
 // The lower of two levels.
@@ -134,21 +142,6 @@ fn stretch_of(b: &[u8]) -> Stretch
     })
 }
 
-// A summary's own bytes.
-fn copy(b: &[u8], out: &mut [u8]) -> Written
-    ensures { λ r. ⌜ Answers (written (length (now (out .entry))) (now (b .entry))) (now (out .entry)) (now (out .exit)) r ⌝ }
-{
-    if out.len() < b.len() {
-        return Written::Refused(12);
-    }
-    let mut i: usize = 0;
-    while i < b.len() {
-        out[i] = b[i];
-        i += 1;
-    }
-    Written::Bytes(i)
-}
-
 fn put_spoilt(mode: u16, fault: u16, start: u16, end: u16, opened: u32, out: &mut [u8]) -> Written
     ensures { λ r. ⌜ Answers (written (length (now (out .entry))) (encode mode (part (spoilt fault start end opened)))) (now (out .entry)) (now (out .exit)) r ⌝ }
 {
@@ -158,34 +151,172 @@ fn put_spoilt(mode: u16, fault: u16, start: u16, end: u16, opened: u32, out: &mu
     Written::Bytes(codec::write_spoilt(mode, fault, start, end, opened, out))
 }
 
-// Two hills that meet, in a buffer that is long enough: the left goes into empty arrays, the right joins it there, and the arrays are written.
-fn put_joined(
+// A stretch and one that is not blank after it, as one.
+fn follow(before: Stretch, p: Part) -> Part
+    requires { ⌜ FewOpened before × (p .opened ≤ 100001) ⌝ }
+    ensures { λ r. ⌜ ((m : ℕ) (s t : SummaryIn m) → SaysOf m before s → SaysPart m p t → SaysPart m r (mergeSummary (modeOf m .algebra) s t)) ⌝ }
+{
+    let Stretch::Part(q) = before else {
+        return p;
+    };
+    let opened = q.opened + p.opened;
+    Part {
+        fault: merge_fault(q, p),
+        start: q.start,
+        peak: lower_level(q.peak, p.peak),
+        end: p.end,
+        opened: cut_opened(opened),
+    }
+}
+
+// One more piece. Its hill joins the one in the arrays, unless there is a fault; a blank adds nothing.
+fn add_piece(
     mode: u16,
-    left: &[u8],
-    right: &[u8],
-    start: u16,
+    piece: &[u8],
+    left: &mut [i64; 64],
+    values: &mut [i32; 64],
+    floors: &mut [i32; 64],
+    ceilings: &mut [i32; 64],
+    held: &mut [i64; 64],
+    a: Merged,
+) -> Merged
+    requires { ⌜ IsSummaryIn mode (now piece) ⌝ }
+    requires { ⌜ Keeps mode (arrays (now left) (now values) (now floors) (now ceilings) (now held)) a ⌝ }
+    ensures { λ r. ⌜ ((s : SummaryIn mode) → Kept mode (arrays (now (left .entry)) (now (values .entry)) (now (floors .entry)) (now (ceilings .entry)) (now (held .entry))) a s
+        → Kept mode (arrays (now (left .exit)) (now (values .exit)) (now (floors .exit)) (now (ceilings .exit)) (now (held .exit))) r
+        (mergeSummary (modeOf mode .algebra) s (decode mode (now (piece .entry))))) ⌝ }
+{
+    let Stretch::Part(p) = stretch_of(piece) else {
+        return a;
+    };
+    let before = a.stretch;
+    let c = a.counts;
+    let both = follow(before, p);
+    let fault = both.fault;
+    let Fault::Number(_) = fault else {
+        let loaded = codec::load(mode, piece, left, values, floors, ceilings, held, c);
+        return Merged {
+            stretch: Stretch::Part(both),
+            counts: loaded,
+        };
+    };
+    Merged {
+        stretch: Stretch::Part(both),
+        counts: c,
+    }
+}
+
+// ---- writing what was merged
+
+fn put_blank(mode: u16, out: &mut [u8]) -> Written
+    ensures { λ r. ⌜ Answers (written (length (now (out .entry))) (encode mode blank)) (now (out .entry)) (now (out .exit)) r ⌝ }
+{
+    if out.len() < 6 {
+        return Written::Refused(12);
+    }
+    Written::Bytes(codec::write_blank(mode, out))
+}
+
+fn put_hill(
+    mode: u16,
     peak: u16,
-    end: u16,
     opened: u32,
+    left: &[i64; 64],
+    values: &[i32; 64],
+    floors: &[i32; 64],
+    ceilings: &[i32; 64],
+    held: &[i64; 64],
+    c: Counts,
     out: &mut [u8],
-) -> usize
-    requires { ⌜ Meet mode (now left) (now right) start peak end ⌝ }
-    requires { ⌜ 24 + 8 * (start - peak) + 20 * (end - peak) ≤ length (now out) ⌝ }
-    ensures { λ r. ⌜ Wrote (encode mode (part (whole peak opened
-        (mergeHills (modeOf mode .algebra) (hillIn (modeOf mode .read) (now (left .entry))) (hillIn (modeOf mode .read) (now (right .entry)))))))
+) -> Written
+    requires { ⌜ Writable mode (arrays (now left) (now values) (now floors) (now ceilings) (now held)) c peak ⌝ }
+    ensures { λ r. ⌜ Answers (written (length (now (out .entry))) (encode mode (part (whole peak opened (slopesOf (modeOf mode)
+        (arrays (now (left .entry)) (now (values .entry)) (now (floors .entry)) (now (ceilings .entry)) (now (held .entry))) c)))))
         (now (out .entry)) (now (out .exit)) r ⌝ }
+{
+    let nl = c.nl;
+    let n = c.n;
+    if out.len() < 24 + 8 * nl + 20 * n {
+        return Written::Refused(12);
+    }
+    Written::Bytes(codec::write_hill(
+        mode,
+        peak,
+        opened,
+        left,
+        values,
+        floors,
+        ceilings,
+        held,
+        c,
+        out,
+    ))
+}
+
+// The summary that was merged. Question 12 is asked here, before any byte is written.
+fn put_merged(
+    mode: u16,
+    left: &[i64; 64],
+    values: &[i32; 64],
+    floors: &[i32; 64],
+    ceilings: &[i32; 64],
+    held: &[i64; 64],
+    a: Merged,
+    out: &mut [u8],
+) -> Written
+    requires { ⌜ Keeps mode (arrays (now left) (now values) (now floors) (now ceilings) (now held)) a ⌝ }
+    ensures { λ r. ⌜ ((s : SummaryIn mode) → Kept mode (arrays (now (left .entry)) (now (values .entry)) (now (floors .entry)) (now (ceilings .entry)) (now (held .entry))) a s
+        → Answers (written (length (now (out .entry))) (encode mode s)) (now (out .entry)) (now (out .exit)) r) ⌝ }
+{
+    let said = a.stretch;
+    let c = a.counts;
+    let Stretch::Part(p) = said else {
+        return put_blank(mode, out);
+    };
+    let fault = p.fault;
+    match fault {
+        Fault::Number(n) => put_spoilt(mode, n, p.start, p.end, p.opened, out),
+        Fault::Clear => put_hill(
+            mode,
+            p.peak,
+            p.opened,
+            left,
+            values,
+            floors,
+            ceilings,
+            held,
+            c,
+            out,
+        ),
+    }
+}
+
+// Nothing merged yet.
+fn none_merged(mode: u16) -> Merged
+    ensures { λ r. ⌜ ((ls vs fs cs hs : List ℤ) → Arrays64 ls vs fs cs hs → Kept mode (arrays ls vs fs cs hs) r blank) ⌝ }
+{
+    Merged {
+        stretch: Stretch::Blank,
+        counts: Counts {
+            nl: 0,
+            n: 0,
+            mid: figure::nothing(mode),
+        },
+    }
+}
+
+// Two accepted summaries of one mode, one after the other.
+fn join(mode: u16, left: &[u8], right: &[u8], out: &mut [u8]) -> Written
+    requires { ⌜ IsSummaryIn mode (now left) × IsSummaryIn mode (now right) ⌝ }
+    ensures { λ r. ⌜ Answers (written (length (now (out .entry))) (mergeBytes mode (now (left .entry)) (now (right .entry)))) (now (out .entry)) (now (out .exit)) r ⌝ }
 {
     let mut lefts = [0i64; 64];
     let mut values = [0i32; 64];
     let mut floors = [0i32; 64];
     let mut ceilings = [0i32; 64];
     let mut held = [0i64; 64];
-    let empty = Counts {
-        nl: 0,
-        n: 0,
-        mid: figure::nothing(mode),
-    };
-    let a = codec::load(
+    let empty = none_merged(mode);
+    let a = add_piece(
         mode,
         left,
         &mut lefts,
@@ -195,7 +326,7 @@ fn put_joined(
         &mut held,
         empty,
     );
-    let c = codec::load(
+    let b = add_piece(
         mode,
         right,
         &mut lefts,
@@ -205,78 +336,7 @@ fn put_joined(
         &mut held,
         a,
     );
-    codec::write_hill(
-        mode,
-        peak,
-        opened,
-        &lefts,
-        &values,
-        &floors,
-        &ceilings,
-        &held,
-        c,
-        out,
-    )
-}
-
-// Two hills that meet. Whether the result fits is told from the levels alone.
-fn join_hills(
-    mode: u16,
-    left: &[u8],
-    right: &[u8],
-    start: u16,
-    peak: u16,
-    end: u16,
-    opened: u32,
-    out: &mut [u8],
-) -> Written
-    requires { ⌜ Meet mode (now left) (now right) start peak end ⌝ }
-    ensures { λ r. ⌜ Answers (written (length (now (out .entry))) (encode mode (part (whole peak opened
-        (mergeHills (modeOf mode .algebra) (hillIn (modeOf mode .read) (now (left .entry))) (hillIn (modeOf mode .read) (now (right .entry))))))))
-        (now (out .entry)) (now (out .exit)) r ⌝ }
-{
-    let rise = (start - peak) as usize;
-    let fall = (end - peak) as usize;
-    if out.len() < 24 + 8 * rise + 20 * fall {
-        return Written::Refused(12);
-    }
-    Written::Bytes(put_joined(mode, left, right, start, peak, end, opened, out))
-}
-
-// Two summaries that are not blank: a hill where nothing is at fault, else spoilt.
-fn join_parts(mode: u16, left: &[u8], right: &[u8], a: Part, b: Part, out: &mut [u8]) -> Written
-    requires { ⌜ Parts mode (now left) (now right) a b ⌝ }
-    ensures { λ r. ⌜ Answers (written (length (now (out .entry))) (mergeBytes mode (now (left .entry)) (now (right .entry)))) (now (out .entry)) (now (out .exit)) r ⌝ }
-{
-    let opened = a.opened + b.opened;
-    let fault = merge_fault(a, b);
-    match fault {
-        Fault::Number(n) => put_spoilt(mode, n, a.start, b.end, cut_opened(opened), out),
-        Fault::Clear => join_hills(
-            mode,
-            left,
-            right,
-            a.start,
-            lower_level(a.peak, b.peak),
-            b.end,
-            opened,
-            out,
-        ),
-    }
-}
-
-// Two accepted summaries of one mode. "A blank adds nothing."
-fn join(mode: u16, left: &[u8], right: &[u8], out: &mut [u8]) -> Written
-    requires { ⌜ IsSummaryIn mode (now left) × IsSummaryIn mode (now right) ⌝ }
-    ensures { λ r. ⌜ Answers (written (length (now (out .entry))) (mergeBytes mode (now (left .entry)) (now (right .entry)))) (now (out .entry)) (now (out .exit)) r ⌝ }
-{
-    let Stretch::Part(a) = stretch_of(left) else {
-        return copy(right, out);
-    };
-    let Stretch::Part(b) = stretch_of(right) else {
-        return copy(left, out);
-    };
-    join_parts(mode, left, right, a, b, out)
+    put_merged(mode, &lefts, &values, &floors, &ceilings, &held, b, out)
 }
 
 // MERGE: questions 5, 6 and 12.
@@ -325,25 +385,76 @@ fn mode_of_all(pieces: &[u8]) -> OneMode
     OneMode::Refused(6)
 }
 
-// Accepted pieces of one mode: half with half and each half likewise, the left half having the odd one.
+// Accepted pieces of one mode join what was merged before them: half with half and each half likewise, the left half having the odd one.
+fn merge_halves(
+    mode: u16,
+    pieces: &[u8],
+    count: usize,
+    left: &mut [i64; 64],
+    values: &mut [i32; 64],
+    floors: &mut [i32; 64],
+    ceilings: &mut [i32; 64],
+    held: &mut [i64; 64],
+    a: Merged,
+) -> Merged
+    requires { ⌜ Row mode (now pieces) count ⌝ }
+    requires { ⌜ Keeps mode (arrays (now left) (now values) (now floors) (now ceilings) (now held)) a ⌝ }
+    ensures { λ r. ⌜ ((s : SummaryIn mode) → Kept mode (arrays (now (left .entry)) (now (values .entry)) (now (floors .entry)) (now (ceilings .entry)) (now (held .entry))) a s
+        → Kept mode (arrays (now (left .exit)) (now (values .exit)) (now (floors .exit)) (now (ceilings .exit)) (now (held .exit))) r
+        (mergeSummary (modeOf mode .algebra) s (rowSummary mode (now (pieces .entry))))) ⌝ }
+{
+    if count < 2 {
+        return add_piece(mode, pieces, left, values, floors, ceilings, held, a);
+    }
+    let half = (count + 1) / 2;
+    let at = row::end_of(pieces, half);
+    let b = merge_halves(
+        mode,
+        &pieces[..at],
+        half,
+        left,
+        values,
+        floors,
+        ceilings,
+        held,
+        a,
+    );
+    merge_halves(
+        mode,
+        &pieces[at..],
+        count - half,
+        left,
+        values,
+        floors,
+        ceilings,
+        held,
+        b,
+    )
+}
+
+// Accepted pieces of one mode, merged.
 fn merge_pieces(mode: u16, pieces: &[u8], count: usize, out: &mut [u8]) -> Written
     requires { ⌜ Row mode (now pieces) count ⌝ }
     ensures { λ r. ⌜ Answers (written (length (now (out .entry))) (rowMerged mode (now (pieces .entry)))) (now (out .entry)) (now (out .exit)) r ⌝ }
 {
-    if count < 2 {
-        return copy(pieces, out);
-    }
-    let half = (count + 1) / 2;
-    let at = row::end_of(pieces, half);
-    let mut left = [0u8; 1788];
-    let Written::Bytes(n) = merge_pieces(mode, &pieces[..at], half, &mut left) else {
-        return Written::Refused(12);
-    };
-    let mut right = [0u8; 1788];
-    let Written::Bytes(k) = merge_pieces(mode, &pieces[at..], count - half, &mut right) else {
-        return Written::Refused(12);
-    };
-    join(mode, &left[..n], &right[..k], out)
+    let mut lefts = [0i64; 64];
+    let mut values = [0i32; 64];
+    let mut floors = [0i32; 64];
+    let mut ceilings = [0i32; 64];
+    let mut held = [0i64; 64];
+    let empty = none_merged(mode);
+    let all = merge_halves(
+        mode,
+        pieces,
+        count,
+        &mut lefts,
+        &mut values,
+        &mut floors,
+        &mut ceilings,
+        &mut held,
+        empty,
+    );
+    put_merged(mode, &lefts, &values, &floors, &ceilings, &held, all, out)
 }
 
 // MERGING A ROW: questions 4, 5, 6 and 12.

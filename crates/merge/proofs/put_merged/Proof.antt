@@ -1,0 +1,66 @@
+-- `merge::put_merged` meets its contract: what the numbers in hand say is written. Assumes nothing.
+use borrow.Author.Needs.{needs}
+use Rattle.merge.proofs.put_merged.Statement.{statement}
+use Rattle.merge.proofs.put_merged.Tie as tie
+use mathlib.Core.Path.{sym, ap}
+use Rattle.summary.specs.Layout.{encode}
+use Rattle.merge.specs.AnswerLaws.{answer-same}
+use Rattle.merge.specs.SayLaws.{blank-said, part-said}
+use Rattle.merge.specs.KeptLaws.{spoilt-way, hill-way, kept-writable}
+
+enum-known-said : tie.Need-enum-known-said
+enum-known-said c = search needs
+
+enum-told : tie.Need-enum-told
+enum-told c = search needs
+
+put-blank-requires : tie.Need-put-blank-requires
+put-blank-requires c κs = search needs
+
+same-length : tie.Need-same-length
+same-length c = search needs
+
+returns : tie.Need-returns
+returns c = let a = c .before .before .before .before .before .before .before .before in let m = a .args .mode in λ s k. answer-same (ap (encode m) (sym (blank-said m s (a .args .a .stretch) (k .says) (c .before .before .before .before .enum-told .given .1)))) (c .before .before .put-blank .ensures)
+
+enum-known-fault : tie.Need-enum-known-fault
+enum-known-fault c = search needs
+
+put-spoilt-requires : tie.Need-put-spoilt-requires
+put-spoilt-requires c κs = search needs
+
+enum-told-2 : tie.Need-enum-told-2
+enum-told-2 c = search needs
+
+put-hill-requires : tie.Need-put-hill-requires
+put-hill-requires c κs = let a = c .before .before .before .before .before .before .before .before in let m = a .args .mode in let s = a .pre .summary in let k = a .pre .kept in kept-writable m k (part-said m s (a .args .a .stretch) (k .says) (c .before .before .before .before .said .given .1)) (c .before .enum-told2 .given .1)
+
+same-length-2 : tie.Need-same-length-2
+same-length-2 c = search needs
+
+returns-2 : tie.Need-returns-2
+returns-2 c = let a = c .before .before .before .before .before .before .before .before .before .before .before .before in let m = a .args .mode in λ s k. answer-same (spoilt-way m k (part-said m s (a .args .a .stretch) (k .says) (c .before .before .before .before .before .before .before .before .said .given .1)) (c .before .before .before .before .before .fault .given .1)) (c .before .before .put-spoilt .ensures)
+
+same-length-3 : tie.Need-same-length-3
+same-length-3 c = search needs
+
+returns-3 : tie.Need-returns-3
+returns-3 c = let a = c .before .before .before .before .before .before .before .before .before .before .before in let m = a .args .mode in λ s k. answer-same (hill-way m k (part-said m s (a .args .a .stretch) (k .says) (c .before .before .before .before .before .before .before .said .given .1)) (c .before .before .before .before .enum-told2 .given .1)) (c .before .before .put-hill .ensures)
+
+pub put-merged-spec : {M : Type 1} → statement M
+put-merged-spec =
+    tie.close
+    (tie.spec
+    enum-known-said
+    enum-told
+    put-blank-requires
+    same-length
+    returns
+    enum-known-fault
+    put-spoilt-requires
+    enum-told-2
+    put-hill-requires
+    same-length-2
+    returns-2
+    same-length-3
+    returns-3)
