@@ -122,9 +122,10 @@ INPUTS = {
     "judge/ground_passed": call("summarise::finish", hill(1, 2, 0, 1, 1, [0, 0], 0, [(0, 0, 0, 0)])),
     "judge/hill_100001": call("summarise::finish", hill(1, 0, 0, 0, 100_001, [], 0)),
     "judge/one_gram_more": call("summarise::finish", hill(1, 0, 0, 0, 1, [], GRAMS + 1)),
-    "merge/hands_back_left": merge(blank(1), HEAD),
+    "merge/hands_back_left": merge(HEAD, TAIL),
     "merge/join_fault_ignored": merge(OPEN, OPEN),
-    "merge/left_alone_written": merge(HEAD, TAIL),
+    "merge/counts_before_piece": merge(HEAD, TAIL),
+    "merge/left_half_dropped": call("merge::merge_row", HEAD + TAIL),
     "merge/opened_not_cut": merge(spoilt(1, 9, 0, 1, 100_001), INSIDE),
     "merge/peak_counted_twice": merge(HEAD, TAIL, 24),
     "merge/pieces_cut_alike": call("merge::merge_row", blank(1) + HEAD),
@@ -196,6 +197,10 @@ ARMS = {
     "merge::merge_row": WRITTEN.format("merge::merge_row(&input, &mut out)"),
     "plan::plan": WRITTEN.format("plan::plan(&input, &mut out)"),
     "runs::runs": WRITTEN.format("runs::runs(&input, &mut out)"),
+    "work::work": """match work::work(&input) {
+            work::Worked::Done(t) => format!("{} {} {}", t.figure, t.joins, t.levels),
+            work::Worked::Refused(n) => format!("refused {n}"),
+        }""",
     "day::figures": """match day::figures(&input) {
             day::Day::Figures(f) => format!("{} {} {} {}", f.net, f.heaviest, f.eaten, f.stamp),
             day::Day::Refused(n) => format!("refused {n}"),
