@@ -15,8 +15,8 @@ use Rattle.outcome.specs.Outcomes.{Summaries, askRow, workAlong, workOutcome}
 use Rattle.row_plan.specs.Arrays.{levelsIn, linesIn, Kept}
 use Rattle.row_plan.specs.Asks.{askAll, summariesIn, Through}
 use Rattle.row_plan.specs.AsksLaws.{after-all, kept-count}
+use Rattle.run_level.specs.Along.{rowIn, LetThrough, Along}
 use Rattle.run_level.specs.Levels.{Begun}
-use Rattle.work.specs.Contracts.{rowIn, LetThrough, Along}
 
 pub work-refused : (row : List ℕ) (n : ℕ) → askAll row ≡ refused n → refused n ≡ workOutcome row
 unfolding workOutcome
