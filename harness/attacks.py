@@ -91,6 +91,8 @@ WHOLE = hill(1, 0, 0, 0, 3, [], 12)
 INSIDE = hill(1, 1, 1, 1, 1, [], 1)
 OPEN = hill(1, 0, 0, 1, 1, [], 0, [(10, 0, 100, 0)])
 SHUT = hill(1, 1, 0, 0, 0, [0], 0)
+# 10 g that holds 1 g, the inner closed by the second of three chunks and the outer by the third.
+NESTED = hill(1, 0, 0, 2, 2, [], 0, [(10, 0, 100, 0), (1, 0, 100, 0)]) + hill(1, 2, 1, 1, 0, [0], 0) + SHUT
 NEGATIVE = opening(0, -3) + close(0)
 TEN_OVER = short(0, 10) + short(1, 1) + close(1) + short(1, 5) + close(1) + close(0)
 NINE = short(0, 0) + short(1, 9) + close(1) + short(1, 1) + close(1) + close(0)
@@ -141,6 +143,9 @@ INPUTS = {
     "record/kind_for_length": call("record::read_first", D),
     "row_plan/meets_is_7": call("plan::plan", OPEN + OPEN),
     "row_plan/no_shared_record": call("plan::plan", OPEN + INSIDE + SHUT),
+    "run_level/floor_is_ceiling": runs(3),
+    "run_level/piece_begins_at_its_number": runs(1),
+    "run_level/start_for_peak": call("runs::runs", HEAD + hill(1, 2, 1, 2, 1, [0], 0, [(7, 0, 100, 0)]) + TAIL),
     "runs/fit_of_lines": runs(1),
     "runs/floor_as_ceiling": runs(3),
     "runs/hills_swapped": runs(1),
@@ -178,6 +183,16 @@ INPUTS = {
     "tulghimo/status_always_12": call("tulghimo::tulghimo_merge_row", 65 * blank(1)),
     "tulghimo/summarise_always_net": call("tulghimo::tulghimo_summarise", D, 4),
     "tulghimo/summarise_mode_cut": call("tulghimo::tulghimo_summarise", D, 65_537),
+    "work/first_outcome": call("work::work", NESTED),
+    "work/highest_level_only": call("work::work", HEAD + TAIL),
+    "work/joins_invented": call("work::work", HEAD + TAIL),
+    "work/left_value_dropped": call("work::work", HEAD + TAIL),
+    "work/levels_invented": call("work::work", HEAD + TAIL),
+    "work/middles_at_highest": call("work::work", OPEN + INSIDE + SHUT),
+    "work/no_earlier_outcomes": call("work::work", NESTED),
+    "work/no_middles": call("work::work", OPEN + INSIDE + SHUT),
+    "work/outcomes_at_highest": call("work::work", NESTED),
+    "work/refusal_invented": call("work::work", OPEN + OPEN),
 }
 
 # ---- the program that is run: how each call is made, and in which crate it stands
