@@ -127,7 +127,7 @@ INPUTS = {
     "merge/hands_back_left": merge(HEAD, TAIL),
     "merge/join_fault_ignored": merge(OPEN, OPEN),
     "merge/counts_before_piece": merge(HEAD, TAIL),
-    "merge/left_half_dropped": call("merge::merge_row", HEAD + TAIL),
+    "merge/left_half_twice": call("merge::merge_row", HEAD + TAIL),
     "merge/opened_not_cut": merge(spoilt(1, 9, 0, 1, 100_001), INSIDE),
     "merge/peak_counted_twice": merge(HEAD, TAIL, 24),
     "merge/pieces_cut_alike": call("merge::merge_row", blank(1) + HEAD),

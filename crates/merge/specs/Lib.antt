@@ -5,5 +5,6 @@ pub mod RowAsks
 pub mod SayLaws
 pub mod KeptLaws
 pub mod AnswerLaws
+pub mod CopyLaws
 pub mod CallLaws
 pub mod RowLaws
