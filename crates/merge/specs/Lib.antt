@@ -4,6 +4,5 @@ pub mod Asks
 pub mod RowAsks
 pub mod SayLaws
 pub mod KeptLaws
-pub mod AnswerLaws
 pub mod CallLaws
 pub mod RowLaws
