@@ -1,27 +1,18 @@
 -- What the functions of `merge` ask and leave. Definitions only.
 use mathlib.Core.Path.{_≡_}
 use mathlib.Core.List.{List}
-use Prim.Native.Nat.{ℕ, _*_, _≤_}
+use Prim.Native.Nat.{ℕ, _*_}
 use lib.IntN.{ℤ}
 use lib.ListN.{length}
-use Rattle.gate.specs.Outcome.{Outcome, bufferAfter}
-use Rattle.gate.specs.Answers.{writtenAnswer, lengthAnswered}
-use Rattle.gate.specs.declared.Written.{Written}
 use Rattle.figure.specs.Mode.{modeOf}
 use Rattle.hill.specs.Verdict.{pass}
 use Rattle.summary.specs.Layout.{SummaryIn}
 use Rattle.summary.specs.Accepted.{Accepted}
-use Rattle.slopes.specs.declared.Counts.{Counts}
-use Rattle.slopes.specs.Arrays.{Arrays, Sound, Stored, StandsFor}
+use Rattle.slopes.specs.Arrays.{Arrays, StandsFor}
 use Rattle.join_plan.specs.Gate.{summaryFault}
 use Rattle.plan_work.specs.Runs.{slopesOf}
 use Rattle.merge.specs.declared.Merged.{Merged}
 use Rattle.merge.specs.Stretch.{SaysOf}
-
--- The answer and the buffer are those of the outcome o.
-pub record Answers (o : Outcome (List ℕ)) (before after : List ℕ) (r : Written) : Type 0 where
-  pub answered : writtenAnswer r ≡ lengthAnswered o
-  pub buffer : after ≡ bufferAfter o before
 
 -- Five arrays of 64 numbers.
 pub record Arrays64 (ls vs fs cs hs : List ℤ) : Type 0 where
@@ -41,9 +32,3 @@ pub record Kept (m : ℕ) (A : Arrays) (a : Merged) (s : SummaryIn m) : Type 0 w
 pub record Keeps (m : ℕ) (A : Arrays) (a : Merged) : Type 0 where
   pub summary : SummaryIn m
   pub kept : Kept m A a summary
-
--- The arrays hold a hill that can be written over this peak.
-pub record Writable (m : ℕ) (A : Arrays) (c : Counts) (peak : ℕ) : Type 0 where
-  pub sound : Sound A c
-  pub stored : Stored (modeOf m) A c
-  pub level : peak ≤ 64

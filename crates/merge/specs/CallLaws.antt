@@ -23,7 +23,7 @@ use Rattle.outcome.specs.Laws.{AllIn, ask-4, ask-all, two-to-64, too-many, too-
 use Rattle.outcome.specs.Through.{all-in as all-of}
 use Rattle.judge.specs.declared.Piece.{Piece}
 use Rattle.judge.specs.Laws.{Judges}
-use Rattle.merge.specs.Asks.{Answers}
+use Rattle.emit.specs.Emitted.{Answers}
 use Rattle.merge.specs.RowAsks.{Row, rowSummary, rowMerged, modeOfAll, Passed}
 
 -- ---- a call that is refused, and one that is not

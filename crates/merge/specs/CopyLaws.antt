@@ -12,9 +12,8 @@ use Rattle.gate.specs.Outcome.{refused, result, written}
 use Rattle.gate.specs.Answers.{writtenAnswer}
 use Rattle.gate.specs.declared.Written.{Written}
 use Rattle.gate.specs.declared.Written.the-variants.{Bytes, Refused}
-use Rattle.merge.specs.Asks.{Answers}
+use Rattle.emit.specs.Emitted.{Answers}
 use Rattle.merge.specs.RowAsks.{Front, Copied}
-use Rattle.merge.specs.AnswerLaws.{answer-fits}
 
 module _ (w o : List ℕ) where
   -- where they fit, they are answered and stand at the front
@@ -53,4 +52,4 @@ module _ {b o o′ : List ℕ} {i : ℕ} (h : Copied b o o′ i) where
   pub copy-done : length b ≤ i → Answers (written (length o) b) o o′ (Bytes i)
   copy-done l =
       let e : i ≡ length b = omega (arith, h .within) in
-      answer-fits b o (h .fits) e (h .so-far ∙ rw (e, zero-add (length b), take-length b))
+      rw (le-leb (length b) (length o) (h .fits)) record { answered = ap result e; buffer = h .so-far ∙ rw (e, zero-add (length b), take-length b) }

@@ -35,7 +35,8 @@ use Rattle.merge.specs.declared.Stretch.{Stretch}
 use Rattle.merge.specs.declared.Stretch.the-variants as stretch
 use Rattle.merge.specs.declared.Merged.{Merged}
 use Rattle.merge.specs.Stretch.{SaysPart}
-use Rattle.merge.specs.Asks.{Arrays64, Kept, Writable}
+use Rattle.emit.specs.Emitted.{Writable}
+use Rattle.merge.specs.Asks.{Arrays64, Kept}
 use Rattle.merge.specs.SayLaws.{says-blank, decode-spoilt, decode-hill}
 
 abbrev pub merged : (r : Stretch) (c : Counts) → Merged
@@ -185,7 +186,7 @@ module _ (m : ℕ) where
           go (spoilt f b e o) v x y z = absurd (refuse-pass v)
           go (whole q o u) v x y z = rw (x v, y, z)
 
-      pub kept-writable : Writable m A (a .counts) (p .peak)
+      pub kept-writable : Writable (modeOf m) A (a .counts) (p .peak)
       kept-writable =
           let st = k .stands no-fault in
           record { sound = st .sound; stored = st .stored; level = go (h .said) (subst (Accepted m) (h .is) (k .accepted)) (clear-is (h .says .fault) e) (h .says .peak) }

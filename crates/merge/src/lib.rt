@@ -9,18 +9,19 @@ ghost use Rattle.gate.specs.Answers.{writtenAnswer, lengthAnswered};
 ghost use Rattle.row.specs.Row.{rowPieces};
 ghost use Rattle.figure.specs.Mode.{modeOf};
 ghost use Rattle.hill.specs.Verdict.{low, between, count, cut};
-ghost use Rattle.hill.specs.Summary.{blank, part, spoilt, whole};
+ghost use Rattle.hill.specs.Summary.{blank};
 ghost use Rattle.hill.specs.Merge.{mergeSummary};
 ghost use Rattle.summary.specs.Judge.{IsSummary};
 ghost use Rattle.summary.specs.Layout.{SummaryIn, encode};
 ghost use Rattle.summary.specs.Decode.{decode};
 ghost use Rattle.summary.specs.Accepted.{IsSummaryIn};
 ghost use Rattle.summary.specs.Outcomes.{mergeBytes, mergeOutcome};
-ghost use Rattle.slopes.specs.Arrays.{arrays, slopesOf};
+ghost use Rattle.slopes.specs.Arrays.{arrays};
+ghost use Rattle.emit.specs.Emitted.{Answers};
 ghost use Rattle.outcome.specs.Outcomes.{mergeRowOutcome};
 ghost use Rattle.fault.specs.Fault.{verdictOf};
 ghost use Rattle.merge.specs.Stretch.{SaysPart, SaysOf, FewOpened};
-ghost use Rattle.merge.specs.Asks.{Answers, Arrays64, Kept, Keeps, Writable};
+ghost use Rattle.merge.specs.Asks.{Arrays64, Kept, Keeps};
 ghost use Rattle.merge.specs.RowAsks.{Row, rowSummary, rowMerged, modeOfAll, modeAnswer};
 use gate::Written;
 use judge::Judged;
@@ -109,15 +110,6 @@ fn stretch_of(b: &[u8]) -> Stretch
     })
 }
 
-fn put_spoilt(mode: u16, fault: u16, start: u16, end: u16, opened: u32, out: &mut [u8]) -> Written
-    ensures { λ r. ⌜ Answers (written (length (now (out .entry))) (encode mode (part (spoilt fault start end opened)))) (now (out .entry)) (now (out .exit)) r ⌝ }
-{
-    if out.len() < 16 {
-        return Written::Refused(12);
-    }
-    Written::Bytes(codec::write_spoilt(mode, fault, start, end, opened, out))
-}
-
 // A stretch and one that is not blank after it, as one.
 fn follow(before: Stretch, p: Part) -> Part
     requires { ⌜ FewOpened before × (p .opened ≤ 100001) ⌝ }
@@ -172,53 +164,6 @@ fn add_piece(
     }
 }
 
-// ---- writing what was merged
-
-fn put_blank(mode: u16, out: &mut [u8]) -> Written
-    ensures { λ r. ⌜ Answers (written (length (now (out .entry))) (encode mode blank)) (now (out .entry)) (now (out .exit)) r ⌝ }
-{
-    if out.len() < 6 {
-        return Written::Refused(12);
-    }
-    Written::Bytes(codec::write_blank(mode, out))
-}
-
-fn put_hill(
-    mode: u16,
-    peak: u16,
-    opened: u32,
-    left: &[i64; 64],
-    values: &[i32; 64],
-    floors: &[i32; 64],
-    ceilings: &[i32; 64],
-    held: &[i64; 64],
-    c: Counts,
-    out: &mut [u8],
-) -> Written
-    requires { ⌜ Writable mode (arrays (now left) (now values) (now floors) (now ceilings) (now held)) c peak ⌝ }
-    ensures { λ r. ⌜ Answers (written (length (now (out .entry))) (encode mode (part (whole peak opened (slopesOf (modeOf mode)
-        (arrays (now (left .entry)) (now (values .entry)) (now (floors .entry)) (now (ceilings .entry)) (now (held .entry))) c)))))
-        (now (out .entry)) (now (out .exit)) r ⌝ }
-{
-    let nl = c.nl;
-    let n = c.n;
-    if out.len() < 24 + 8 * nl + 20 * n {
-        return Written::Refused(12);
-    }
-    Written::Bytes(codec::write_hill(
-        mode,
-        peak,
-        opened,
-        left,
-        values,
-        floors,
-        ceilings,
-        held,
-        c,
-        out,
-    ))
-}
-
 // The summary that was merged. Question 12 is asked here, before any byte is written.
 fn put_merged(
     mode: u16,
@@ -237,13 +182,13 @@ fn put_merged(
     let said = a.stretch;
     let c = a.counts;
     let Stretch::Part(p) = said else {
-        return put_blank(mode, out);
+        return emit::put_blank(mode, out);
     };
     let fault = p.fault;
     if fault < fault::NONE {
-        return put_spoilt(mode, fault as u16, p.start, p.end, p.opened, out);
+        return emit::put_spoilt(mode, fault as u16, p.start, p.end, p.opened, out);
     }
-    put_hill(
+    emit::put_hill(
         mode,
         p.peak,
         p.opened,

@@ -1,15 +1,9 @@
--- Question 12 and the three cases of a chunk's summary. Assumes nothing.
-use mathlib.Core.Path.{_≡_, refl, sym, ap, subst, _∙_}
+-- The three cases of a chunk's summary. Assumes nothing.
+use mathlib.Core.Path.{_≡_, refl, sym, ap, _∙_}
 use mathlib.Core.Bool.{true, false, not}
 use mathlib.Core.List.{List, [], _∷_}
-use Prim.Native.Nat.{ℕ, _+_, _-_, _*_, _≤_, _<_}
+use Prim.Native.Nat.{ℕ, _-_, _≤_, _<_}
 use native.Mathlib.Omega.{arith}
-use lib.ListN.{length}
-use borrow.Author.Tests.{le-leb, lt-leb}
-use Rattle.gate.specs.Outcome.{result, written}
-use Rattle.gate.specs.declared.Written.{Written}
-use Rattle.gate.specs.declared.Written.the-variants.{Bytes, Refused}
-use Rattle.codec.specs.Contracts.{Wrote}
 use Rattle.hill.specs.VerdictLaws.{low-pass, cut-few}
 use Rattle.hill.specs.Log.{Record, peakOf, openedOf, faultOf}
 use Rattle.hill.specs.Summary.{Hill, Part, blank, part, spoilt, whole, judged, partOf}
@@ -19,9 +13,8 @@ use Rattle.figure.specs.FourModes.{Amounts}
 use Rattle.figure.specs.Mode.{Mode, modeOf}
 use Rattle.slopes.specs.declared.Counts.{Counts}
 use Rattle.slopes.specs.Arrays.{Arrays, slopesOf, Fig}
-use Rattle.slopes.specs.Laws.{rise-slopes, fall-slopes, rise-is}
+use Rattle.slopes.specs.Laws.{rise-is}
 use Rattle.summary.specs.Layout.{encode}
-use Rattle.summary.specs.Accepted.{encode-length}
 use Rattle.summary.specs.Outcomes.{summaryBytes}
 use Rattle.summarise.specs.declared.Tally.{Tally}
 use Rattle.fault.specs.Fault.{noFault, verdictOf}
@@ -30,23 +23,7 @@ use Rattle.summarise.specs.Tallies.{Tells, Tallied}
 use Rattle.summarise.specs.TallyLaws.{begun, not-begun, not-both, joints-pass}
 use Rattle.summarise.specs.Scans.{Summed}
 use Rattle.summarise.specs.ScanLaws.{start-low, start-is, part-whole}
-use Rattle.summarise.specs.Answered.{Answers, Writable}
-
--- ---- question 12
-
-pub too-long : (w before : List ℕ) (n : ℕ) → length w ≡ n → length before < n → Answers (written (length before) w) (Refused 12) before before
-too-long w before n e h = rw (lt-leb (length w) (length before) (omega arith)) record { answer = refl; buffer = refl }
-
-pub fitting : (w before after : List ℕ) (k n : ℕ) → length w ≡ n → n ≤ length before → Wrote w before after k → Answers (written (length before) w) (Bytes k) before after
-fitting w before after k n e h s = rw (le-leb (length w) (length before) (omega arith)) record { answer = ap result (s .answered); buffer = s .buffer }
-
-pub become : (n : ℕ) {w v : List ℕ} {r : Written} {before after : List ℕ} → w ≡ v → Answers (written n w) r before after → Answers (written n v) r before after
-become n {w} {v} {r} {before} {after} e s = subst (λ (u : List ℕ). Answers (written n u) r before after) e s
-
-pub hill-length-is : (m p o : ℕ) (A : Arrays) (c : Counts) → length (encode m (part (whole p o (slopesOf (modeOf m) A c)))) ≡ 24 + 8 * c .nl + 20 * c .n
-hill-length-is m p o A c = encode-length m (part (whole p o (slopesOf (modeOf m) A c))) ∙ rw (rise-slopes (modeOf m) A c, fall-slopes (modeOf m) A c)
-
--- ---- blank, spoilt or hill
+use Rattle.emit.specs.Emitted.{Writable}
 
 judged-spoilt : {Fig R : Type 0} (k s e o p : ℕ) (h : Hill Fig R) → k < noFault → o ≤ 100000 → judged (verdictOf k) s e o p h ≡ spoilt k s e o
 judged-spoilt k s e o p h some le = rw (found k some) (ap (spoilt k s e) (cut-few o le))

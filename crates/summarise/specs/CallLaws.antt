@@ -12,7 +12,7 @@ use Rattle.gate.specs.declared.Written.{Written}
 use Rattle.record.specs.Record.{recordsOf}
 use Rattle.figure.specs.Mode.{modeInUse}
 use Rattle.summary.specs.Outcomes.{summariseOutcome}
-use Rattle.summarise.specs.Answered.{Answers}
+use Rattle.emit.specs.Emitted.{Answers}
 
 low-mode : (a b : Bool) → a && b ≡ true → b ≡ true
 low-mode true b e = e
@@ -42,5 +42,5 @@ Promised o a before after = (a ≡ lengthAnswered o) × (after ≡ bufferAfter o
 pub refuses : {o : Outcome (List ℕ)} {n : ℕ} (b : List ℕ) → o ≡ refused n → Promised o (refused n) b b
 refuses b e = rw e (refl, refl)
 
-pub comes-to : {o p : Outcome (List ℕ)} {r : Written} {before after : List ℕ} → o ≡ p → Answers p r before after → Promised o (writtenAnswer r) before after
-comes-to e s = rw e (s .answer, s .buffer)
+pub comes-to : {o p : Outcome (List ℕ)} {r : Written} {before after : List ℕ} → o ≡ p → Answers p before after r → Promised o (writtenAnswer r) before after
+comes-to e s = rw e (s .answered, s .buffer)

@@ -12,13 +12,11 @@ ghost use Rattle.figure.specs.Stored.{amounts};
 ghost use Rattle.slopes.specs.Actions.{entry};
 ghost use Rattle.gate.specs.Outcome.{bufferAfter, written};
 ghost use Rattle.gate.specs.Answers.{writtenAnswer, lengthAnswered, finishedAnswer};
-ghost use Rattle.summary.specs.Layout.{encode};
 ghost use Rattle.summary.specs.Outcomes.{summariseOutcome, summaryBytes, finishOutcome};
-ghost use Rattle.hill.specs.Summary.{blank, part, spoilt, whole};
-ghost use Rattle.slopes.specs.Arrays.{arrays, slopesOf};
+ghost use Rattle.slopes.specs.Arrays.{arrays};
 ghost use Rattle.summarise.specs.Tallies.{Tallied};
 ghost use Rattle.summarise.specs.Scans.{Grows, Grown, Lent, Summed, Scanned, Concludes};
-ghost use Rattle.summarise.specs.Answered.{Answers, Writable};
+ghost use Rattle.emit.specs.Emitted.{Answers};
 use gate::Finished;
 use gate::Written;
 use judge::Head;
@@ -149,59 +147,6 @@ fn read_chunk(
     Scan::Done(t, c)
 }
 
-// ---- the summary written, where it fits: question 12
-
-fn put_blank(mode: u16, out: &mut [u8]) -> Written
-    ensures { λ r. ⌜ Answers (written (length (now (out .entry))) (encode mode blank)) r (now (out .entry)) (now (out .exit)) ⌝ }
-{
-    if out.len() < 6 {
-        return Written::Refused(12);
-    }
-    Written::Bytes(codec::write_blank(mode, out))
-}
-
-fn put_spoilt(mode: u16, t: Tally, out: &mut [u8]) -> Written
-    ensures { λ r. ⌜ Answers (written (length (now (out .entry))) (encode mode (part (spoilt (t .fault) (t .start) (t .level) (t .opened))))) r (now (out .entry)) (now (out .exit)) ⌝ }
-{
-    if out.len() < 16 {
-        return Written::Refused(12);
-    }
-    Written::Bytes(codec::write_spoilt(mode, t.fault as u16, t.start, t.level, t.opened, out))
-}
-
-fn put_hill(
-    mode: u16,
-    peak: u16,
-    opened: u32,
-    left: &[i64; 64],
-    values: &[i32; 64],
-    floors: &[i32; 64],
-    ceilings: &[i32; 64],
-    held: &[i64; 64],
-    c: Counts,
-    out: &mut [u8],
-) -> Written
-    requires { ⌜ Writable (modeOf mode) (arrays (now left) (now values) (now floors) (now ceilings) (now held)) c peak ⌝ }
-    ensures { λ r. ⌜ Answers (written (length (now (out .entry))) (encode mode (part (whole peak opened (slopesOf (modeOf mode)
-        (arrays (now (left .entry)) (now (values .entry)) (now (floors .entry)) (now (ceilings .entry)) (now (held .entry))) c))))) r (now (out .entry)) (now (out .exit)) ⌝ }
-{
-    if out.len() < 24 + 8 * c.nl + 20 * c.n {
-        return Written::Refused(12);
-    }
-    Written::Bytes(codec::write_hill(
-        mode,
-        peak,
-        opened,
-        left,
-        values,
-        floors,
-        ceilings,
-        held,
-        c,
-        out,
-    ))
-}
-
 // Blank where no record was read, spoilt where there is a fault, else the hill: its peak is as many levels below the start as it has left values.
 fn conclude(
     mode: u16,
@@ -216,16 +161,16 @@ fn conclude(
 ) -> Written
     requires { ⌜ Concludes (modeOf mode) (arrays (now left) (now values) (now floors) (now ceilings) (now held)) c t ⌝ }
     ensures { λ r. ⌜ ((xs : List (Record Amounts)) → Summed (modeOf mode) (arrays (now (left .entry)) (now (values .entry)) (now (floors .entry)) (now (ceilings .entry)) (now (held .entry))) c t xs
-        → Answers (written (length (now (out .entry))) (summaryBytes mode xs)) r (now (out .entry)) (now (out .exit))) ⌝ }
+        → Answers (written (length (now (out .entry))) (summaryBytes mode xs)) (now (out .entry)) (now (out .exit)) r) ⌝ }
 {
     if !t.begun {
-        return put_blank(mode, out);
+        return emit::put_blank(mode, out);
     }
     if t.fault < fault::NONE {
-        return put_spoilt(mode, t, out);
+        return emit::put_spoilt(mode, t.fault as u16, t.start, t.level, t.opened, out);
     }
     let peak = t.start - (c.nl as u16);
-    put_hill(
+    emit::put_hill(
         mode,
         peak,
         t.opened,

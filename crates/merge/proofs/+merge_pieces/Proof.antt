@@ -12,7 +12,7 @@ use lib.ListN.{length, take, drop, length-take, replicate}
 use Rattle.summary.specs.Accepted.{IsSummaryIn}
 use Rattle.summary.specs.Outcomes.{mergeBytes}
 use Rattle.merge.specs.RowAsks.{Front, Row, rowMerged}
-use Rattle.merge.specs.AnswerLaws.{answer-same}
+use Rattle.emit.specs.Laws.{answer-same}
 use Rattle.merge.specs.CopyLaws.{front, never-refused}
 use Rattle.merge.specs.RowLaws.{merged-is, merged-fits, one-piece, inside, left-row, rest-row, halves-merged}
 use Rattle.merge.proofs.merge_pieces.Reads as merge-pieces

@@ -1,5 +1,5 @@
 -- `merge::copy` meets its contract: each turn copies one byte. Assumes nothing.
-use Rattle.merge.specs.AnswerLaws.{answer-short}
+use Rattle.emit.specs.Laws.{answer-short}
 use Rattle.merge.specs.CopyLaws.{copy-start, copy-length, copy-turn, copy-done}
 use Rattle.merge.specs.RowAsks.{Copied}
 use Prim.Native.Nat.{_-_}

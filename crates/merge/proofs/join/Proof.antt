@@ -12,7 +12,7 @@ use Rattle.hill.specs.Summary.{blank}
 use Rattle.hill.specs.Merge.{mergeSummary}
 use Rattle.summary.specs.Decode.{decode}
 use Rattle.merge.specs.Asks.{Arrays64}
-use Rattle.merge.specs.AnswerLaws.{answer-same}
+use Rattle.emit.specs.Laws.{answer-same}
 use Rattle.merge.specs.KeptLaws.{two-merged}
 
 -- arrays that were never written

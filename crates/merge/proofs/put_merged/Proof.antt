@@ -4,7 +4,7 @@ use Rattle.merge.proofs.put_merged.Statement.{statement}
 use Rattle.merge.proofs.put_merged.Tie as tie
 use mathlib.Core.Path.{sym, ap}
 use Rattle.summary.specs.Layout.{encode}
-use Rattle.merge.specs.AnswerLaws.{answer-same}
+use Rattle.emit.specs.Laws.{answer-same}
 use Rattle.merge.specs.SayLaws.{blank-said, part-said}
 use Rattle.merge.specs.KeptLaws.{spoilt-way, hill-way, kept-writable}
 

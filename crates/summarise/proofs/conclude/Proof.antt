@@ -2,9 +2,8 @@
 use borrow.Author.Needs.{needs}
 use mathlib.Core.Path.{refl}
 use native.Mathlib.Omega.{arith}
-use lib.ListN.{length}
-use denote.Ref.{now}
-use Rattle.summarise.specs.AnsweredLaws.{become, blank-is, spoilt-is, rises, writable, hill-is}
+use Rattle.emit.specs.Laws.{answer-same}
+use Rattle.summarise.specs.AnsweredLaws.{blank-is, spoilt-is, rises, writable, hill-is}
 use Rattle.summarise.proofs.conclude.Statement.{statement}
 use Rattle.summarise.proofs.conclude.Tie as tie
 
@@ -17,7 +16,10 @@ same-length c = search needs
 returns : tie.Need-returns
 returns c xs s =
     let a = c .before .before .before .before .before .before .before .args in
-    become (length (now (a .out))) (blank-is (a .mode) (a .t) xs (c .before .before .before .before .if1 .taken) (s .tallied)) (c .before .before .put-blank .ensures)
+    answer-same (blank-is (a .mode) (a .t) xs (c .before .before .before .before .if1 .taken) (s .tallied)) (c .before .before .put-blank .ensures)
+
+cast-put-spoilt : tie.Need-cast-put-spoilt
+cast-put-spoilt c = search needs
 
 put-spoilt-requires : tie.Need-put-spoilt-requires
 put-spoilt-requires c κs = search needs
@@ -27,8 +29,8 @@ same-length-2 c = search needs
 
 returns-2 : tie.Need-returns-2
 returns-2 c xs s =
-    let a = c .before .before .before .before .before .before .before .before .before .args in
-    become (length (now (a .out))) (spoilt-is (a .mode) (a .t) (c .before .before .before .before .before .before .if1 .left) xs (c .before .before .before .before .if2 .taken) s) (c .before .before .put-spoilt .ensures)
+    let a = c .before .before .before .before .before .before .before .before .before .before .args in
+    answer-same (spoilt-is (a .mode) (a .t) (c .before .before .before .before .before .before .before .if1 .left) xs (c .before .before .before .before .before .if2 .taken) s) (c .before .before .put-spoilt .ensures)
 
 cast-peak : tie.Need-cast-peak
 cast-peak c =
@@ -51,7 +53,7 @@ same-length-3 c = search needs
 returns-3 : tie.Need-returns-3
 returns-3 c xs s =
     let a = c .before .before .before .before .before .before .before .before .before .before .before .args in
-    become (length (now (a .out))) (hill-is (a .mode) (a .t) (c .before .before .before .before .before .before .before .before .if1 .left) (c .before .before .before .before .before .before .if2 .left) xs _ refl s) (c .before .before .put-hill .ensures)
+    answer-same (hill-is (a .mode) (a .t) (c .before .before .before .before .before .before .before .before .if1 .left) (c .before .before .before .before .before .before .if2 .left) xs _ refl s) (c .before .before .put-hill .ensures)
 
 pub conclude-spec : {M : Type 1} → statement M
 conclude-spec =
@@ -60,6 +62,7 @@ conclude-spec =
     put-blank-requires
     same-length
     returns
+    cast-put-spoilt
     put-spoilt-requires
     same-length-2
     returns-2

@@ -1,4 +1,4 @@
--- What a function that writes a summary leaves. Definitions only.
+-- What a function that writes a summary asks and leaves. Definitions only.
 use mathlib.Core.Path.{_≡_}
 use mathlib.Core.List.{List}
 use Prim.Native.Nat.{ℕ, _≤_}
@@ -9,12 +9,12 @@ use Rattle.figure.specs.Mode.{Mode}
 use Rattle.slopes.specs.declared.Counts.{Counts}
 use Rattle.slopes.specs.Arrays.{Arrays, Sound, Stored}
 
--- The call came to o: the answer, and the buffer.
-pub record Answers (o : Outcome (List ℕ)) (r : Written) (before after : List ℕ) : Type 0 where
-  pub answer : writtenAnswer r ≡ lengthAnswered o
+-- The answer and the buffer are those of the outcome o.
+pub record Answers (o : Outcome (List ℕ)) (before after : List ℕ) (r : Written) : Type 0 where
+  pub answered : writtenAnswer r ≡ lengthAnswered o
   pub buffer : after ≡ bufferAfter o before
 
--- The hill in the arrays can be written, with its peak.
+-- The arrays hold a hill that can be written over this peak.
 pub record Writable (M : Mode) (A : Arrays) (c : Counts) (peak : ℕ) : Type 0 where
   pub sound : Sound A c
   pub stored : Stored M A c

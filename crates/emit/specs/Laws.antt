@@ -1,8 +1,8 @@
 -- What is answered of bytes that fit, or do not, and how long they are. Assumes nothing.
 use mathlib.Core.Path.{_≡_, refl, ap, _∙_}
-use mathlib.Core.List.{List, _++_}
+use mathlib.Core.List.{List}
 use Prim.Native.Nat.{ℕ, _+_, _*_, _≤_, _<_}
-use lib.ListN.{length, drop}
+use lib.ListN.{length}
 use borrow.Author.Tests.{le-leb, lt-leb}
 use Rattle.gate.specs.Outcome.{result, written}
 use Rattle.gate.specs.declared.Written.{Written}
@@ -15,14 +15,11 @@ use Rattle.slopes.specs.Laws.{rise-slopes, fall-slopes}
 use Rattle.summary.specs.Layout.{encode}
 use Rattle.summary.specs.Accepted.{encode-length}
 use Rattle.codec.specs.Contracts.{Wrote}
-use Rattle.merge.specs.Asks.{Answers}
+use Rattle.emit.specs.Emitted.{Answers}
 
 module _ (w o : List ℕ) where
-  pub answer-fits : {o′ : List ℕ} {n : ℕ} → length w ≤ length o → n ≡ length w → o′ ≡ w ++ drop (length w) o → Answers (written (length o) w) o o′ (Bytes n)
-  answer-fits h e b = rw (le-leb (length w) (length o) h) record { answered = ap result e; buffer = b }
-
   pub answer-wrote : {o′ : List ℕ} {n : ℕ} → length w ≤ length o → Wrote w o o′ n → Answers (written (length o) w) o o′ (Bytes n)
-  answer-wrote h e = answer-fits h (e .answered) (e .buffer)
+  answer-wrote h e = rw (le-leb (length w) (length o) h) record { answered = ap result (e .answered); buffer = e .buffer }
 
   pub answer-short : length o < length w → Answers (written (length o) w) o o (Refused 12)
   answer-short h = rw (lt-leb (length w) (length o) h) record { answered = refl; buffer = refl }

@@ -1,7 +1,7 @@
--- `merge::put_hill` meets its contract: the length is told by the counts. Assumes nothing.
+-- `emit::put_hill` meets its contract: the length is told by the counts. Assumes nothing.
 use borrow.Author.Needs.{needs}
-use Rattle.merge.proofs.put_hill.Statement.{statement}
-use Rattle.merge.proofs.put_hill.Tie as tie
+use Rattle.emit.proofs.put_hill.Statement.{statement}
+use Rattle.emit.proofs.put_hill.Tie as tie
 use Prim.Native.Nat.{ℕ, _+_, _*_}
 use lib.ListN.{length}
 use mathlib.Core.List.{List}
@@ -12,7 +12,7 @@ use Rattle.figure.specs.Mode.{modeOf}
 use Rattle.hill.specs.Summary.{part, whole}
 use Rattle.summary.specs.Layout.{encode}
 use Rattle.slopes.specs.Arrays.{Arrays, arrays, slopesOf}
-use Rattle.merge.specs.AnswerLaws.{answer-short, answer-wrote, hill-length}
+use Rattle.emit.specs.Laws.{answer-short, answer-wrote, hill-length}
 
 abbrev these : tie.Start → Arrays
 these a = arrays (now (a .args .left)) (now (a .args .values)) (now (a .args .floors)) (now (a .args .ceilings)) (now (a .args .held))

@@ -1,8 +1,8 @@
--- `merge::put_blank` meets its contract: 6 bytes, where they fit. Assumes nothing.
+-- `emit::put_blank` meets its contract: 6 bytes, where they fit. Assumes nothing.
 use borrow.Author.Needs.{needs}
-use Rattle.merge.proofs.put_blank.Statement.{statement}
-use Rattle.merge.proofs.put_blank.Tie as tie
-use Rattle.merge.specs.AnswerLaws.{answer-short, answer-wrote, blank-length}
+use Rattle.emit.proofs.put_blank.Statement.{statement}
+use Rattle.emit.proofs.put_blank.Tie as tie
+use Rattle.emit.specs.Laws.{answer-short, answer-wrote, blank-length}
 use Rattle.summary.specs.Layout.{encode}
 use Rattle.hill.specs.Summary.{blank}
 use denote.Ref.{now}

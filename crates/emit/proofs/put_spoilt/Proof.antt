@@ -1,5 +1,5 @@
--- `merge::put_spoilt` meets its contract: 16 bytes, where they fit. Assumes nothing.
-use Rattle.merge.specs.AnswerLaws.{answer-short, answer-wrote, spoilt-length}
+-- `emit::put_spoilt` meets its contract: 16 bytes, where they fit. Assumes nothing.
+use Rattle.emit.specs.Laws.{answer-short, answer-wrote, spoilt-length}
 use Rattle.summary.specs.Layout.{encode}
 use Rattle.hill.specs.Summary.{part, spoilt}
 use Prim.Native.Nat.{ℕ}
@@ -9,8 +9,8 @@ use lib.ListN.{length}
 use mathlib.Core.Path.{_≡_}
 use native.Mathlib.Omega.{arith}
 use borrow.Author.Needs.{needs}
-use Rattle.merge.proofs.put_spoilt.Statement.{statement}
-use Rattle.merge.proofs.put_spoilt.Tie as tie
+use Rattle.emit.proofs.put_spoilt.Statement.{statement}
+use Rattle.emit.proofs.put_spoilt.Tie as tie
 
 abbrev bytes : tie.Start → List ℕ
 bytes a = encode (a .args .mode) (part (spoilt (a .args .fault) (a .args .start) (a .args .end) (a .args .opened)))
