@@ -73,21 +73,35 @@ def merge(left, right, room=200):
     return call("merge::merge", left + right, len(left), room)
 
 
-# Log D cut after record 2, in mode 1.
-HEAD = hill(1, 0, 0, 2, 2, [], 0, [(10, 0, 100, 0), (5, 0, 4, 0)])
-TAIL = hill(1, 2, 0, 0, 1, [0, -3], 0)
+def halves(mode, floor=0):
+    """Log D cut after record 2, its first record with this floor."""
+    none = NOTHING if mode == 2 else 0
+    last = {1: -3, 2: -3, 3: 0, 4: 2**32 - 3}[mode]
+    head = hill(mode, 0, 0, 2, 2, [], none, [(10, floor, 100, none), (5, 0, 4, none)])
+    return head, hill(mode, 2, 0, 0, 1, [none, last], none)
+
+
+def runs(mode, floor=0):
+    return call("runs::runs", b"".join(halves(mode, floor)))
+
+
+HEAD, TAIL = halves(1)
 WHOLE = hill(1, 0, 0, 0, 3, [], 12)
 # A closed record of one gram at depth 1, and the two halves of what may hold it.
 INSIDE = hill(1, 1, 1, 1, 1, [], 1)
 OPEN = hill(1, 0, 0, 1, 1, [], 0, [(10, 0, 100, 0)])
 SHUT = hill(1, 1, 0, 0, 0, [0], 0)
+# 10 g that holds 1 g, the inner closed by the second of three chunks and the outer by the third.
+NESTED = hill(1, 0, 0, 2, 2, [], 0, [(10, 0, 100, 0), (1, 0, 100, 0)]) + hill(1, 2, 1, 1, 0, [0], 0) + SHUT
 NEGATIVE = opening(0, -3) + close(0)
+TEN_OVER = short(0, 10) + short(1, 1) + close(1) + short(1, 5) + close(1) + close(0)
 NINE = short(0, 0) + short(1, 9) + close(1) + short(1, 1) + close(1) + close(0)
 TWO_DAYS = 2 * (short(0, 1) + close(0))
 LONGEST = short(0, 1) + 4095 * (short(1, 1) + close(1)) + close(0)
 
 # What tells each edit from the program.
 INPUTS = {
+    "codec/deeper_dropped": merge(HEAD, TAIL),
     "codec/held_over_ceiling": merge(hill(1, 0, 0, 1, 2, [], 0, [(10, 0, 100, 5)]), SHUT),
     "codec/left_from_peak": summarise(1, D[36:]),
     "codec/middle_left_out": merge(HEAD, hill(1, 2, 1, 1, 1, [0], 7)),
@@ -100,23 +114,28 @@ INPUTS = {
     "day/stamp_for_eaten": call("day::figures", D),
     "fault/ground_not_asked": summarise(1, TWO_DAYS),
     "fault/highest_fault": summarise(1, short(0, 1) + TWO_DAYS),
-    "fault/takes_100001": merge(hill(1, 0, 0, 1, 50_001, [], 0, [(10, 0, 100, 0)]), hill(1, 1, 1, 1, 50_000, [], 1)),
+    "fault/takes_100001": call("plan::plan", hill(1, 0, 0, 1, 50_001, [], 0, [(10, 0, 100, 0)]) + hill(1, 1, 0, 0, 50_000, [0], 0)),
     "figure/floor_as_ceiling": call("day::figures", D),
-    "figure/lightest_line": call("day::figures", D),
-    "figure/other_figure_dropped": call("runs::runs", HEAD[:4] + b"\2" + HEAD[5:] + TAIL),
+    "figure/first_held": call("day::figures", TEN_OVER),
+    "figure/floor_once": runs(3, 50),
+    "figure/nothing_moved": runs(2),
+    "figure/other_figure_dropped": runs(2),
     "figure/stamp_factor": call("day::figures", D),
     "judge/fault_10": call("summarise::finish", spoilt(1, 10, 0, 0, 1)),
     "judge/ground_passed": call("summarise::finish", hill(1, 2, 0, 1, 1, [0, 0], 0, [(0, 0, 0, 0)])),
     "judge/hill_100001": call("summarise::finish", hill(1, 0, 0, 0, 100_001, [], 0)),
     "judge/one_gram_more": call("summarise::finish", hill(1, 0, 0, 0, 1, [], GRAMS + 1)),
-    "merge/hands_back_left": merge(blank(1), HEAD),
+    "merge/hands_back_left": merge(HEAD, TAIL),
     "merge/join_fault_ignored": merge(OPEN, OPEN),
-    "merge/left_alone_written": merge(HEAD, TAIL),
+    "merge/counts_before_piece": merge(HEAD, TAIL),
+    "merge/left_half_twice": call("merge::merge_row", HEAD + TAIL),
     "merge/opened_not_cut": merge(spoilt(1, 9, 0, 1, 100_001), INSIDE),
     "merge/peak_counted_twice": merge(HEAD, TAIL, 24),
     "merge/pieces_cut_alike": call("merge::merge_row", blank(1) + HEAD),
     "merge/six_before_five": call("merge::merge_row", blank(1) + struct.pack("<HHH", 6, 15, 1)),
     "merge/takes_65": call("merge::merge_row", 65 * blank(1)),
+    "plan/fit_of_runs": call("plan::plan", HEAD + TAIL, room=12),
+    "plan/lowest_depth": call("plan::plan", HEAD + TAIL),
     "plan/line_kind": call("plan::plan", HEAD + TAIL),
     "record/cut_close": call("record::read_first", close(1)[:5]),
     "record/default_floor": call("record::read_first", short(0, -5)),
@@ -125,6 +144,15 @@ INPUTS = {
     "record/kind_for_length": call("record::read_first", D),
     "row_plan/meets_is_7": call("plan::plan", OPEN + OPEN),
     "row_plan/no_shared_record": call("plan::plan", OPEN + INSIDE + SHUT),
+    "run_level/floor_is_ceiling": runs(3),
+    "run_level/piece_begins_at_its_number": runs(1),
+    "run_level/start_for_peak": call("runs::runs", HEAD + hill(1, 2, 1, 2, 1, [0], 0, [(7, 0, 100, 0)]) + TAIL),
+    "runs/fit_of_lines": runs(1),
+    "runs/floor_as_ceiling": runs(3),
+    "runs/hills_swapped": runs(1),
+    "runs/inside_out": runs(3),
+    "runs/kind_of_run": runs(1),
+    "runs/levels_left_out": runs(1),
     "slopes/add_drops_what_was_held": summarise(1, opening(1, 5) + close(1) + opening(1, 7) + close(1)),
     "slopes/close_ceiling_as_floor": summarise(3, D),
     "slopes/left_level_twice": summarise(1, close(3)),
@@ -145,17 +173,30 @@ INPUTS = {
     "tulghimo/finish_always_5": call("tulghimo::tulghimo_finish", blank(1)),
     "tulghimo/finish_zero": call("tulghimo::tulghimo_finish", WHOLE),
     "tulghimo/merge_left_twice": call("tulghimo::tulghimo_merge", HEAD + TAIL, len(HEAD)),
-    "tulghimo/merge_row_always_12": call("tulghimo::tulghimo_merge_row", HEAD + TAIL),
-    "tulghimo/merge_row_length_6": call("tulghimo::tulghimo_merge_row", HEAD + TAIL),
+    "tulghimo/merge_row_of_blanks": call("tulghimo::tulghimo_merge_row", HEAD + TAIL),
+    "tulghimo/merge_row_unread": call("tulghimo::tulghimo_merge_row", HEAD + TAIL),
     "tulghimo/merge_swapped": call("tulghimo::tulghimo_merge", HEAD + TAIL, len(HEAD)),
-    "tulghimo/plan_always_4": call("tulghimo::tulghimo_plan", HEAD + TAIL),
-    "tulghimo/plan_one_line": call("tulghimo::tulghimo_plan", WHOLE + blank(1)),
+    "tulghimo/plan_unread": call("tulghimo::tulghimo_plan", HEAD + TAIL),
     "tulghimo/read_ceiling_for_floor": call("tulghimo::tulghimo_read", D),
     "tulghimo/read_status": call("tulghimo::tulghimo_read", b""),
     "tulghimo/refusal_positive": call("tulghimo::tulghimo_day", b""),
+    "tulghimo/runs_unread": call("tulghimo::tulghimo_runs", HEAD + TAIL),
     "tulghimo/status_always_12": call("tulghimo::tulghimo_merge_row", 65 * blank(1)),
     "tulghimo/summarise_always_net": call("tulghimo::tulghimo_summarise", D, 4),
     "tulghimo/summarise_mode_cut": call("tulghimo::tulghimo_summarise", D, 65_537),
+    "tulghimo/work_always_4": call("tulghimo::tulghimo_work", OPEN + OPEN),
+    "tulghimo/work_levels_for_joins": call("tulghimo::tulghimo_work", HEAD + TAIL),
+    "tulghimo/work_no_figure": call("tulghimo::tulghimo_work", HEAD + TAIL),
+    "work/first_outcome": call("work::work", NESTED),
+    "work/highest_level_only": call("work::work", HEAD + TAIL),
+    "work/joins_invented": call("work::work", HEAD + TAIL),
+    "work/left_value_dropped": call("work::work", HEAD + TAIL),
+    "work/levels_invented": call("work::work", HEAD + TAIL),
+    "work/middles_at_highest": call("work::work", OPEN + INSIDE + SHUT),
+    "work/no_earlier_outcomes": call("work::work", NESTED),
+    "work/no_middles": call("work::work", OPEN + INSIDE + SHUT),
+    "work/outcomes_at_highest": call("work::work", NESTED),
+    "work/refusal_invented": call("work::work", OPEN + OPEN),
 }
 
 # ---- the program that is run: how each call is made, and in which crate it stands
@@ -175,6 +216,10 @@ ARMS = {
     "merge::merge_row": WRITTEN.format("merge::merge_row(&input, &mut out)"),
     "plan::plan": WRITTEN.format("plan::plan(&input, &mut out)"),
     "runs::runs": WRITTEN.format("runs::runs(&input, &mut out)"),
+    "work::work": """match work::work(&input) {
+            work::Worked::Done(t) => format!("{} {} {}", t.figure, t.joins, t.levels),
+            work::Worked::Refused(n) => format!("refused {n}"),
+        }""",
     "day::figures": """match day::figures(&input) {
             day::Day::Figures(f) => format!("{} {} {} {}", f.net, f.heaviest, f.eaten, f.stamp),
             day::Day::Refused(n) => format!("refused {n}"),
@@ -324,6 +369,10 @@ def main(chosen):
                 failed += 1
                 continue
             old, new = words["old"], words["new"]
+            if (CRATES / name.split("/")[0] / words["file"]).read_text().count(old) != 1:
+                print(f"{name}: its old text does not stand once in {words['file']}")
+                failed += 1
+                continue
             edited = build(scratch / str(number), name.split("/")[0], words["file"],
                            lambda text: text.replace(old, new), scratch / "as-it-is")
             right, wrong = ask(program, INPUTS[name]), ask(edited, INPUTS[name])

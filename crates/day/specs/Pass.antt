@@ -14,9 +14,9 @@ use Rattle.figure.specs.FourModes.{Amounts, limit, InRange}
 use Rattle.figure.specs.Mode.{Mode, modeOf}
 use Rattle.figure.specs.Stored.{amounts, none}
 use Rattle.slopes.specs.Arrays.{Arrays, arrays, Fig, slopesOf, weightOf, Able, StandsFor}
-use Rattle.slopes.specs.Actions.{Pushed}
+use Rattle.slopes.specs.Actions.{Pushed, Top, ClosedTop}
 use Rattle.fault.specs.Fault.{noFault}
-use Rattle.slopes.specs.Laws.{counts, able, restate, opened, after, after-more}
+use Rattle.slopes.specs.Laws.{counts, able, restate, opened, after, after-more, close-top, is-top}
 use Rattle.record.specs.declared.Fields.{Fields}
 use Rattle.summary.specs.Outcomes.{recordOf}
 use Rattle.text.specs.declared.Figures.{Figures}
@@ -43,12 +43,6 @@ pub record Opened (d : ℕ) (v f c : ℤ) (vs fs cs ns hs es ss vs′ fs′ cs�
   pub heaviest : Pushed d v f c (none (modeOf 2)) vs fs cs hs vs′ fs′ cs′ hs′
   pub eaten : Pushed d v f c (none (modeOf 3)) vs fs cs es vs′ fs′ cs′ es′
   pub stamp : Pushed d v f c (none (modeOf 4)) vs fs cs ss vs′ fs′ cs′ ss′
-
--- What `close_at` leaves in mode m: the record at depth d, the deepest one, is closed.
-abbrev pub Closed : (m d : ℕ) (vs fs cs hs : List ℤ) (mid : ℤ) (hs′ : List ℤ) (mid′ : ℤ) → Type 0
-Closed m d vs fs cs hs mid hs′ mid′ =
-    StandsFor (modeOf m) (rising vs fs cs hs′) (counts 0 d mid′) (close (modeOf m .algebra) (slopesOf (modeOf m) (rising vs fs cs hs) (counts 0 (suc d) mid)))
-    (weightOf (modeOf m) (slopesOf (modeOf m) (rising vs fs cs hs) (counts 0 (suc d) mid)))
 
 -- What `apply` asks, and what it leaves, where there is no fault.
 pub record Ready (fault : ℕ) (f : Fields) (mid : Figures) (vs fs cs ns hs es ss : List ℤ) : Type 0 where
@@ -100,10 +94,10 @@ module _ (m : ℕ) (xs : List (Record Amounts)) where
       free-left (t .sound .values)
       (restate (after-more s (λ h. step (modeOf m .algebra) h y) (modeOf m .sizes .unit) t) (limit * openedOf (xs ++ (y ∷ []))) (hill-more y) (omega (arith, opened-append xs (y ∷ []), modeOf m .unit-small)))
 
-  pub stands-close : (d : ℕ) {vs fs cs hs : List ℤ} {mid : ℤ} {hs′ : List ℤ} {mid′ : ℤ} → Closed m d vs fs cs hs mid hs′ mid′
+  pub stands-close : (d : ℕ) {vs fs cs hs : List ℤ} {mid : ℤ} {hs′ : List ℤ} {mid′ : ℤ} → Able (modeOf m) (rising vs fs cs hs) (counts 0 (suc d) mid) → ClosedTop (modeOf m) vs fs cs hs d mid hs′ mid′
       → Stands xs (suc d) vs fs cs m hs mid → Stands (xs ++ (closing d ∷ [])) d vs fs cs m hs′ mid′
-  stands-close d t s =
-      restate (after s (close (modeOf m .algebra)) t) (limit * openedOf (xs ++ (closing d ∷ []))) (hill-more (closing d)) (omega (arith, opened-append xs (closing d ∷ [])))
+  stands-close d {vs} {fs} {cs} {hs} a t s =
+      restate (after s (close (modeOf m .algebra)) (close-top {A = rising vs fs cs hs} a d refl t)) (limit * openedOf (xs ++ (closing d ∷ []))) (hill-more (closing d)) (omega (arith, opened-append xs (closing d ∷ [])))
 
 -- ---- all four
 
@@ -136,33 +130,39 @@ module _ {mid : Figures} {vs fs cs ns hs es ss : List ℤ} where
       top : Standing (r .records) (suc (f .depth)) mid vs fs cs ns hs es ss
       top = at-close f (r .records) k (r .standing z)
 
-      -- what `close_at` asks in each mode, of the middle values as the code has them
-      pub asks-net : {m : ℤ} → m ≡ mid .net → Able (modeOf 1) (rising vs fs cs ns) (counts 0 (suc (f .depth)) m)
-      asks-net e = rw e (stands-able 1 (r .records) (r .few) (top .net))
+      -- what a close asks in one mode, of the middle value as the code has it
+      asks : (m : ℕ) {is : List ℤ} {x y : ℤ} → Stands (r .records) (suc (f .depth)) vs fs cs m is x → y ≡ x → Top (modeOf m) vs fs cs is (f .depth) y
+      asks m {is} s e = is-top {A = rising vs fs cs is} (stands-able m (r .records) (r .few) s) (f .depth) refl e
 
-      pub asks-heaviest : {m : ℤ} → m ≡ mid .heaviest → Able (modeOf 2) (rising vs fs cs hs) (counts 0 (suc (f .depth)) m)
-      asks-heaviest e = rw e (stands-able 2 (r .records) (r .few) (top .heaviest))
+      pub asks-net : {m : ℤ} → m ≡ mid .net → Top (modeOf 1) vs fs cs ns (f .depth) m
+      asks-net = asks 1 (top .net)
 
-      pub asks-eaten : {m : ℤ} → m ≡ mid .eaten → Able (modeOf 3) (rising vs fs cs es) (counts 0 (suc (f .depth)) m)
-      asks-eaten e = rw e (stands-able 3 (r .records) (r .few) (top .eaten))
+      pub asks-heaviest : {m : ℤ} → m ≡ mid .heaviest → Top (modeOf 2) vs fs cs hs (f .depth) m
+      asks-heaviest = asks 2 (top .heaviest)
 
-      pub asks-stamp : {m : ℤ} → m ≡ mid .stamp → Able (modeOf 4) (rising vs fs cs ss) (counts 0 (suc (f .depth)) m)
-      asks-stamp e = rw e (stands-able 4 (r .records) (r .few) (top .stamp))
+      pub asks-eaten : {m : ℤ} → m ≡ mid .eaten → Top (modeOf 3) vs fs cs es (f .depth) m
+      asks-eaten = asks 3 (top .eaten)
+
+      pub asks-stamp : {m : ℤ} → m ≡ mid .stamp → Top (modeOf 4) vs fs cs ss (f .depth) m
+      asks-stamp = asks 4 (top .stamp)
+
+      closed : (m : ℕ) (xs : List (Record Amounts)) {is is′ : List ℤ} {x y y′ x′ : ℤ} → Stands (r .records) (suc (f .depth)) vs fs cs m is x → Stands xs (suc (f .depth)) vs fs cs m is x
+          → y ≡ x → x′ ≡ y′ → ClosedTop (modeOf m) vs fs cs is (f .depth) y is′ y′ → Stands (xs ++ (closing (f .depth) ∷ [])) (f .depth) vs fs cs m is′ x′
+      closed m xs s t e e′ c = rw e′ (stands-close m xs (f .depth) (stands-able m (r .records) (r .few) s) (rw e at c) t)
 
       -- a close closes the deepest record in each mode
       pub applied-close : {mid′ : Figures} {ns′ hs′ es′ ss′ : List ℤ} {mn mh me ms n h e s : ℤ}
-          → mn ≡ mid .net → mid′ .net ≡ n → Closed 1 (f .depth) vs fs cs ns mn ns′ n
-          → mh ≡ mid .heaviest → mid′ .heaviest ≡ h → Closed 2 (f .depth) vs fs cs hs mh hs′ h
-          → me ≡ mid .eaten → mid′ .eaten ≡ e → Closed 3 (f .depth) vs fs cs es me es′ e
-          → ms ≡ mid .stamp → mid′ .stamp ≡ s → Closed 4 (f .depth) vs fs cs ss ms ss′ s
+          → mn ≡ mid .net → mid′ .net ≡ n → ClosedTop (modeOf 1) vs fs cs ns (f .depth) mn ns′ n
+          → mh ≡ mid .heaviest → mid′ .heaviest ≡ h → ClosedTop (modeOf 2) vs fs cs hs (f .depth) mh hs′ h
+          → me ≡ mid .eaten → mid′ .eaten ≡ e → ClosedTop (modeOf 3) vs fs cs es (f .depth) me es′ e
+          → ms ≡ mid .stamp → mid′ .stamp ≡ s → ClosedTop (modeOf 4) vs fs cs ss (f .depth) ms ss′ s
           → Applied fault f mid vs fs cs ns hs es ss mid′ vs fs cs ns′ hs′ es′ ss′
       applied-close {mid′} {ns′} {hs′} {es′} {ss′} p p′ n q q′ h u u′ e v v′ s _ xs st =
-          let d = f .depth in
           let t = at-close f xs k st in
           subst (λ (y : Record Amounts). Standing (xs ++ (y ∷ [])) (endLevel y) mid′ vs fs cs ns′ hs′ es′ ss′) (sym (is-close f k))
           (record {
-            net = rw p′ (stands-close 1 xs d n (rw p (t .net)));
-            heaviest = rw q′ (stands-close 2 xs d h (rw q (t .heaviest)));
-            eaten = rw u′ (stands-close 3 xs d e (rw u (t .eaten)));
-            stamp = rw v′ (stands-close 4 xs d s (rw v (t .stamp)));
+            net = closed 1 xs (top .net) (t .net) p p′ n;
+            heaviest = closed 2 xs (top .heaviest) (t .heaviest) q q′ h;
+            eaten = closed 3 xs (top .eaten) (t .eaten) u u′ e;
+            stamp = closed 4 xs (top .stamp) (t .stamp) v v′ s;
           })

@@ -1,17 +1,14 @@
 // The day's figures: net, heaviest, eaten and stamp of one log, in one pass over its records.
 ghost use mathlib.Core.Path.{_≡_};
-ghost use Prim.Native.Nat.{suc, _≤_, _<_};
+ghost use Prim.Native.Nat.{_≤_, _<_};
 ghost use lib.ListN.{length};
 ghost use lib.Seq.{sets};
-ghost use Rattle.figure.specs.Mode.{modeOf};
-ghost use Rattle.slopes.specs.Arrays.{Able};
-ghost use Rattle.slopes.specs.Laws.{counts};
 ghost use Rattle.summary.specs.Outcomes.{recordOf};
 ghost use Rattle.text.specs.Line.{dayLine};
 ghost use Rattle.day.specs.Day.{dayOutcome, dayAnswer};
 ghost use Rattle.fault.specs.Fault.{verdictOf};
 ghost use Rattle.day.specs.Levels.{meeting, Noted};
-ghost use Rattle.day.specs.Pass.{rising, Opened, Closed, Ready, Applied};
+ghost use Rattle.day.specs.Pass.{Opened, Ready, Applied};
 use record::Fields;
 use record::Read;
 use text::Figures;
@@ -88,29 +85,6 @@ fn open_at(
     stamp[depth] = figure::nothing(4);
 }
 
-// A close in one mode: the figure of the record at this depth joins the level below. The answer is the middle value.
-fn close_at(
-    mode: u16,
-    depth: usize,
-    values: &[i32; 64],
-    floors: &[i32; 64],
-    ceilings: &[i32; 64],
-    held: &mut [i64; 64],
-    mid: i64,
-) -> i64
-    requires { ⌜ Able (modeOf mode) (rising (now values) (now floors) (now ceilings) (now held)) (counts 0 (suc depth) mid) ⌝ }
-    ensures { λ r. ⌜ Closed mode depth (now (values .entry)) (now (floors .entry)) (now (ceilings .entry)) (now (held .entry)) mid (now (held .exit)) r ⌝ }
-{
-    let figure = figure::through(
-        mode,
-        values[depth],
-        floors[depth],
-        ceilings[depth],
-        held[depth],
-    );
-    slopes::add(mode, held, depth, mid, figure)
-}
-
 // One record in all four modes, as long as there is no fault. The answer are the middle values.
 fn apply(
     fault: u8,
@@ -149,8 +123,8 @@ fn apply(
         );
         return mid;
     }
-    let n = close_at(1, depth, &*values, &*floors, &*ceilings, net, mid.net);
-    let h = close_at(
+    let n = slopes::close_top(1, depth, &*values, &*floors, &*ceilings, net, mid.net);
+    let h = slopes::close_top(
         2,
         depth,
         &*values,
@@ -159,8 +133,8 @@ fn apply(
         heaviest,
         mid.heaviest,
     );
-    let e = close_at(3, depth, &*values, &*floors, &*ceilings, eaten, mid.eaten);
-    let s = close_at(4, depth, &*values, &*floors, &*ceilings, stamp, mid.stamp);
+    let e = slopes::close_top(3, depth, &*values, &*floors, &*ceilings, eaten, mid.eaten);
+    let s = slopes::close_top(4, depth, &*values, &*floors, &*ceilings, stamp, mid.stamp);
     Figures {
         net: n,
         heaviest: h,

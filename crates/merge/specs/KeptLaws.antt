@@ -28,12 +28,13 @@ use Rattle.slopes.specs.Laws.{counts, able, restate, rise-is, fall-is, emptied,
 use Rattle.codec.specs.Contracts.{Loads}
 use Rattle.join_plan.specs.Gate.{summaryFault, fault-parts}
 use Rattle.plan_work.specs.Runs.{slopesOf}
-use Rattle.merge.specs.declared.Fault.the-variants.{Clear, Number}
+use Rattle.fault.specs.Fault.{noFault, verdictOf}
+use Rattle.fault.specs.Laws.{found, clear-is}
 use Rattle.merge.specs.declared.Part.{Part as Numbers}
 use Rattle.merge.specs.declared.Stretch.{Stretch}
 use Rattle.merge.specs.declared.Stretch.the-variants as stretch
 use Rattle.merge.specs.declared.Merged.{Merged}
-use Rattle.merge.specs.Stretch.{verdictOf, SaysPart}
+use Rattle.merge.specs.Stretch.{SaysPart}
 use Rattle.merge.specs.Asks.{Arrays64, Kept, Writable}
 use Rattle.merge.specs.SayLaws.{says-blank, decode-spoilt, decode-hill}
 
@@ -99,13 +100,13 @@ module _ (m : ℕ) where
 
       module _ {p both : Numbers} (h : SaysPart m p (decode m b)) (g : SaysPart m both (mergeSummary 𝒜 s (decode m b))) where
         -- .. one that brings a fault, ..
-        pub kept-fault : {c : Counts} {n : ℕ} → both .fault ≡ Number n → Kept m A (merged (stretch.Part both) c) (mergeSummary 𝒜 s (decode m b))
-        kept-fault e = record { accepted = both-accepted; says = g; stands = λ v. absurd (refuse-pass (sym (ap verdictOf e) ∙ sym (said-fault g) ∙ v)) }
+        pub kept-fault : {c : Counts} → both .fault < noFault → Kept m A (merged (stretch.Part both) c) (mergeSummary 𝒜 s (decode m b))
+        kept-fault e = record { accepted = both-accepted; says = g; stands = λ v. absurd (refuse-pass (sym (found (both .fault) e) ∙ sym (said-fault g) ∙ v)) }
 
         -- .. or a hill that meets what was merged before
-        module _ (e : both .fault ≡ Clear) where
+        module _ (e : noFault ≤ both .fault) where
           clear : summaryFault 𝒜 (mergeSummary 𝒜 s (decode m b)) ≡ pass
-          clear = said-fault g ∙ ap verdictOf e
+          clear = clear-is (sym (said-fault g)) e
 
           before : StandsFor (modeOf m) A (a .counts) (slopesOf 𝒜 s) most
           before = k .stands (fault-parts 𝒜 s (decode m b) clear .0)
@@ -166,19 +167,19 @@ module _ (m : ℕ) where
 
     -- ---- writing it
 
-    pub spoilt-way : {p : Numbers} {n : ℕ} → SaysPart m p s → p .fault ≡ Number n → encode m (part (spoilt n (p .start) (p .end) (p .opened))) ≡ encode m s
-    spoilt-way {p} {n} h e = ap (encode m) (go (h .said) (sym (ap verdictOf e) ∙ h .says .fault) (h .says .start) (h .says .end) (h .says .opened) ∙ sym (h .is))
+    pub spoilt-way : {p : Numbers} → SaysPart m p s → p .fault < noFault → encode m (part (spoilt (p .fault) (p .start) (p .end) (p .opened))) ≡ encode m s
+    spoilt-way {p} h e = ap (encode m) (go (h .said) (sym (found (p .fault) e) ∙ h .says .fault) (h .says .start) (h .says .end) (h .says .opened) ∙ sym (h .is))
       where
-        go : (a : Part (𝒜 .Fig) Amounts) → refuse n ≡ verdict a → p .start ≡ start a → p .end ≡ end a → p .opened ≡ opened a → part (spoilt n (p .start) (p .end) (p .opened)) ≡ part a
-        go (spoilt f b e o) v x y z = let w : n ≡ f = cc in rw (w, x, y, z)
+        go : (a : Part (𝒜 .Fig) Amounts) → refuse (p .fault) ≡ verdict a → p .start ≡ start a → p .end ≡ end a → p .opened ≡ opened a → part (spoilt (p .fault) (p .start) (p .end) (p .opened)) ≡ part a
+        go (spoilt f b e o) v x y z = let w : p .fault ≡ f = cc in rw (w, x, y, z)
         go (whole q o u) v x y z = absurd (refuse-pass v)
 
-    module _ {p : Numbers} (h : SaysPart m p s) (e : p .fault ≡ Clear) where
+    module _ {p : Numbers} (h : SaysPart m p s) (e : noFault ≤ p .fault) where
       no-fault : summaryFault 𝒜 s ≡ pass
-      no-fault = said-fault h ∙ ap verdictOf e
+      no-fault = clear-is (sym (said-fault h)) e
 
       pub hill-way : encode m (part (whole (p .peak) (p .opened) (hillOf (modeOf m) A (a .counts)))) ≡ encode m s
-      hill-way = ap (encode m) (go (h .said) (sym (h .says .fault) ∙ ap verdictOf e) (h .says .peak) (h .says .opened) (k .stands no-fault .is ∙ ap (slopesOf 𝒜) (h .is)) ∙ sym (h .is))
+      hill-way = ap (encode m) (go (h .said) (clear-is (h .says .fault) e) (h .says .peak) (h .says .opened) (k .stands no-fault .is ∙ ap (slopesOf 𝒜) (h .is)) ∙ sym (h .is))
         where
           go : (t : Part (𝒜 .Fig) Amounts) → verdict t ≡ pass → (verdict t ≡ pass → p .peak ≡ peak 𝒜 t) → p .opened ≡ opened t → hillOf (modeOf m) A (a .counts) ≡ slopes 𝒜 t → part (whole (p .peak) (p .opened) (hillOf (modeOf m) A (a .counts))) ≡ part t
           go (spoilt f b e o) v x y z = absurd (refuse-pass v)
@@ -187,7 +188,7 @@ module _ (m : ℕ) where
       pub kept-writable : Writable m A (a .counts) (p .peak)
       kept-writable =
           let st = k .stands no-fault in
-          record { sound = st .sound; stored = st .stored; level = go (h .said) (subst (Accepted m) (h .is) (k .accepted)) (sym (h .says .fault) ∙ ap verdictOf e) (h .says .peak) }
+          record { sound = st .sound; stored = st .stored; level = go (h .said) (subst (Accepted m) (h .is) (k .accepted)) (clear-is (h .says .fault) e) (h .says .peak) }
         where
           go : (t : Part (𝒜 .Fig) Amounts) → Accepted m (part t) → verdict t ≡ pass → (verdict t ≡ pass → p .peak ≡ peak 𝒜 t) → p .peak ≤ 64
           go (spoilt f b e o) w v x = absurd (refuse-pass v)

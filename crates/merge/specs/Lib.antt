@@ -2,9 +2,9 @@
 pub mod Stretch
 pub mod Asks
 pub mod RowAsks
-pub mod FaultLaws
 pub mod SayLaws
 pub mod KeptLaws
 pub mod AnswerLaws
+pub mod CopyLaws
 pub mod CallLaws
 pub mod RowLaws

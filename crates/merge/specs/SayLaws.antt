@@ -19,12 +19,12 @@ use Rattle.summary.specs.Layout.{SummaryIn}
 use Rattle.summary.specs.Decode.{decode, hillIn}
 use Rattle.summary.specs.Values.{lefts-length, rights-length, reading-blank, reading-spoilt, reading-hill}
 use Rattle.summary.specs.Accepted.{Accepted}
-use Rattle.merge.specs.declared.Fault.{Fault}
-use Rattle.merge.specs.declared.Fault.the-variants.{Clear, Number}
+use Rattle.fault.specs.Fault.{noFault, verdictOf}
+use Rattle.fault.specs.Laws.{clear, found}
 use Rattle.merge.specs.declared.Part.{Part}
 use Rattle.merge.specs.declared.Stretch.{Stretch}
 use Rattle.merge.specs.declared.Stretch.the-variants as stretch
-use Rattle.merge.specs.Stretch.{verdictOf, SaysPart, SaysOf, FewOpened}
+use Rattle.merge.specs.Stretch.{SaysPart, SaysOf, FewOpened}
 
 -- ---- the bytes are there
 
@@ -43,9 +43,14 @@ only-hill (isBlank f) n k = absurd (n (f .kind-fits))
 only-hill (isSpoilt v) n k = absurd (k (v .layout .kind-fits))
 only-hill (isHill v) n k = v
 
+pub fault-small : {b : List ℕ} → IsSummary b → kindAt b ≡ 17 → faultAt b ≤ 9
+fault-small (isBlank f) e = absurd (omega (arith, f .kind-fits))
+fault-small (isSpoilt v) e = v .fault-high
+fault-small (isHill v) e = absurd (omega (arith, v .layout .kind-fits))
+
 -- ---- what they say
 
-abbrev pub numbers : (f : Fault) (s p e o : ℕ) → Part
+abbrev pub numbers : (f s p e o : ℕ) → Part
 numbers f s p e o = record { fault = f; start = s; peak = p; end = e; opened = o }
 
 module _ (m : ℕ) (b : List ℕ) where
@@ -62,19 +67,19 @@ module _ (m : ℕ) (b : List ℕ) where
   decode-hill e = reading-hill (modeOf m .read) b e
 
   module _ {x y e o : ℕ} (ex : x ≡ faultAt b) (ey : y ≡ peakAt b) (ee : e ≡ endAt b) (eo : o ≡ openedAt b) where
-    pub says-spoilt : kindAt b ≡ 17 → SaysPart m (numbers (Number x) y 0 e o) (decode m b)
-    says-spoilt k = record {
+    pub says-spoilt : IsSummary b → kindAt b ≡ 17 → SaysPart m (numbers x y 0 e o) (decode m b)
+    says-spoilt i k = record {
       said = spoilt (faultAt b) (spoiltStartAt b) (endAt b) (openedAt b);
       is = decode-spoilt k;
-      says = record { fault = ap refuse ex; start = ey; peak = λ v. refl; end = ee; opened = eo };
+      says = record { fault = found x (omega (arith, fault-small i k)) ∙ ap refuse ex; start = ey; peak = λ v. refl; end = ee; opened = eo };
     }
 
-    pub says-hill : IsHill b → SaysPart m (numbers Clear x y e o) (decode m b)
+    pub says-hill : IsHill b → SaysPart m (numbers noFault x y e o) (decode m b)
     says-hill v = record {
       said = whole (peakAt b) (openedAt b) (hillIn (modeOf m .read) b);
       is = decode-hill (v .layout .kind-fits);
       says = record {
-        fault = refl;
+        fault = clear noFault (omega arith);
         start = omega (arith, lefts-length (modeOf m .read) b (riseAt b), v .peak-start);
         peak = λ v. ey;
         end = omega (arith, rights-length (modeOf m .read) b (fallAt b), v .peak-end);
@@ -114,7 +119,7 @@ module _ (m : ℕ) where
     after-blank e = rw e h
 
     -- "The lowest of these faults, the left's start, the right's end, opened added and cut to 100,001."
-    pub after-part : {q : Part} {f : Fault} {k o : ℕ} → SaysPart m q s →
+    pub after-part : {q : Part} {f k o : ℕ} → SaysPart m q s →
         verdictOf f ≡ low (verdictOf (q .fault)) (low (verdictOf (p .fault)) (low (between (q .end) (p .start)) (count (q .opened + p .opened)))) →
         k ≡ min (q .peak) (p .peak) → o ≡ cut (q .opened + p .opened) → SaysPart m (numbers f (q .start) k (p .end) o) (mergeSummary 𝒜 s t)
     after-part {q} {f} {k} {o} g ef ek eo =

@@ -3,20 +3,14 @@ use mathlib.Core.Path.{_≡_}
 use Prim.Native.Nat.{ℕ, _≤_}
 use Rattle.figure.specs.FourModes.{Amounts}
 use Rattle.figure.specs.Mode.{modeOf}
-use Rattle.hill.specs.Verdict.{Verdict, pass, refuse}
+use Rattle.hill.specs.Verdict.{pass}
+use Rattle.fault.specs.Fault.{verdictOf}
 use Rattle.hill.specs.Summary.{blank, part, start, end, opened, verdict, peak}
 use Rattle.hill.specs.Summary.{Part as SummaryPart}
 use Rattle.summary.specs.Layout.{SummaryIn}
-use Rattle.merge.specs.declared.Fault.{Fault}
-use Rattle.merge.specs.declared.Fault.the-variants.{Clear, Number}
 use Rattle.merge.specs.declared.Part.{Part}
 use Rattle.merge.specs.declared.Stretch.{Stretch}
 use Rattle.merge.specs.declared.Stretch.the-variants as stretch
-
--- "The lowest of these faults", or none.
-abbrev pub verdictOf : Fault → Verdict
-verdictOf Clear = pass
-verdictOf (Number n) = refuse n
 
 -- The numbers in p are those of the summary a, which is not blank. (One with a fault has no peak.)
 pub record Says (m : ℕ) (p : Part) (a : SummaryPart (modeOf m .algebra .Fig) Amounts) : Type 0 where

@@ -17,8 +17,9 @@ use Rattle.outcome.specs.Outcomes.{Summaries, twoTo64, allSummaries, allOf, fir
 use Rattle.outcome.specs.Laws.{ask-4, ask-5, ask-6, ask-none, two-to-64, too-few, too-many, AllIn}
 use Rattle.outcome.specs.Through.{all-in}
 use Rattle.row_plan.specs.Arrays.{levelsIn, Kept}
-use Rattle.row_plan.specs.Told.{verdictOf, toldsFrom, faultOf}
-use Rattle.row_plan.specs.ToldLaws.{no-fault, some-fault}
+use Rattle.fault.specs.Fault.{noFault, verdictOf}
+use Rattle.fault.specs.Laws.{clear, found}
+use Rattle.row_plan.specs.Told.{toldsFrom, faultOf}
 use Rattle.row_plan.specs.Notes.{Whole, AllJudged}
 use Rattle.row_plan.specs.ScanLaws.{length-lines}
 use Rattle.row_plan.specs.RowLaws.{row-fault, row-plan, row-room}
@@ -66,12 +67,12 @@ module _ (row : List ℕ) (count : ℕ) (e : count ≡ min 65 (length (rowPieces
       fault-is : (f : ℕ) → verdictOf f ≡ faultOf (toldsFrom kinds starts ends openeds 0 count) → rowFault (map (decode m) (rowPieces row)) ≡ verdictOf f
       fault-is f q = sym (row-fault m (rowPieces row) all-of kinds starts peaks ends openeds (j .noted) count count-is) ∙ sym q
 
-      pub faulty : (f : ℕ) → verdictOf f ≡ faultOf (toldsFrom kinds starts ends openeds 0 count) → f < 12 → askAll row ≡ refused f
-      faulty f q h = log-asked (refuse f) (fault-is f q ∙ some-fault f h)
+      pub faulty : (f : ℕ) → verdictOf f ≡ faultOf (toldsFrom kinds starts ends openeds 0 count) → f < noFault → askAll row ≡ refused f
+      faulty f q h = log-asked (refuse f) (fault-is f q ∙ found f h)
 
-      pub through : (f : ℕ) → verdictOf f ≡ faultOf (toldsFrom kinds starts ends openeds 0 count) → 12 ≤ f → Through row count m kinds starts peaks ends openeds
+      pub through : (f : ℕ) → verdictOf f ≡ faultOf (toldsFrom kinds starts ends openeds 0 count) → noFault ≤ f → Through row count m kinds starts peaks ends openeds
       through f q h =
-          let v : rowFault (map (decode m) (rowPieces row)) ≡ pass = fault-is f q ∙ no-fault f h in
+          let v : rowFault (map (decode m) (rowPieces row)) ≡ pass = fault-is f q ∙ clear f h in
           let p : plan (levelsIn starts peaks ends) count ≡ planOfRow (map (decode m) (rowPieces row)) = row-plan m (rowPieces row) all-of kinds starts peaks ends openeds (j .noted) count count-is in
           record {
             asked = log-asked pass v;

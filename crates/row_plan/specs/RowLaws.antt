@@ -24,7 +24,9 @@ use Rattle.outcome.specs.Laws.{AllIn}
 use Rattle.outcome.specs.Through.{few-lines}
 use Rattle.row_plan.specs.Arrays.{levelsFrom, levelsIn}
 use Rattle.row_plan.specs.Told.{Told, tells, toldOf, toldFrom, toldIn, toldsFrom, faultOf}
-use Rattle.row_plan.specs.ToldLaws.{told-all, fault-row, some-fault, own-hill, own-spoilt, none-12}
+use Rattle.row_plan.specs.ToldLaws.{told-all, fault-row, own-hill, own-spoilt}
+use Rattle.fault.specs.Fault.{noFault}
+use Rattle.fault.specs.Laws.{clear, found}
 use Rattle.row_plan.specs.Notes.{noteOf, AllNoted}
 use Rattle.row_plan.specs.declared.pieces.Note.{Note}
 
@@ -38,11 +40,11 @@ levelled n = levelsFrom (n .start) (n .peak) (n .end)
 
 told-spoilt : (f s e o : ℕ) → 7 ≤ f → f ≤ 9 → toldFrom f s e o ≡ tells (refuse f) s e o
 unfolding toldFrom
-told-spoilt f s e o a b = rw (ne-eqb f 0 (omega arith), ← own-spoilt f (omega arith), some-fault f (omega arith))
+told-spoilt f s e o a b = rw (ne-eqb f 0 (omega arith), ← own-spoilt f (omega arith), found f (omega arith))
 
 told-hill : (s e o : ℕ) → toldFrom 1 s e o ≡ tells pass s e o
 unfolding toldFrom
-told-hill s e o = rw (← own-hill 1 refl, none-12)
+told-hill s e o = rw (← own-hill 1 refl, clear noFault (omega arith))
 
 pub told-piece : (m : ℕ) (b : List ℕ) → IsSummary b → told (noteOf (headAt b)) ≡ toldOf (decode m b)
 unfolding decode toldFrom

@@ -3,11 +3,12 @@ use mathlib.Core.Path.{_≡_}
 use mathlib.Core.Bool.{cond}
 use mathlib.Core.List.{List, [], _∷_}
 use Prim.Native.Nat.{ℕ, zero, suc, _+_, _≤_}
-use lib.Dec.{ltb, eqb}
+use lib.Dec.{eqb}
 use lib.ListN.{getD}
-use Rattle.hill.specs.Verdict.{Verdict, pass, refuse, low, between, count, ends}
+use Rattle.hill.specs.Verdict.{Verdict, refuse, low, between, count, ends}
+use Rattle.fault.specs.Fault.{noFault, verdictOf}
 use Rattle.hill.specs.Summary.{Summary, blank, part, verdict, start, end, opened}
-use Rattle.row_plan.specs.declared.fault.Span.{Span}
+use Rattle.row_plan.specs.declared.faults.Span.{Span}
 
 -- A blank tells nothing; any other its own fault, its start, its end and the records it opens.
 pub data Told : Type 0 where
@@ -30,13 +31,9 @@ faultOf [] = refuse 10
 faultOf (nothing ∷ ts) = faultOf ts
 faultOf (tells w s e n ∷ ts) = afterSome s e w n ts
 
--- A fault in a byte: 12 for none.
-unfoldable pub verdictOf : ℕ → Verdict
-verdictOf f = cond (ltb f 12) (refuse f) pass
-
 -- What is noted of a piece: kind 0 is a blank, 1 a hill, and any other the fault of a spoilt one.
 unfoldable pub ownFault : ℕ → ℕ
-ownFault kind = cond (eqb kind 1) 12 kind
+ownFault kind = cond (eqb kind 1) noFault kind
 
 unfoldable pub toldFrom : (kind start end opened : ℕ) → Told
 toldFrom kind start end opened = cond (eqb kind 0) nothing (tells (verdictOf (ownFault kind)) start end opened)

@@ -2,74 +2,19 @@
 use mathlib.Core.Path.{_≡_, refl, sym, ap, ap₂, _∙_}
 use mathlib.Core.Bool.{Bool, true, false, cond}
 use mathlib.Core.List.{List, [], _∷_, map}
-use mathlib.Core.Logic.{dite}
-use Prim.Native.Nat.{ℕ, suc, _+_, _-_, _*_, _≤_, _<_, min}
-use native.Mathlib.Decide.{decLt}
+use Prim.Native.Nat.{ℕ, suc, _+_, _-_, _*_, _≤_, _<_}
 use native.Mathlib.Nat.{add-assoc, add-zero}
 use native.Mathlib.Numerals.{add-one}
 use native.Mathlib.Omega.{arith}
-use lib.Dec.{ltb, eqb}
-use borrow.Author.Tests.{lt-ltb, le-ltb, le-leb, lt-leb, eq-eqb, ne-eqb}
+use borrow.Author.Tests.{ne-eqb}
 use lib.ListN.{length, getD}
-use Rattle.hill.specs.Verdict.{Verdict, pass, refuse, low, lower, ask, between, count, ends}
+use Rattle.hill.specs.Verdict.{Verdict, low, between, count, ends}
 use Rattle.hill.specs.VerdictLaws.{low-assoc, low-left}
+use Rattle.fault.specs.Fault.{noFault, verdictOf}
 use Rattle.hill.specs.Summary.{Summary, Part, blank, part, verdict, start, end, opened}
 use Rattle.plan_work.specs.Gate.{partsOf, spoiltFault, joinFault, totalOpened, lastEnd, rowFault}
-use Rattle.row_plan.specs.declared.fault.Span.{Span}
-use Rattle.row_plan.specs.Told.{Told, tells, toldOf, afterSome, faultOf, verdictOf, toldFrom, toldIn, toldsFrom, Few, ownFault, onwardFrom, Passed}
-
--- ---- faults in bytes
-
-pub none-12 : verdictOf 12 ≡ pass
-unfolding verdictOf
-none-12 = refl
-
-pub no-fault : (f : ℕ) → 12 ≤ f → verdictOf f ≡ pass
-unfolding verdictOf
-no-fault f h = rw (le-ltb f 12 h)
-
-pub some-fault : (f : ℕ) → f < 12 → verdictOf f ≡ refuse f
-unfolding verdictOf
-some-fault f h = rw (lt-ltb f 12 h)
-
-low-both : (a b : ℕ) → verdictOf (min a b) ≡ low (verdictOf a) (verdictOf b)
-unfolding verdictOf
-low-both a b = dite (decLt a 12)
-    (λ x. dite (decLt b 12)
-    (λ y. rw (lt-ltb a 12 x, lt-ltb b 12 y, lt-ltb (min a b) 12 (omega arith)))
-    (λ y. rw (lt-ltb a 12 x, le-ltb b 12 (omega arith), lt-ltb (min a b) 12 (omega arith)) (ap refuse (omega arith))))
-    (λ x. dite (decLt b 12)
-    (λ y. rw (le-ltb a 12 (omega arith), lt-ltb b 12 y, lt-ltb (min a b) 12 (omega arith)) (ap refuse (omega arith)))
-    (λ y. rw (le-ltb a 12 (omega arith), le-ltb b 12 (omega arith), le-ltb (min a b) 12 (omega arith))))
-
-pub lower-fault : (a b r : ℕ) (v w : Verdict) → r ≡ min a b → verdictOf a ≡ v → verdictOf b ≡ w → verdictOf r ≡ low v w
-lower-fault a b r v w e p q = rw (e, ← p, ← q) (low-both a b)
-
--- ---- the questions in code
-
-pub meet-apart : (a b : ℕ) → ¬ (a ≡ b) → verdictOf 7 ≡ between a b
-unfolding between verdictOf
-meet-apart a b h = rw (ne-eqb a b h) (ap refuse (seven (ltb 0 a)))
-  where
-    seven : (t : Bool) → 7 ≡ lower 7 (ask 8 t)
-    seven true = refl
-    seven false = refl
-
-pub meet-ground : (a b : ℕ) → a ≡ b → a ≡ 0 → verdictOf 8 ≡ between a b
-unfolding between verdictOf
-meet-ground a b h z = rw (eq-eqb a b h, z)
-
-pub meet-above : (a b : ℕ) → a ≡ b → ¬ (a ≡ 0) → verdictOf 12 ≡ between a b
-unfolding between verdictOf
-meet-above a b h z = rw (eq-eqb a b h, lt-ltb 0 a (omega arith))
-
-pub count-few : (n : ℕ) → n ≤ 100000 → verdictOf 12 ≡ count n
-unfolding count verdictOf
-count-few n h = rw (le-leb n 100000 h)
-
-pub count-many : (n : ℕ) → 100000 < n → verdictOf 9 ≡ count n
-unfolding count verdictOf
-count-many n h = rw (lt-leb n 100000 h)
+use Rattle.row_plan.specs.declared.faults.Span.{Span}
+use Rattle.row_plan.specs.Told.{Told, tells, toldOf, afterSome, faultOf, toldFrom, toldIn, toldsFrom, Few, ownFault, onwardFrom, Passed}
 
 -- ---- one piece more
 
@@ -90,7 +35,7 @@ told-part : (kind start end o own : ℕ) → ¬ (kind ≡ 0) → own ≡ ownFaul
 unfolding toldFrom
 told-part kind start end o own h e = rw (ne-eqb kind 0 h, e)
 
-pub own-hill : (kind : ℕ) → kind ≡ 1 → 12 ≡ ownFault kind
+pub own-hill : (kind : ℕ) → kind ≡ 1 → noFault ≡ ownFault kind
 unfolding ownFault
 own-hill kind e = rw e
 
@@ -155,7 +100,7 @@ pub record Spanning (kinds starts ends openeds : List ℕ) (count : ℕ) (s : Sp
   pub all : onwardFrom s (toldsFrom kinds starts ends openeds k (count - k)) ≡ faultOf (toldsFrom kinds starts ends openeds 0 count)
 
 module _ (kinds starts ends openeds : List ℕ) (count : ℕ) where
-  pub span-start : Spanning kinds starts ends openeds count (span false 0 0 12 0) 0
+  pub span-start : Spanning kinds starts ends openeds count (span false 0 0 noFault 0) 0
   unfolding onwardFrom
   span-start = record { near = omega arith; light = omega arith; all = ap (λ (n : ℕ). faultOf (toldsFrom kinds starts ends openeds 0 n)) (omega arith) }
 
@@ -178,19 +123,3 @@ low-none s z = rw z
 pub low-some : (s : Span) (v : Verdict) → s .seen ≡ true → v ≡ low (low (verdictOf (s .fault)) (count (s .opened))) (ends (s .first) (s .last)) → v ≡ onwardFrom s []
 unfolding onwardFrom
 low-some s v z e = rw z e
-
-pub ends-12 : (a b : ℕ) → a ≡ 0 → b ≡ 0 → verdictOf 12 ≡ ends a b
-unfolding ends verdictOf
-ends-12 a b x y = rw (x, y)
-
-pub ends-first : (a b : ℕ) → ¬ (a ≡ 0) → verdictOf 11 ≡ ends a b
-unfolding ends verdictOf
-ends-first a b x = rw (ne-eqb a 0 x) (ap refuse (go (eqb b 0)))
-  where
-    go : (t : Bool) → 11 ≡ lower 11 (ask 11 t)
-    go true = refl
-    go false = refl
-
-pub ends-last : (a b : ℕ) → a ≡ 0 → ¬ (b ≡ 0) → verdictOf 11 ≡ ends a b
-unfolding ends verdictOf
-ends-last a b x y = rw (x, ne-eqb b 0 y)

@@ -2,7 +2,7 @@
 ghost use mathlib.Core.Path.{_≡_};
 ghost use Rattle.row_plan.specs.Notes.{Whole};
 ghost use Rattle.row_plan.specs.Asks.{Says};
-use super::fault::row_fault;
+use super::faults::row_fault;
 use super::pieces::Pieces;
 use super::pieces::judge_pieces;
 
@@ -38,7 +38,7 @@ pub fn ask(
         return Asked::Refused(6);
     }
     let fault = row_fault(&*kinds, &*starts, &*ends, &*opened, count);
-    if fault < 12 {
+    if fault < fault::NONE {
         return Asked::Refused(fault);
     }
     Asked::Row(count, mode)

@@ -3,7 +3,7 @@ ghost use mathlib.Core.Path.{_≡_};
 ghost use Prim.Native.Nat.{min, max};
 
 pub mod ask;
-mod fault;
+mod faults;
 pub mod levels;
 mod pieces;
 pub mod scan;

@@ -1,12 +1,12 @@
 -- A row's pieces by where they begin, a level in their bytes, and the level of a run that it stands for. Assumes nothing.
-use mathlib.Core.Path.{_≡_, refl, sym, ap, ap₂, _∙_, subst}
-use mathlib.Core.List.{List, [], _∷_, _++_, map, List·Memᴰ}
+use mathlib.Core.Path.{_≡_, refl, sym, ap, ap₂, _∙_}
+use mathlib.Core.List.{List, [], _∷_, _++_}
 use mathlib.Core.Logic.{dite}
 use Prim.Native.Nat.{ℕ, zero, suc, _+_, _-_, _*_, _≤_, _<_}
-use native.Mathlib.Nat.{add-zero, zero-add, add-assoc}
+use native.Mathlib.Nat.{add-zero, zero-add}
 use native.Mathlib.Decide.{decLt}
 use native.Mathlib.Omega.{arith}
-use lib.ListN.{length, getD, take, drop, set, length-append, length-drop, length-set}
+use lib.ListN.{length, getD, take, drop, set, length-append, length-set}
 use lib.Seq.{drop-append-add, drop-cons, drop-drop, getD-set-same, getD-set-other}
 use mir.Syntax.{w32, w64}
 use mir.Val.{toZ}
@@ -14,15 +14,9 @@ use Rattle.number.specs.Bytes.{leAt}
 use Rattle.number.specs.Laws.{leAt-append, leAt-drop, part-rest}
 use Rattle.row.specs.Row.{firstLength, rowPieces, endToEnd}
 use Rattle.row.specs.Laws.{pieces-joined, endOf, end-none, end-next, first-inside}
-use Rattle.algebra.specs.Run.{Level}
-use Rattle.figure.specs.FourModes.{InRange}
-use Rattle.figure.specs.Mode.{modeOf}
-use Rattle.figure.specs.Stored.{IsStored, amounts}
-use Rattle.hill.specs.Summary.{blank}
 use Rattle.summary.specs.Judge.{startAt, peakAt, riseAt, fallAt, recordAt}
 use Rattle.run_level.specs.declared.Place.{Place}
-use Rattle.run_level.specs.declared.RunLevel.{RunLevel}
-use Rattle.run_level.specs.Levels.{pieceOf, beginOf, Begun, Placed, LeavesOpen, Closes, Reads, levelIn, levelAt, levelFor}
+use Rattle.run_level.specs.Levels.{pieceOf, beginOf, Begun, Reads, levelIn, levelAt}
 
 -- ---- where pieces begin
 

@@ -1,17 +1,17 @@
 -- A line's levels in a row that is let through: its two places, and what is read at each of its depths. Assumes nothing.
-use mathlib.Core.Path.{_≡_, sym, ap, _∙_}
-use mathlib.Core.List.{List, [], map, List·Memᴰ}
+use mathlib.Core.Path.{_≡_, ap, _∙_}
+use mathlib.Core.List.{List, map, List·Memᴰ}
 use Prim.Native.Nat.{ℕ, _≤_, _<_}
 use native.Mathlib.Omega.{arith}
-use lib.ListN.{length, getD}
+use lib.ListN.{length}
 use Rattle.row.specs.Row.{rowPieces}
-use Rattle.summary.specs.Judge.{kindAt, startAt, peakAt, IsHill}
+use Rattle.summary.specs.Judge.{IsHill}
 use Rattle.summary.specs.Decode.{decode}
 use Rattle.judge.specs.Judged.{headAt, hillHeadAt}
 use Rattle.judge.specs.declared.Head.the-variants.{Hill}
 use Rattle.judge.specs.Laws.{head-hill}
 use Rattle.join_plan.specs.Plan.{Line, planOfRow}
-use Rattle.row_plan.specs.Notes.{noteOf, AllNoted}
+use Rattle.row_plan.specs.Notes.{noteOf}
 use Rattle.row_plan.specs.Asks.{Through}
 use Rattle.run_level.specs.Levels.{pieceOf, Begun, placeIn, Placed, Reads}
 use Rattle.run_level.specs.StandsFor.{LineLevels, line-levels}

@@ -1,8 +1,8 @@
 -- A level in the bytes of two hills, and the level of a run that it stands for. Assumes nothing.
-use mathlib.Core.Path.{_≡_, refl, sym, ap, ap₂, _∙_, subst}
+use mathlib.Core.Path.{_≡_, ap, ap₂, _∙_, subst}
 use mathlib.Core.Logic.{dite}
 use mathlib.Core.List.{List, [], _∷_, map, List·Memᴰ}
-use Prim.Native.Nat.{ℕ, zero, suc, _+_, _-_, _*_, _≤_, _<_}
+use Prim.Native.Nat.{ℕ, zero, suc, _+_, _-_, _≤_, _<_}
 use native.Mathlib.Decide.{decLt}
 use native.Mathlib.Omega.{arith}
 use lib.IntN.{ℤ}
@@ -13,17 +13,17 @@ use Rattle.figure.specs.Mode.{modeOf}
 use Rattle.figure.specs.Stored.{IsStored, amounts}
 use Rattle.hill.specs.Summary.{blank}
 use Rattle.summary.specs.Layout.{SummaryIn}
-use Rattle.summary.specs.Judge.{modeAt, startAt, peakAt, endAt, riseAt, fallAt, leftAt, heldAt, IsHill, IsSummary, isBlank, isSpoilt, isHill}
+use Rattle.summary.specs.Judge.{modeAt, startAt, peakAt, riseAt, fallAt, leftAt, heldAt, IsHill, IsSummary, isBlank, isSpoilt, isHill}
 use Rattle.summary.specs.Decode.{decode, amountsAt, leftsIn, rightsIn}
 use Rattle.summary.specs.Values.{lefts-length, rights-length, tells-range, reading-blank, reading-spoilt, reading-hill}
 use Rattle.summary.specs.ModeValues.{numbered}
 use Rattle.summary.specs.Hills.{AllStored, hill-stored}
-use Rattle.summary.specs.Accepted.{IsSummaryIn}
-use Rattle.join_plan.specs.Plan.{Levels, blank as noLevels, Line, levelsOfSummary, planOfRow, rowOf}
-use Rattle.join_plan.specs.Joins.{Opens, Closes as ClosesDepth, Joins}
+use Rattle.join_plan.specs.Plan.{Levels, Line, levelsOfSummary, planOfRow, rowOf}
+use Rattle.join_plan.specs.Joins.{Opens, Closes as ClosesDepth}
 use Rattle.join_plan.specs.PlanExact.{planOf-exact, planOf-range}
 use Rattle.plan_work.specs.Runs.{peakOf, slopesOf, openFrom, leftAt as leftOf, levelOf}
 use Rattle.outcome.specs.Laws.{AllIn}
+use Rattle.row_plan.specs.RowLaws.{each-in, decoded-at}
 use Rattle.run_level.specs.declared.RunLevel.{RunLevel}
 use Rattle.run_level.specs.Levels.{LeavesOpen, Closes, levelAt, levelFor}
 
@@ -77,7 +77,7 @@ module _ (m : ℕ) where
     pub left-stored : IsStored (modeOf m) (l .left)
     pub in-range : InRange (amounts (l .value) (l .floor) (l .ceiling))
 
-  all-stored : (b : List ℕ) → IsHill b → modeAt b ≡ m → AllStored (modeOf m) b
+  pub all-stored : (b : List ℕ) → IsHill b → modeAt b ≡ m → AllStored (modeOf m) b
   all-stored b v e = subst (λ (k : ℕ). AllStored (modeOf k) b) e (hill-stored (modeOf (modeAt b)) b (numbered (modeAt b) (v .layout .mode-fits)) v)
 
   pub level-stored : (p q : List ℕ) (d : ℕ) → LeavesOpen p d → Closes q d → modeAt p ≡ m → modeAt q ≡ m → IsLevel (levelAt p q d)
@@ -109,15 +109,13 @@ module _ (m : ℕ) where
       let x = subst (λ (s : SummaryIn m). ClosesDepth (levelsOfSummary s) d) (reading-hill (modeOf m .read) b (v .layout .kind-fits)) o in
       record { is = v; low = x .0; high = omega (arith, x .1, lefts-length (modeOf m .read) b (riseAt b), v .peak-start) }
 
-  in-at : (ps : List (List ℕ)) → AllIn m ps → (i : ℕ) → i < length ps → IsSummaryIn m (getD ps i [])
-  in-at [] a i h = absurd (omega arith)
-  in-at (p ∷ ps) a zero h = a .0
-  in-at (p ∷ ps) a (suc i) h = in-at ps (a .1) i (omega arith)
+  pub mode-at : (ps : List (List ℕ)) → AllIn m ps → (i : ℕ) → i < length ps → modeAt (getD ps i []) ≡ m
+  mode-at [] a i h = absurd (omega arith)
+  mode-at (p ∷ ps) a zero h = a .0 .mode-is
+  mode-at (p ∷ ps) a (suc i) h = mode-at ps (a .1) i (omega arith)
 
-  decoded-at : (ps : List (List ℕ)) (i : ℕ) → i < length ps → rowOf (map levelsOfSummary (map (decode m) ps)) i ≡ levelsOfSummary (decode m (getD ps i []))
-  decoded-at [] i h = absurd (omega arith)
-  decoded-at (p ∷ ps) zero h = refl
-  decoded-at (p ∷ ps) (suc i) h = decoded-at ps i (omega arith)
+  levels-at : (ps : List (List ℕ)) (i : ℕ) → i < length ps → rowOf (map levelsOfSummary (map (decode m) ps)) i ≡ levelsOfSummary (decode m (getD ps i []))
+  levels-at ps i h = List·getD-map levelsOfSummary (map (decode m) ps) i blank ∙ ap levelsOfSummary (decoded-at m ps i h)
 
   -- What a line of the plan says of its two pieces.
   pub record LineLevels (ps : List (List ℕ)) (e : Line) : Type 0 where
@@ -141,8 +139,8 @@ module _ (m : ℕ) where
         order = r .0;
         within = j;
         some = f .some;
-        opens = λ d l h. opens-hill (getD ps (e .i) []) d (in-at ps a (e .i) i .is) (subst (λ (c : Levels). Opens c d) (decoded-at ps (e .i) i) (f .depths d .1 (l, h) .0 .opens));
-        closes = λ d l h. closes-hill (getD ps (e .j) []) d (in-at ps a (e .j) j .is) (subst (λ (c : Levels). ClosesDepth c d) (decoded-at ps (e .j) j) (f .depths d .1 (l, h) .1));
-        opener-mode = in-at ps a (e .i) i .mode-is;
-        closer-mode = in-at ps a (e .j) j .mode-is;
+        opens = λ d l h. opens-hill (getD ps (e .i) []) d (each-in m ps a (e .i) i) (subst (λ (c : Levels). Opens c d) (levels-at ps (e .i) i) (f .depths d .1 (l, h) .0 .opens));
+        closes = λ d l h. closes-hill (getD ps (e .j) []) d (each-in m ps a (e .j) j) (subst (λ (c : Levels). ClosesDepth c d) (levels-at ps (e .j) j) (f .depths d .1 (l, h) .1));
+        opener-mode = mode-at ps a (e .i) i;
+        closer-mode = mode-at ps a (e .j) j;
       }

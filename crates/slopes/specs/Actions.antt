@@ -8,9 +8,9 @@ use lib.ListN.{length, set}
 use Rattle.hill.specs.Log.{Record, opening, closing}
 use Rattle.figure.specs.FourModes.{Amounts, InRange}
 use Rattle.figure.specs.Mode.{Mode}
-use Rattle.figure.specs.Stored.{IsStored, sizeOf, combined, Combines}
+use Rattle.figure.specs.Stored.{IsStored, sizeOf, combined, Combines, amounts, passed}
 use Rattle.slopes.specs.declared.Counts.{Counts}
-use Rattle.slopes.specs.Arrays.{Arrays, at, slopesOf, weightOf, Able}
+use Rattle.slopes.specs.Arrays.{Arrays, arrays, at, slopesOf, weightOf, Able}
 
 -- ---- `push`: a record is put on top
 
@@ -43,6 +43,17 @@ heldAfter M (suc k) x hs = set hs k (combined M (at hs k) x)
 pub record Added (M : Mode) (hs : List ℤ) (n : ℕ) (mid x : ℤ) (hs′ : List ℤ) (mid′ : ℤ) : Type 0 where
   pub middle : mid′ ≡ midAfter M n x mid
   pub held : hs′ ≡ heldAfter M n x hs
+
+-- ---- `close_top`: the deepest record is closed, and its figure joins the level below
+
+-- the deepest record is at index t; of left values nothing is used
+pub record Top (M : Mode) (vs fs cs hs : List ℤ) (t : ℕ) (mid : ℤ) : Type 0 where
+  pub left : List ℤ
+  pub nl : ℕ
+  pub able : Able M (arrays left vs fs cs hs) (record { nl = nl; n = suc t; mid = mid })
+
+abbrev pub ClosedTop : Mode → (vs fs cs hs : List ℤ) (t : ℕ) (mid : ℤ) (hs′ : List ℤ) (mid′ : ℤ) → Type 0
+ClosedTop M vs fs cs hs t mid hs′ mid′ = Added M hs t mid (passed M (amounts (at vs t) (at fs t) (at cs t)) (at hs t)) hs′ mid′
 
 -- ---- `close`, `sink`, `apply`
 

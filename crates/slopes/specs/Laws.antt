@@ -18,7 +18,7 @@ use Rattle.figure.specs.Mode.{Mode}
 use Rattle.figure.specs.Stored.{IsStored, sizeOf, none, combined, passed, amounts, Passes, none-read, none-size, none-stored, combined-read, combined-stored, passed-read, passed-size, passed-stored, passes}
 use Rattle.slopes.specs.declared.Counts.{Counts}
 use Rattle.slopes.specs.Arrays.{Arrays, arrays, at, amountsAt, Fig, ups, downs, slopesOf, weightOf, Fine, Sound, Stored, Able, StandsFor}
-use Rattle.slopes.specs.Actions.{Pushed, current, Adds, midAfter, heldAfter, Added, CanClose, Joins, Fell}
+use Rattle.slopes.specs.Actions.{Pushed, current, Adds, midAfter, heldAfter, Added, Top, ClosedTop, CanClose, Joins, Fell}
 
 abbrev pub counts : (nl n : ℕ) (mid : ℤ) → Counts
 counts nl n mid = record { nl = nl; n = n; mid = mid }
@@ -219,13 +219,16 @@ module _ {M : Mode} {A : Arrays} {c : Counts} (a : Able M A c) where
       light = omega (arith, top-light, a .light, passed-size M (amountsAt A t) (at (A .held) t) (top-fine .0) top-room);
     }
 
-    pub close-top : {f mid′ : ℤ} {hs′ : List ℤ} → f ≡ passed M (amountsAt A t) (at (A .held) t) → Added M (A .held) t (c .mid) f hs′ mid′
+    pub close-top : {mid′ : ℤ} {hs′ : List ℤ} → ClosedTop M (A .values) (A .floors) (A .ceilings) (A .held) t (c .mid) hs′ mid′
         → StandsFor M (withHeld A hs′) (counts (c .nl) t mid′) (close (M .algebra) (slopesOf M A c)) (weightOf M (slopesOf M A c))
-    close-top {f} ef ad =
-        restate (joined (top-joins ef) ad) (weightOf M (slopesOf M A c))
-        (ap (λ y. join (M .algebra) y (slopesOf M A (counts (c .nl) t (c .mid)))) (ap (M .read) ef ∙ passed-read M (amountsAt A t) (at (A .held) t) (top-fine .0) top-room)
-        ∙ rw e)
-        (rw ef (omega (arith, top-light, passed-size M (amountsAt A t) (at (A .held) t) (top-fine .0) top-room)))
+    close-top ad =
+        restate (joined (top-joins refl) ad) (weightOf M (slopesOf M A c))
+        (ap (λ y. join (M .algebra) y (slopesOf M A (counts (c .nl) t (c .mid)))) (passed-read M (amountsAt A t) (at (A .held) t) (top-fine .0) top-room) ∙ rw e)
+        (omega (arith, top-light, passed-size M (amountsAt A t) (at (A .held) t) (top-fine .0) top-room))
+
+    -- what `close_top` asks
+    pub is-top : {mid : ℤ} → mid ≡ c .mid → Top M (A .values) (A .floors) (A .ceilings) (A .held) t mid
+    is-top em = record { left = A .left; nl = c .nl; able = rw (em, ← e) a }
 
 -- ---- an open
 

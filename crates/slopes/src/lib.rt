@@ -6,7 +6,7 @@ ghost use Rattle.hill.specs.Building.{join as joinHill, close as closeHill, ste
 ghost use Rattle.figure.specs.Mode.{modeOf};
 ghost use Rattle.figure.specs.Stored.{amounts, sizeOf};
 ghost use Rattle.slopes.specs.Arrays.{arrays, slopesOf, weightOf, Able, StandsFor};
-ghost use Rattle.slopes.specs.Actions.{Pushed, Adds, Added, CanClose, Joins, Room, entry, cost};
+ghost use Rattle.slopes.specs.Actions.{Pushed, Adds, Added, Top, ClosedTop, CanClose, Joins, Room, entry, cost};
 
 // How many left values and unclosed records the arrays hold, and the middle value.
 pub struct Counts {
@@ -50,7 +50,24 @@ pub fn add(mode: u16, held: &mut [i64; 64], n: usize, mid: i64, x: i64) -> i64
     mid
 }
 
-// The deepest record is closed, and its figure joins the level below; where none is open, the level is left and its value with it.
+// The deepest record, at index `top`, is closed: its figure joins the level below. The middle value is answered.
+pub fn close_top(
+    mode: u16,
+    top: usize,
+    values: &[i32; 64],
+    floors: &[i32; 64],
+    ceilings: &[i32; 64],
+    held: &mut [i64; 64],
+    mid: i64,
+) -> i64
+    requires { ⌜ Top (modeOf mode) (now values) (now floors) (now ceilings) (now held) top mid ⌝ }
+    ensures { λ r. ⌜ ClosedTop (modeOf mode) (now (values .entry)) (now (floors .entry)) (now (ceilings .entry)) (now (held .entry)) top mid (now (held .exit)) r ⌝ }
+{
+    let figure = figure::through(mode, values[top], floors[top], ceilings[top], held[top]);
+    add(mode, held, top, mid, figure)
+}
+
+// The deepest record is closed; where none is open, the level is left and its value with it.
 pub fn close(
     mode: u16,
     left: &mut [i64; 64],
@@ -78,8 +95,7 @@ pub fn close(
         };
     }
     let top = n - 1;
-    let figure = figure::through(mode, values[top], floors[top], ceilings[top], held[top]);
-    let m = add(mode, held, top, mid, figure);
+    let m = close_top(mode, top, values, floors, ceilings, held, mid);
     Counts { nl, n: top, mid: m }
 }
 

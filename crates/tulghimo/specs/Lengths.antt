@@ -25,19 +25,23 @@ use Rattle.summary.specs.Outcomes.{chunkOf, summaryBytes, mergeBytes, summarise
 use Rattle.summary.specs.MergeBytes.{merge-accepted, merge-bytes}
 use Rattle.summary.specs.OutcomeLaws.{chunk-readable}
 use Rattle.row.specs.Row.{rowPieces}
-use Rattle.outcome.specs.Outcomes.{Summaries, askRow, askLog, planBytes, mergeRowOutcome, planOutcome}
+use Rattle.outcome.specs.Outcomes.{Summaries, askRow, askLog, planBytes, runsBytes, mergeRowOutcome, planOutcome, runsOutcome}
 use Rattle.outcome.specs.Through.{plan-1500}
 use Rattle.merge.specs.RowAsks.{rowMerged, modeOfAll}
 use Rattle.merge.specs.RowLaws.{merged-fits}
 use Rattle.merge.specs.CallLaws.{few-4, many-4, row-refused, is-row, row-is}
+use Rattle.runs.specs.CallLaws.{runs-3750}
 use Rattle.tulghimo.specs.Interface.{Short}
 
 short-question : (n : ℕ) (t : Bool) (o : Outcome (List ℕ)) → Short (lengthAnswered o) → Short (lengthAnswered (question n t o))
 short-question n true o h = h
 short-question n false o h = tt
 
-short-written : (cap : ℕ) (w : List ℕ) → length w ≤ 1788 → Short (lengthAnswered (written cap w))
+short-written : (cap : ℕ) (w : List ℕ) → length w ≤ 3750 → Short (lengthAnswered (written cap w))
 short-written cap w h = short-question 12 (leb (length w) cap) (result w) (omega arith)
+
+fits : (cap : ℕ) (w : List ℕ) → length w ≤ 1788 → Short (lengthAnswered (written cap w))
+fits cap w h = short-written cap w (omega arith)
 
 short-refused : {n : ℕ} (o : Outcome (List ℕ)) → o ≡ refused n → Short (lengthAnswered o)
 short-refused o e = subst (λ (p : Outcome (List ℕ)). Short (lengthAnswered p)) (sym e) tt
@@ -50,7 +54,7 @@ short-summary chunk mode cap =
   where
     go : (o : Outcome (List Fields)) → recordsOf chunk ≡ o → Short (lengthAnswered (onward o (λ fs. written cap (summaryBytes mode (chunkOf fs)))))
     go (refused n) e = tt
-    go (result fs) e = short-written cap (summaryBytes mode (chunkOf fs)) (encode-fits mode (summaryOf (modeOf mode .algebra) (chunkOf fs)) (chunk-accepted mode (chunkOf fs) (chunk-readable mode chunk fs e)))
+    go (result fs) e = fits cap (summaryBytes mode (chunkOf fs)) (encode-fits mode (summaryOf (modeOf mode .algebra) (chunkOf fs)) (chunk-accepted mode (chunkOf fs) (chunk-readable mode chunk fs e)))
 
 -- .. two that are merged, ..
 accepted-fits : (m : ℕ) (b : List ℕ) → AllBytes b → IsSummaryIn m b → length b ≤ 1788
@@ -65,7 +69,7 @@ short-merge left right cap = go (isSummary left) refl (isSummary right) refl (eq
     go true ex true ey true ez =
         let i : IsSummaryIn (modeAt left) left = record { is = decide-summary left .from ex; mode-is = refl } in
         let j : IsSummaryIn (modeAt left) right = record { is = decide-summary right .from ey; mode-is = sym (eqb-true (modeAt left) (modeAt right) ez) } in
-        short-written cap (mergeBytes (modeAt left) left right) (accepted-fits (modeAt left) (mergeBytes (modeAt left) left right) (merge-bytes (modeAt left) left right i j) (merge-accepted (modeAt left) left right i j))
+        fits cap (mergeBytes (modeAt left) left right) (accepted-fits (modeAt left) (mergeBytes (modeAt left) left right) (merge-bytes (modeAt left) left right i j) (merge-accepted (modeAt left) left right i j))
     go true ex true ey false ez = tt
     go true ex false ey z ez = tt
     go false ex y ey z ez = tt
@@ -79,17 +83,27 @@ short-row row cap = dite (decLt n 2) (λ h. short-refused _ (few-4 row cap refl 
 
     go : 2 ≤ n → n ≤ 64 → (o : Outcome ℕ) → modeOfAll (rowPieces row) ≡ o → Short (lengthAnswered (mergeRowOutcome row cap))
     go a b (refused k) e = short-refused _ (row-refused row cap refl a b (sym e))
-    go a b (result m) e = subst (λ (o : Outcome (List ℕ)). Short (lengthAnswered o)) (sym (row-is row cap refl a b (sym e))) (short-written cap (rowMerged m row) (merged-fits (is-row row cap refl a b (sym e))))
+    go a b (result m) e = subst (λ (o : Outcome (List ℕ)). Short (lengthAnswered o)) (sym (row-is row cap refl a b (sym e))) (fits cap (rowMerged m row) (merged-fits (is-row row cap refl a b (sym e))))
 
--- A plan has at most 1,500 bytes.
-pub short-plan : (row : List ℕ) (cap : ℕ) → Short (lengthAnswered (planOutcome row cap))
-unfolding planOutcome
-short-plan row cap = go (askRow (rowPieces row)) refl
+-- A call on a row that writes short bytes for the rows that are let through is short.
+short-along : (bytes : Summaries → List ℕ) (ps : List (List ℕ)) (cap : ℕ) → ((s t : Summaries) → askRow ps ≡ result s → askLog s ≡ result t → length (bytes t) ≤ 3750) →
+    Short (lengthAnswered (onward (askRow ps) (λ s. onward (askLog s) (λ t. written cap (bytes t)))))
+short-along bytes ps cap h = go (askRow ps) refl
   where
-    then : (s : Summaries) → askRow (rowPieces row) ≡ result s → (o : Outcome Summaries) → askLog s ≡ o → Short (lengthAnswered (onward o (λ t. written cap (planBytes t))))
+    then : (s : Summaries) → askRow ps ≡ result s → (o : Outcome Summaries) → askLog s ≡ o → Short (lengthAnswered (onward o (λ t. written cap (bytes t))))
     then s e (refused k) f = tt
-    then s e (result t) f = short-written cap (planBytes t) (omega (arith, plan-1500 (rowPieces row) s t e f))
+    then s e (result t) f = short-written cap (bytes t) (h s t e f)
 
-    go : (o : Outcome Summaries) → askRow (rowPieces row) ≡ o → Short (lengthAnswered (onward o (λ s. onward (askLog s) (λ t. written cap (planBytes t)))))
+    go : (o : Outcome Summaries) → askRow ps ≡ o → Short (lengthAnswered (onward o (λ s. onward (askLog s) (λ t. written cap (bytes t)))))
     go (refused k) e = tt
     go (result s) e = then s e (askLog s) refl
+
+-- A plan has at most 1,500 bytes, ..
+pub short-plan : (row : List ℕ) (cap : ℕ) → Short (lengthAnswered (planOutcome row cap))
+unfolding planOutcome
+short-plan row cap = short-along planBytes (rowPieces row) cap (λ s t e f. omega (arith, plan-1500 (rowPieces row) s t e f))
+
+-- .. and its runs 3,750.
+pub short-runs : (row : List ℕ) (cap : ℕ) → Short (lengthAnswered (runsOutcome row cap))
+unfolding runsOutcome
+short-runs row cap = short-along runsBytes (rowPieces row) cap (runs-3750 (rowPieces row))

@@ -49,17 +49,17 @@ returns-2 c =
     let a = t .before .before .before .before in
     applied-open (a .pre) (t .before .before .before .if1 .left) (t .if2 .taken) (rw (value-is (c .before .before .before), floor-is (c .before .before), ceiling-is (c .before)) at (c .open-at .ensures))
 
-close-at-requires : tie.Need-close-at-requires
-close-at-requires c κs = let t = c .before .before .before .before .before in asks-net (t .before .before .before .before .pre) (t .before .before .before .if1 .left) (t .if2 .left) (net-is c)
+close-top-requires : tie.Need-close-top-requires
+close-top-requires c κs = let t = c .before .before .before .before .before in asks-net (t .before .before .before .before .pre) (t .before .before .before .if1 .left) (t .if2 .left) (net-is c)
 
-close-at-requires-2 : tie.Need-close-at-requires-2
-close-at-requires-2 c κs = let t = c .before .before .before .before .before .before .before .before .before .before .before in asks-heaviest (t .before .before .before .before .pre) (t .before .before .before .if1 .left) (t .if2 .left) (heaviest-is c)
+close-top-requires-2 : tie.Need-close-top-requires-2
+close-top-requires-2 c κs = let t = c .before .before .before .before .before .before .before .before .before .before .before in asks-heaviest (t .before .before .before .before .pre) (t .before .before .before .if1 .left) (t .if2 .left) (heaviest-is c)
 
-close-at-requires-3 : tie.Need-close-at-requires-3
-close-at-requires-3 c κs = let t = c .before .before .before .before .before .before .before .before .before .before .before .before .before .before .before .before .before in asks-eaten (t .before .before .before .before .pre) (t .before .before .before .if1 .left) (t .if2 .left) (eaten-is c)
+close-top-requires-3 : tie.Need-close-top-requires-3
+close-top-requires-3 c κs = let t = c .before .before .before .before .before .before .before .before .before .before .before .before .before .before .before .before .before in asks-eaten (t .before .before .before .before .pre) (t .before .before .before .if1 .left) (t .if2 .left) (eaten-is c)
 
-close-at-requires-4 : tie.Need-close-at-requires-4
-close-at-requires-4 c κs = let t = c .before .before .before .before .before .before .before .before .before .before .before .before .before .before .before .before .before .before .before .before .before .before .before in asks-stamp (t .before .before .before .before .pre) (t .before .before .before .if1 .left) (t .if2 .left) (stamp-is c)
+close-top-requires-4 : tie.Need-close-top-requires-4
+close-top-requires-4 c κs = let t = c .before .before .before .before .before .before .before .before .before .before .before .before .before .before .before .before .before .before .before .before .before .before .before in asks-stamp (t .before .before .before .before .pre) (t .before .before .before .if1 .left) (t .if2 .left) (stamp-is c)
 
 returns-3 : tie.Need-returns-3
 returns-3 c =
@@ -68,10 +68,10 @@ returns-3 c =
     let h = c .before .before .before .before .before .before .before .before .before .before .before .before in
     let e = c .before .before .before .before .before .before in
     applied-close (t .before .before .before .before .pre) (t .before .before .before .if1 .left) (t .if2 .left)
-    (net-is (n .before)) (back w64 (n .close-at .result) (n .close-at .ok)) (n .close-at .ensures)
-    (heaviest-is (h .before)) (back w64 (h .close-at2 .result) (h .close-at2 .ok)) (h .close-at2 .ensures)
-    (eaten-is (e .before)) (back w64 (e .close-at3 .result) (e .close-at3 .ok)) (e .close-at3 .ensures)
-    (stamp-is (c .before)) (back w64 (c .close-at4 .result) (c .close-at4 .ok)) (c .close-at4 .ensures)
+    (net-is (n .before)) (back w64 (n .close-top .result) (n .close-top .ok)) (n .close-top .ensures)
+    (heaviest-is (h .before)) (back w64 (h .close-top2 .result) (h .close-top2 .ok)) (h .close-top2 .ensures)
+    (eaten-is (e .before)) (back w64 (e .close-top3 .result) (e .close-top3 .ok)) (e .close-top3 .ensures)
+    (stamp-is (c .before)) (back w64 (c .close-top4 .result) (c .close-top4 .ok)) (c .close-top4 .ensures)
 
 pub apply-spec : {M : Type 1} → statement M
 apply-spec =
@@ -81,8 +81,8 @@ apply-spec =
     cast-depth
     open-at-requires
     returns-2
-    close-at-requires
-    close-at-requires-2
-    close-at-requires-3
-    close-at-requires-4
+    close-top-requires
+    close-top-requires-2
+    close-top-requires-3
+    close-top-requires-4
     returns-3)

@@ -1,34 +1,43 @@
 -- `merge::merge_fault` meets its contract. Assumes nothing.
-use Rattle.merge.specs.Stretch.{verdictOf}
-use Rattle.hill.specs.Verdict.{Verdict, low}
-use mathlib.Core.Path.{ap, _∙_}
+use mathlib.Core.Path.{ap, ap₂, _∙_}
+use Rattle.hill.specs.Verdict.{low}
+use Rattle.fault.specs.Fault.{verdictOf}
 use borrow.Author.Needs.{needs}
 use Rattle.merge.proofs.merge_fault.Statement.{statement}
 use Rattle.merge.proofs.merge_fault.Tie as tie
 
-add-join-fault : tie.Need-add-join-fault
-add-join-fault c = search needs
+joint-requires : tie.Need-joint-requires
+joint-requires c κs = search needs
 
-join-fault-requires : tie.Need-join-fault-requires
-join-fault-requires c κs = search needs
+add-count : tie.Need-add-count
+add-count c = search needs
 
-lower-fault-requires : tie.Need-lower-fault-requires
-lower-fault-requires c κs = search needs
+count-requires : tie.Need-count-requires
+count-requires c κs = search needs
 
-lower-fault-requires-2 : tie.Need-lower-fault-requires-2
-lower-fault-requires-2 c κs = search needs
+lower-requires : tie.Need-lower-requires
+lower-requires c κs = search needs
+
+lower-requires-2 : tie.Need-lower-requires-2
+lower-requires-2 c κs = search needs
+
+lower-requires-3 : tie.Need-lower-requires-3
+lower-requires-3 c κs = search needs
 
 returns : tie.Need-returns
-returns c = let a = c .before .before .before .before .before in
-    c .lower-fault2 .ensures
-    ∙ ap (λ (v : Verdict). low (verdictOf (a .args .a .fault)) v) (c .before .lower-fault .ensures ∙ ap (λ (v : Verdict). low (verdictOf (a .args .b .fault)) v) (c .before .before .join-fault .ensures))
+returns c =
+    let j = c .before .before .lower .ensures ∙ ap₂ low (c .before .before .before .before .before .before .joint .ensures) (c .before .before .before .count .ensures) in
+    let a = c .before .before .before .before .before .before .before .args in
+    c .lower3 .ensures ∙ ap (low (verdictOf (a .a .fault))) (c .before .lower2 .ensures ∙ ap (low (verdictOf (a .b .fault))) j)
 
 pub merge-fault-spec : {M : Type 1} → statement M
 merge-fault-spec =
     tie.close
     (tie.spec
-    add-join-fault
-    join-fault-requires
-    lower-fault-requires
-    lower-fault-requires-2
+    joint-requires
+    add-count
+    count-requires
+    lower-requires
+    lower-requires-2
+    lower-requires-3
     returns)

@@ -23,29 +23,32 @@ same-length c = search needs
 returns : tie.Need-returns
 returns c = let a = c .before .before .before .before .before .before .before .before in let m = a .args .mode in λ s k. answer-same (ap (encode m) (sym (blank-said m s (a .args .a .stretch) (k .says) (c .before .before .before .before .enum-told .given .1)))) (c .before .before .put-blank .ensures)
 
-enum-known-fault : tie.Need-enum-known-fault
-enum-known-fault c = search needs
+cast-put-spoilt : tie.Need-cast-put-spoilt
+cast-put-spoilt c = search needs
 
 put-spoilt-requires : tie.Need-put-spoilt-requires
 put-spoilt-requires c κs = search needs
 
-enum-told-2 : tie.Need-enum-told-2
-enum-told-2 c = search needs
-
 put-hill-requires : tie.Need-put-hill-requires
-put-hill-requires c κs = let a = c .before .before .before .before .before .before .before .before in let m = a .args .mode in let s = a .pre .summary in let k = a .pre .kept in kept-writable m k (part-said m s (a .args .a .stretch) (k .says) (c .before .before .before .before .said .given .1)) (c .before .enum-told2 .given .1)
+put-hill-requires c κs =
+    let a = c .before .before .before .before .before .before .before in
+    kept-writable (a .args .mode) (a .pre .kept) (part-said (a .args .mode) (a .pre .summary) (a .args .a .stretch) (a .pre .kept .says) (c .before .before .before .said .given .1)) (c .before .if1 .left)
 
 same-length-2 : tie.Need-same-length-2
 same-length-2 c = search needs
 
 returns-2 : tie.Need-returns-2
-returns-2 c = let a = c .before .before .before .before .before .before .before .before .before .before .before .before in let m = a .args .mode in λ s k. answer-same (spoilt-way m k (part-said m s (a .args .a .stretch) (k .says) (c .before .before .before .before .before .before .before .before .said .given .1)) (c .before .before .before .before .before .fault .given .1)) (c .before .before .put-spoilt .ensures)
+returns-2 c =
+    let a = c .before .before .before .before .before .before .before .before .before .before in
+    λ s k. answer-same (spoilt-way (a .args .mode) k (part-said (a .args .mode) s (a .args .a .stretch) (k .says) (c .before .before .before .before .before .before .said .given .1)) (c .before .before .before .before .if1 .taken)) (c .before .before .put-spoilt .ensures)
 
 same-length-3 : tie.Need-same-length-3
 same-length-3 c = search needs
 
 returns-3 : tie.Need-returns-3
-returns-3 c = let a = c .before .before .before .before .before .before .before .before .before .before .before in let m = a .args .mode in λ s k. answer-same (hill-way m k (part-said m s (a .args .a .stretch) (k .says) (c .before .before .before .before .before .before .before .said .given .1)) (c .before .before .before .before .enum-told2 .given .1)) (c .before .before .put-hill .ensures)
+returns-3 c =
+    let a = c .before .before .before .before .before .before .before .before .before .before in
+    λ s k. answer-same (hill-way (a .args .mode) k (part-said (a .args .mode) s (a .args .a .stretch) (k .says) (c .before .before .before .before .before .before .said .given .1)) (c .before .before .before .before .if1 .left)) (c .before .before .put-hill .ensures)
 
 pub put-merged-spec : {M : Type 1} → statement M
 put-merged-spec =
@@ -56,11 +59,10 @@ put-merged-spec =
     put-blank-requires
     same-length
     returns
-    enum-known-fault
+    cast-put-spoilt
     put-spoilt-requires
-    enum-told-2
-    put-hill-requires
     same-length-2
     returns-2
+    put-hill-requires
     same-length-3
     returns-3)

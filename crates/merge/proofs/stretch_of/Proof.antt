@@ -1,5 +1,5 @@
 -- `merge::stretch_of` meets its contract: by the kind. Assumes nothing.
-use Rattle.merge.specs.SayLaws.{six, sixteen, only-hill, says-blank, says-spoilt, says-hill}
+use Rattle.merge.specs.SayLaws.{six, sixteen, fault-small, only-hill, says-blank, says-spoilt, says-hill}
 use denote.Ref.{now}
 use lib.ListN.{length}
 use Prim.Native.Nat.{_≤_}
@@ -29,11 +29,17 @@ read-u16-requires-4 c κs = omega (arith, long (c .before .before))
 read-u32-requires : tie.Need-read-u32-requires
 read-u32-requires c κs = omega (arith, long (c .before .before .before))
 
+cast-t8 : tie.Need-cast-t8
+cast-t8 c =
+    let k = c .before .before .before .before .before .before in
+    let f = c .before .before .before .before .read-u162 .ensures in
+    record { fits = omega (arith, f, fault-small (k .before .before .pre) (sym (k .read-u16 .ensures) ∙ c .if2 .taken)) }
+
 returns-2 : tie.Need-returns-2
 returns-2 c = λ m.
     says-spoilt m (now (c .before .before .before .before .before .before .before .before .args .b))
     (c .before .before .before .before .read-u162 .ensures) (c .before .before .before .read-u163 .ensures) (c .before .before .read-u164 .ensures) (c .before .read-u32 .ensures)
-    (sym (c .before .before .before .before .before .before .read-u16 .ensures) ∙ c .if2 .taken)
+    (c .before .before .before .before .before .before .before .before .pre) (sym (c .before .before .before .before .before .before .read-u16 .ensures) ∙ c .if2 .taken)
 
 returns-3 : tie.Need-returns-3
 returns-3 c = λ m.
@@ -53,5 +59,6 @@ stretch-of-spec =
     read-u16-requires-3
     read-u16-requires-4
     read-u32-requires
+    cast-t8
     returns-2
     returns-3)

@@ -15,58 +15,46 @@ Inv-loop row count ats₀ at₀ k₀ ats at k = Beginning row count ats at k
 abbrev μ-loop : tie.MeasureT-loop
 μ-loop row count ats₀ at₀ k₀ ats at k = count - k
 
--- src/lib.rt:32:5
 loop-holds : tie.Need-loop-holds Inv-loop μ-loop
 loop-holds c =
     begin-start (now (c .before .args .row)) _ _ (c .before .pre .1)
 
--- src/lib.rt:33:9
 mul-ats : tie.Need-mul-ats Inv-loop μ-loop
 mul-ats c = search needs
 
--- src/lib.rt:33:9
 element-write-ats : tie.Need-element-write-ats Inv-loop μ-loop
 element-write-ats c = search needs
 
--- src/lib.rt:34:39
 sub-first-length : tie.Need-sub-first-length Inv-loop μ-loop
 sub-first-length c = search needs
 
--- src/lib.rt:34:39
 part-first-length-start : tie.Need-part-first-length-start Inv-loop μ-loop
 part-first-length-start c = search needs
 
--- src/lib.rt:34:39
 part-first-length-end : tie.Need-part-first-length-end Inv-loop μ-loop
 part-first-length-end c = search needs
 
--- src/lib.rt:34:13
 first-length-requires : tie.Need-first-length-requires Inv-loop μ-loop
 first-length-requires c κs = search needs
 
--- src/lib.rt:35:9
 add-at : tie.Need-add-at Inv-loop μ-loop
 add-at c =
     let row = now (c .before .before .before .before .before .args .row) in
     let v = c .before .before .before .loop .inv in
     omega (arith, first-inside row (c .before .before .before .loop .at) (c .first-length .result) (c .first-length .ensures) (v .inside))
 
--- src/lib.rt:36:9
 add-k : tie.Need-add-k Inv-loop μ-loop
 add-k c = search needs
 
--- src/lib.rt:32:5
 loop-less : tie.Need-loop-less Inv-loop μ-loop
 loop-less c = search needs
 
--- src/lib.rt:32:5
 loop-again : tie.Need-loop-again Inv-loop μ-loop
 loop-again c =
     let a = c .before .before .before .before .before in
     let l = c .before .before .before .loop in
     begin-next (now (a .args .row)) (a .args .count) (l .ats) (l .at) (l .k) (c .first-length .result) (a .pre .0) (l .inv) (omega arith) (c .first-length .ensures)
 
--- src/lib.rt:26:1
 returns : tie.Need-returns Inv-loop μ-loop
 returns c =
     let a = c .before .before .before .args in

@@ -7,39 +7,30 @@ use Rattle.number.specs.Word.{back}
 use Rattle.run_level.proofs.read_at.Statement.{statement}
 use Rattle.run_level.proofs.read_at.Tie as tie
 
--- src/lib.rt:58:16
 read-i32-requires : tie.Need-read-i32-requires
 read-i32-requires c κs = search needs
 
--- src/lib.rt:59:38
 add-read-i32 : tie.Need-add-read-i32
 add-read-i32 c = search needs
 
--- src/lib.rt:59:16
 read-i32-requires-2 : tie.Need-read-i32-requires-2
 read-i32-requires-2 c κs = search needs
 
--- src/lib.rt:60:40
 add-read-i32-2 : tie.Need-add-read-i32-2
 add-read-i32-2 c = search needs
 
--- src/lib.rt:60:18
 read-i32-requires-3 : tie.Need-read-i32-requires-3
 read-i32-requires-3 c κs = search needs
 
--- src/lib.rt:61:37
 add-read-i64 : tie.Need-add-read-i64
 add-read-i64 c = search needs
 
--- src/lib.rt:61:15
 read-i64-requires : tie.Need-read-i64-requires
 read-i64-requires c κs = search needs
 
--- src/lib.rt:62:15
 read-i64-requires-2 : tie.Need-read-i64-requires-2
 read-i64-requires-2 c κs = search needs
 
--- src/lib.rt:53:1
 returns : tie.Need-returns
 returns c i = record {
   value = (back w32 _ (c .before .before .before .before .read-i32 .ok) ∙ c .before .before .before .before .read-i32 .ensures) i;

@@ -8,77 +8,61 @@ use Rattle.run_level.specs.Laws.{record-fits, left-fits, level-read}
 use Rattle.run_level.proofs.read_level.Statement.{statement}
 use Rattle.run_level.proofs.read_level.Tie as tie
 
--- src/lib.rt:71:17
 sub-rise : tie.Need-sub-rise
 sub-rise c = search needs
 
--- src/lib.rt:71:16
 cast-rise : tie.Need-cast-rise
 cast-rise c = search needs
 
--- src/lib.rt:72:16
 sub-nth : tie.Need-sub-nth
 sub-nth c = search needs
 
--- src/lib.rt:72:15
 cast-nth : tie.Need-cast-nth
 cast-nth c = search needs
 
--- src/lib.rt:73:18
 sub-below : tie.Need-sub-below
 sub-below c = search needs
 
--- src/lib.rt:73:18
 sub-below-2 : tie.Need-sub-below-2
 sub-below-2 c = search needs
 
--- src/lib.rt:73:17
 cast-below : tie.Need-cast-below
 cast-below c = search needs
 
--- src/lib.rt:74:18
 add-read-at : tie.Need-add-read-at
 add-read-at c =
     let a = c .before .before .before .before .before in
     record { fits = omega (arith, record-fits (now (a .args .row)) (a .args .opener) (a .args .closer) (a .args .depth) (a .pre)) }
 
--- src/lib.rt:74:35
 mul-read-at : tie.Need-mul-read-at
 mul-read-at c = search needs
 
--- src/lib.rt:74:18
 add-read-at-2 : tie.Need-add-read-at-2
 add-read-at-2 c =
     let a = c .before .before .before .before .before in
     record { fits = omega (arith, record-fits (now (a .args .row)) (a .args .opener) (a .args .closer) (a .args .depth) (a .pre)) }
 
--- src/lib.rt:74:46
 mul-read-at-2 : tie.Need-mul-read-at-2
 mul-read-at-2 c = search needs
 
--- src/lib.rt:74:18
 add-read-at-3 : tie.Need-add-read-at-3
 add-read-at-3 c =
     let a = c .before .before .before .before .before in
     record { fits = omega (arith, record-fits (now (a .args .row)) (a .args .opener) (a .args .closer) (a .args .depth) (a .pre)) }
 
--- src/lib.rt:74:56
 add-read-at-4 : tie.Need-add-read-at-4
 add-read-at-4 c =
     let a = c .before .before .before .before .before .before in
     record { fits = omega (arith, left-fits (now (a .args .row)) (a .args .opener) (a .args .closer) (a .args .depth) (a .pre)) }
 
--- src/lib.rt:74:73
 mul-read-at-3 : tie.Need-mul-read-at-3
 mul-read-at-3 c = search needs
 
--- src/lib.rt:74:56
 add-read-at-5 : tie.Need-add-read-at-5
 add-read-at-5 c =
     let a = c .before .before .before .before .before .before in
     record { fits = omega (arith, left-fits (now (a .args .row)) (a .args .opener) (a .args .closer) (a .args .depth) (a .pre)) }
 
--- src/lib.rt:74:5
 read-at-requires : tie.Need-read-at-requires
 read-at-requires c κs =
     let a = c .before .before .before .before .before .before in

@@ -1,0 +1,102 @@
+// Questions 7 to 11 of a row, from what is noted of its pieces.
+ghost use mathlib.Core.Path.{_≡_};
+ghost use mathlib.Core.List.{List, [], _∷_};
+ghost use Prim.Native.Nat.{_+_, _*_, _≤_, min};
+ghost use lib.ListN.{length, getD};
+ghost use Rattle.fault.specs.Fault.{verdictOf};
+ghost use Rattle.row_plan.specs.Told.{Told, toldFrom, toldsFrom, faultOf, onwardFrom, ownFault, Passed, Few};
+
+// The pieces passed: whether one of them was not blank, and then where the first starts and the last ends, the lowest fault so far and the
+// records opened.
+struct Span {
+    seen: bool,
+    first: u8,
+    last: u8,
+    fault: u8,
+    opened: u32,
+}
+
+// The fault of a piece by its kind: 1 is a hill's, which has none.
+fn own_fault(kind: u8) -> u8
+    ensures { λ r. ⌜ r ≡ ownFault kind ⌝ }
+{
+    if kind == 1 { fault::NONE } else { kind }
+}
+
+// One piece more: a kind of 0 is a blank, 1 a hill, and any other is the fault of a spoilt one.
+fn pass(s: Span, kind: u8, start: u8, end: u8, opened: u32) -> Span
+    requires { ⌜ s .opened + opened ≤ 10_000_000 ⌝ }
+    ensures { λ r. ⌜ Passed s (toldFrom kind start end opened) opened r ⌝ }
+{
+    if kind == 0 {
+        return s;
+    }
+    let own = own_fault(kind);
+    let seen = s.seen;
+    if !seen {
+        return Span {
+            seen: true,
+            first: start,
+            last: end,
+            fault: own,
+            opened,
+        };
+    }
+    let first = s.first;
+    let last = s.last;
+    let fault = s.fault;
+    let before = s.opened;
+    Span {
+        seen: true,
+        first,
+        last: end,
+        fault: fault::lower(
+            fault,
+            fault::lower(own, fault::joint(last as u16, start as u16)),
+        ),
+        opened: before + opened,
+    }
+}
+
+// The lowest fault, once all pieces are passed.
+fn lowest(s: Span) -> u8
+    ensures { λ r. ⌜ verdictOf r ≡ onwardFrom s [] ⌝ }
+{
+    let seen = s.seen;
+    if !seen {
+        return 10;
+    }
+    let fault = s.fault;
+    let first = s.first;
+    let last = s.last;
+    let opened = s.opened;
+    let so_far = fault::lower(fault, fault::count(opened));
+    fault::lower(so_far, fault::ends(first as u16, last as u16))
+}
+
+// The lowest fault of a row.
+pub fn row_fault(
+    kinds: &[u8; 64],
+    starts: &[u8; 64],
+    ends: &[u8; 64],
+    opened: &[u32; 64],
+    count: usize,
+) -> u8
+    requires { ⌜ count ≤ 64 ⌝ }
+    requires { ⌜ Few (now opened) ⌝ }
+    ensures { λ r. ⌜ verdictOf r ≡ faultOf (toldsFrom (now (kinds .entry)) (now (starts .entry)) (now (ends .entry)) (now (opened .entry)) 0 count) ⌝ }
+{
+    let mut s = Span {
+        seen: false,
+        first: 0,
+        last: 0,
+        fault: fault::NONE,
+        opened: 0,
+    };
+    let mut k: usize = 0;
+    while k < count {
+        s = pass(s, kinds[k], starts[k], ends[k], opened[k]);
+        k += 1;
+    }
+    lowest(s)
+}
