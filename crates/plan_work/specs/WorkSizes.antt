@@ -23,7 +23,8 @@ use Rattle.join_plan.specs.Plan.{Line, planOfRow}
 use Rattle.plan_work.specs.Runs.{peakOf, slopesOf, leftAt, openFrom, levelOf, levelsDown, summaryAt, runLevels}
 use Rattle.plan_work.specs.Work.{Done, middlesAt, outcomesAt, between, given, worked, oneMiddle}
 use Rattle.plan_work.specs.WorkLaws.{gives, outs-nil, outs-cons, work, worked-nil, worked-cons, worked-append, levels-none, levels-next}
-use Rattle.plan_work.specs.Gate.{partsOf, spoiltFault, joinFault, totalOpened, lastEnd, partsFault, rowFault, ValidRow}
+use Rattle.plan_work.specs.Gate.{partsOf, spoiltFault, joinFault, totalOpened, lastEnd, partsFault, rowFault}
+use Rattle.plan_work.specs.Fair.{ValidRow}
 use Rattle.plan_work.specs.GateExact.{Begins, row-begins}
 use Rattle.plan_work.specs.Fold.{fold, fold-zero}
 use Rattle.plan_work.specs.Stack.{closing, through-levels}
