@@ -20,7 +20,7 @@ use Rattle.summary.specs.OutcomeLaws.{merge-is}
 use Rattle.plan_work.specs.LogWork.{ReadableRow, valid-row}
 use Rattle.outcome.specs.Outcomes.{mergeRowOutcome}
 use Rattle.outcome.specs.Laws.{AllAccepted, merge-row-is}
-use Rattle.claim.specs.Claim.{recordsIn, stretchBytes, leaves, Lent, toMerge, toMergeRow, bufferOf, Enough, Neighbours, called, byCalls, onStretches}
+use Rattle.claim.specs.Claim.{recordsRead, stretchBytes, leaves, Lent, toMerge, toMergeRow, bufferOf, Enough, Neighbours, called, byCalls, onStretches}
 use Rattle.claim.specs.Stretches.{AllRead, reads-readable, in-append, reads-joined, in-joined, read-take, read-drop, read-append}
 
 -- What a call has written stands in its buffer.
@@ -30,9 +30,9 @@ left-is w buffer = take-at w (drop (length w) buffer) (length w) refl
 module _ (m : ℕ) where
   -- The summaries of a row of stretches, and their bytes.
   abbrev pub summaries : List (List ℕ) → List (SummaryIn m)
-  summaries st = map (summaryOf (modeOf m .algebra)) (map recordsIn st)
+  summaries st = map (summaryOf (modeOf m .algebra)) (map recordsRead st)
 
-  pub stretch-encoded : (s : List ℕ) → stretchBytes m s ≡ encode m (summaryOf (modeOf m .algebra) (recordsIn s))
+  pub stretch-encoded : (s : List ℕ) → stretchBytes m s ≡ encode m (summaryOf (modeOf m .algebra) (recordsRead s))
   unfolding stretchBytes summaryBytes
   stretch-encoded s = refl
 
@@ -40,15 +40,15 @@ module _ (m : ℕ) where
   row-encoded [] = refl
   row-encoded (s ∷ st) = rw (stretch-encoded s, row-encoded st)
 
-  pub readable-row : (st : List (List ℕ)) → AllRead st → ReadableRow (modeOf m .algebra) (modeOf m .sizes) (map recordsIn st)
+  pub readable-row : (st : List (List ℕ)) → AllRead st → ReadableRow (modeOf m .algebra) (modeOf m .sizes) (map recordsRead st)
   readable-row [] a = tt
   readable-row (s ∷ st) a = (reads-readable m s (a .0), readable-row st (a .1))
 
   pub accepted-row : (st : List (List ℕ)) → AllRead st → AllAccepted m (summaries st)
-  accepted-row st a = valid-row (modeOf m .algebra) (modeOf m .sizes) (modeOf m .laws) (map recordsIn st) (readable-row st a)
+  accepted-row st a = valid-row (modeOf m .algebra) (modeOf m .sizes) (modeOf m .laws) (map recordsRead st) (readable-row st a)
 
   pub summaries-length : (st : List (List ℕ)) → length (summaries st) ≡ length st
-  summaries-length st = length-map (map recordsIn st) (summaryOf (modeOf m .algebra)) ∙ length-map st recordsIn
+  summaries-length st = length-map (map recordsRead st) (summaryOf (modeOf m .algebra)) ∙ length-map st recordsRead
 
 -- What stays true of the stretches.
 pub record Stretched (st : List (List ℕ)) : Type 0 where
@@ -63,15 +63,15 @@ module _ (m : ℕ) (u : modeInUse m ≡ true) where
   two-called x y b a =
       let p = reads-readable m x (a .0) in
       let q = reads-readable m y (a .1 .0) in
-      merge-is m (summaryBytes m (recordsIn x)) (summaryBytes m (recordsIn y)) (length b) (chunk-is m (recordsIn x) u p) (chunk-is m (recordsIn y) u q) ∙
-      ap (written (length b)) (merge-chunks m (recordsIn x) (recordsIn y) u p q ∙ ap (summaryBytes m) (sym (in-append x y (a .0) (a .1 .0)) ∙ ap (λ (t : List ℕ). recordsIn (x ++ t)) (sym (append-nil y))))
+      merge-is m (summaryBytes m (recordsRead x)) (summaryBytes m (recordsRead y)) (length b) (chunk-is m (recordsRead x) u p) (chunk-is m (recordsRead y) u q) ∙
+      ap (written (length b)) (merge-chunks m (recordsRead x) (recordsRead y) u p q ∙ ap (summaryBytes m) (sym (in-append x y (a .0) (a .1 .0)) ∙ ap (λ (t : List ℕ). recordsRead (x ++ t)) (sym (append-nil y))))
 
   row-called : (l : List (List ℕ)) (b : List ℕ) → AllRead l → 2 ≤ length l → length l ≤ 64 → called (map (stretchBytes m) l) (toMergeRow b) ≡ written (length b) (stretchBytes m (joined l))
   row-called l b a k h =
       let n : length (summaries m l) ≡ length l = summaries-length m l in
       ap (λ (ps : List (List ℕ)). mergeRowOutcome (endToEnd ps) (length b)) (row-encoded m l) ∙
       merge-row-is m u (summaries m l) (accepted-row m l a) (omega arith) (omega arith) (length b) ∙
-      ap (λ (s : SummaryIn m). written (length b) (encode m s)) (mergeRow-summaries (modeOf m .algebra) (modeOf m .laws) (map recordsIn l)) ∙
+      ap (λ (s : SummaryIn m). written (length b) (encode m s)) (mergeRow-summaries (modeOf m .algebra) (modeOf m .laws) (map recordsRead l)) ∙
       rw (stretch-encoded m (joined l), in-joined l a)
 
   called-is : (l : List (List ℕ)) (b : Lent) → AllRead l → Enough b (length l) → length l ≤ 64 → called (map (stretchBytes m) l) b ≡ written (length (bufferOf b)) (stretchBytes m (joined l))

@@ -26,12 +26,12 @@ abbrev pub recordsFound : Outcome (List Fields) → List (Record Amounts)
 recordsFound (refused n) = []
 recordsFound (result fs) = chunkOf fs
 
-unfoldable pub recordsIn : List ℕ → List (Record Amounts)
-recordsIn bytes = recordsFound (recordsOf bytes)
+unfoldable pub recordsRead : List ℕ → List (Record Amounts)
+recordsRead bytes = recordsFound (recordsOf bytes)
 
 -- "Its summary is what \"Summaries\" says of a chunk, however long the stretch is."
 unfoldable pub stretchBytes : (mode : ℕ) → List ℕ → List ℕ
-stretchBytes mode stretch = summaryBytes mode (recordsIn stretch)
+stretchBytes mode stretch = summaryBytes mode (recordsRead stretch)
 
 -- What the uncut log says: "the recursion's figure", or the log's "lowest-numbered fault".
 unfoldable pub logSays : (mode : ℕ) → List ℕ → Outcome ℤ
@@ -120,7 +120,7 @@ module _ (mode : ℕ) (cut : List Chunk) where
   uncutLog = joined (chunks cut)
 
   abbrev pub chunkRecords : List (List (Record Amounts))
-  chunkRecords = map recordsIn (chunks cut)
+  chunkRecords = map recordsRead (chunks cut)
 
   abbrev pub lentRow : List ℕ
   lentRow = endToEnd (firstRow mode cut)
@@ -139,7 +139,7 @@ module _ (mode : ℕ) (cut : List Chunk) where
     pub worked : workOutcome lentRow ≡ onResult (λ f. record { figure = f; joins = joins lines; levels = folded lines }) (logSays mode uncutLog)
 
   -- "A single claim about the log, its cut, the mode and the whole list."
-  pub record Holds (merges : List (Call Lent)) : Type 0 where
+  pub record Claimed (merges : List (Call Lent)) : Type 0 where
     -- the uncut log is readable, and so are the stretches, which joined are the log
     pub uncut : (fs : List Fields) × (recordsOf uncutLog ≡ result fs)
     pub readable : (s : List ℕ) → List·Memᴰ s (replay (onStretches mode) merges (chunks cut)) → (fs : List Fields) × (recordsOf s ≡ result fs)
@@ -153,4 +153,4 @@ module _ (mode : ℕ) (cut : List Chunk) where
     -- and so does the work along the plan
     pub worked : onResult (λ w. w .figure) (workOutcome lentRow) ≡ logSays mode uncutLog
     -- the plan of a well-formed log
-    pub planned : logFault (recordsIn uncutLog) ≡ pass → Planned
+    pub planned : logFault (recordsRead uncutLog) ≡ pass → Planned

@@ -13,7 +13,7 @@ use Rattle.hill.specs.Row.{joined, Call, replay, answers, Proper, onResult}
 use Rattle.hill.specs.RowLaws.{SameRows, replay-joined}
 use Rattle.join_plan.specs.PlanOfLog.{plan-of-log, plan-only, plan-few}
 use Rattle.summary.specs.Outcomes.{finishOutcome}
-use Rattle.claim.specs.Claim.{recordsIn, stretchBytes, Chunk, chunks, firstRow, IsCut, Lent, bufferOf, Neighbours, byCalls, onStretches, uncutLog, Planned, Holds}
+use Rattle.claim.specs.Claim.{recordsRead, stretchBytes, Chunk, chunks, firstRow, IsCut, Lent, bufferOf, Neighbours, byCalls, onStretches, uncutLog, Planned, Claimed}
 use Rattle.claim.specs.Stretches.{AllRead, read-each, reads-joined, in-joined}
 use Rattle.claim.specs.Calls.{Stretched, list-same}
 use Rattle.claim.specs.LogRow.{finish-log, lines, work-log, figure-log, plan-log}
@@ -38,21 +38,21 @@ module _ (m : ℕ) (cut : List Chunk) (i : IsCut m cut) where
   most-64 : length (chunks cut) ≤ 64
   most-64 = omega (arith, count, i .most)
 
-  planned : logFault (recordsIn (uncutLog m cut)) ≡ pass → Planned m cut
+  planned : logFault (recordsRead (uncutLog m cut)) ≡ pass → Planned m cut
   planned v =
-      let e : logFault (joined (map recordsIn (chunks cut))) ≡ pass = rw (in-joined (chunks cut) reads) at v in
+      let e : logFault (joined (map recordsRead (chunks cut))) ≡ pass = rw (in-joined (chunks cut) reads) at v in
       record {
         lines = lines m used (chunks cut) reads least-two most-64;
-        described = plan-of-log (modeOf m .algebra) (modeOf m .laws) (map recordsIn (chunks cut)) e;
-        only = plan-only (modeOf m .algebra) (modeOf m .laws) (map recordsIn (chunks cut)) e;
+        described = plan-of-log (modeOf m .algebra) (modeOf m .laws) (map recordsRead (chunks cut)) e;
+        only = plan-only (modeOf m .algebra) (modeOf m .laws) (map recordsRead (chunks cut)) e;
         few =
-            let n : length (map recordsIn (chunks cut)) ≡ length (chunks cut) = length-map (chunks cut) recordsIn in
-            omega (arith, count, plan-few (modeOf m .algebra) (modeOf m .laws) (map recordsIn (chunks cut)) e (omega (arith, least-two)));
+            let n : length (map recordsRead (chunks cut)) ≡ length (chunks cut) = length-map (chunks cut) recordsRead in
+            omega (arith, count, plan-few (modeOf m .algebra) (modeOf m .laws) (map recordsRead (chunks cut)) e (omega (arith, least-two)));
         planned = λ cap. rw row-is (plan-log m used (chunks cut) reads least-two most-64 e cap);
         worked = rw row-is (work-log m used (chunks cut) reads least-two most-64);
       }
 
-  holds : (merges : List (Call Lent)) → Proper byCalls Neighbours merges (firstRow m cut) → Holds m cut merges
+  holds : (merges : List (Call Lent)) → Proper byCalls Neighbours merges (firstRow m cut) → Claimed m cut merges
   holds merges p =
       let w : SameRows (stretchBytes m) (onStretches m) byCalls Neighbours Stretched merges (chunks cut) =
       list-same m used merges (chunks cut) (record { reads = reads; few = most-64 }) (rw row-is at p) in
@@ -71,5 +71,5 @@ module _ (m : ℕ) (cut : List Chunk) (i : IsCut m cut) where
         planned = planned;
       }
 
-pub demand3 : (mode : ℕ) (cut : List Chunk) (merges : List (Call Lent)) → IsCut mode cut → Proper byCalls Neighbours merges (firstRow mode cut) → Holds mode cut merges
+pub demand3 : (mode : ℕ) (cut : List Chunk) (merges : List (Call Lent)) → IsCut mode cut → Proper byCalls Neighbours merges (firstRow mode cut) → Claimed mode cut merges
 demand3 mode cut merges i p = holds mode cut i merges p

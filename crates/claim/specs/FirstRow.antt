@@ -11,7 +11,7 @@ use Rattle.figure.specs.Mode.{modeInUse}
 use Rattle.hill.specs.Row.{joined, Call, answer, put, answers, onResult}
 use Rattle.summary.specs.Outcomes.{chunkOf, summaryBytes, summariseOutcome}
 use Rattle.summary.specs.OutcomeLaws.{summarise-is}
-use Rattle.claim.specs.Claim.{recordsIn, stretchBytes, leaves, Chunk, chunks, wrote, firstRow, IsChunk, Lent, bufferOf, called, byCalls, told}
+use Rattle.claim.specs.Claim.{recordsRead, stretchBytes, leaves, Chunk, chunks, wrote, firstRow, IsChunk, Lent, bufferOf, called, byCalls, told}
 use Rattle.claim.specs.Stretches.{AllRead, found}
 use Rattle.claim.specs.Calls.{left-is}
 
@@ -20,10 +20,10 @@ module _ (m : ℕ) (u : modeInUse m ≡ true) where
   wrote-chunk : (c : Chunk) → IsChunk m c → wrote (leaves (summariseOutcome (c .bytes) m (length (c .buffer))) (c .buffer)) ≡ stretchBytes m (c .bytes)
   unfolding stretchBytes
   wrote-chunk c i =
-      let e : recordsIn (c .bytes) ≡ chunkOf (i .readable .0) = found (c .bytes) (i .readable .0) (i .readable .1) in
-      let n : length (summaryBytes m (recordsIn (c .bytes))) ≤ length (c .buffer) = i .long-enough in
+      let e : recordsRead (c .bytes) ≡ chunkOf (i .readable .0) = found (c .bytes) (i .readable .0) (i .readable .1) in
+      let n : length (summaryBytes m (recordsRead (c .bytes))) ≤ length (c .buffer) = i .long-enough in
       ap (λ (o : Outcome (List ℕ)). wrote (leaves o (c .buffer))) (summarise-is (c .bytes) m (length (c .buffer)) (i .readable .0) u (i .short) (i .readable .1)) ∙
-      rw (← e, le-leb (length (summaryBytes m (recordsIn (c .bytes)))) (length (c .buffer)) n) (left-is (summaryBytes m (recordsIn (c .bytes))) (c .buffer))
+      rw (← e, le-leb (length (summaryBytes m (recordsRead (c .bytes)))) (length (c .buffer)) n) (left-is (summaryBytes m (recordsRead (c .bytes))) (c .buffer))
 
   pub first-row : (cut : List Chunk) → ((c : Chunk) → List·Memᴰ c cut → IsChunk m c) → firstRow m cut ≡ map (stretchBytes m) (chunks cut)
   first-row [] i = refl

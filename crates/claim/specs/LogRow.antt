@@ -23,24 +23,24 @@ use Rattle.plan_work.specs.Work.{Work}
 use Rattle.plan_work.specs.LogWork.{log-gate, log-figure}
 use Rattle.outcome.specs.Outcomes.{Summaries, askLog, linesBytes, planBytes, workAlong, planOutcome, workOutcome}
 use Rattle.outcome.specs.Laws.{plan-is, work-is}
-use Rattle.claim.specs.Claim.{recordsIn, stretchBytes, logSays}
+use Rattle.claim.specs.Claim.{recordsRead, stretchBytes, logSays}
 use Rattle.claim.specs.Stretches.{AllRead, Reads, found, reads-readable, reads-joined, in-joined}
 use Rattle.claim.specs.Calls.{summaries, row-encoded, readable-row, accepted-row, summaries-length}
 
 module _ (m : ℕ) where
   -- What a readable log says.
-  pub says : (log : List ℕ) → Reads log → logSays m log ≡ logOutcome m (recordsIn log)
+  pub says : (log : List ℕ) → Reads log → logSays m log ≡ logOutcome m (recordsRead log)
   unfolding logSays
   says log r = ap (λ (o : Outcome (List Fields)). onward o (λ fs. logOutcome m (chunkOf fs))) (r .1) ∙ ap (logOutcome m) (sym (found log (r .0) (r .1)))
 
   module _ (u : modeInUse m ≡ true) where
     pub finish-log : (log : List ℕ) → Reads log → finishOutcome (stretchBytes m log) ≡ logSays m log
     unfolding stretchBytes
-    finish-log log r = finish-chunk m (recordsIn log) u (reads-readable m log r) ∙ sym (says log r)
+    finish-log log r = finish-chunk m (recordsRead log) u (reads-readable m log r) ∙ sym (says log r)
 
     module _ (st : List (List ℕ)) (a : AllRead st) (l : 2 ≤ length st) (h : length st ≤ 64) where
       abbrev log : List (Record Amounts)
-      log = joined (map recordsIn st)
+      log = joined (map recordsRead st)
 
       abbrev pub lines : List Line
       lines = planOfRow (summaries m st)
@@ -54,7 +54,7 @@ module _ (m : ℕ) where
       -- The gate finds the log's lowest-numbered fault.
       ask-log : askLog these ≡ outcome (logFault log) these
       unfolding askLog
-      ask-log = ap (λ (v : Verdict). outcome v these) (log-gate (modeOf m .algebra) (modeOf m .sizes) (modeOf m .laws) (modeOf m .commutative) (map recordsIn st) (readable-row m st a))
+      ask-log = ap (λ (v : Verdict). outcome v these) (log-gate (modeOf m .algebra) (modeOf m .sizes) (modeOf m .laws) (modeOf m .commutative) (map recordsRead st) (readable-row m st a))
 
       abbrev withPlan : ℤ → Work ℤ
       withPlan f = record { figure = f; joins = joins lines; levels = folded lines }
@@ -63,7 +63,7 @@ module _ (m : ℕ) where
       unfolding workAlong
       worked pass e =
           ap (λ (f : modeOf m .algebra .Fig). result (withPlan (modeOf m .store f)))
-          (log-figure (modeOf m .algebra) (modeOf m .sizes) (modeOf m .laws) (modeOf m .commutative) (map recordsIn st) (readable-row m st a) e)
+          (log-figure (modeOf m .algebra) (modeOf m .sizes) (modeOf m .laws) (modeOf m .commutative) (map recordsRead st) (readable-row m st a) e)
       worked (refuse n) e = refl
 
       pub work-log : workOutcome (endToEnd (map (stretchBytes m) st)) ≡ onResult withPlan (logSays m (joined st))

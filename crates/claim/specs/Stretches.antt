@@ -13,17 +13,17 @@ use Rattle.hill.specs.Row.{joined}
 use Rattle.summary.specs.MergeBytes.{Readables}
 use Rattle.summary.specs.Outcomes.{recordOf, chunkOf}
 use Rattle.summary.specs.OutcomeLaws.{chunk-readable}
-use Rattle.claim.specs.Claim.{recordsFound, recordsIn}
+use Rattle.claim.specs.Claim.{recordsFound, recordsRead}
 
 -- The bytes are readable.
 abbrev pub Reads : List ℕ → Type 0
 Reads s = (fs : List Fields) × (recordsOf s ≡ result fs)
 
-pub found : (s : List ℕ) (fs : List Fields) → recordsOf s ≡ result fs → recordsIn s ≡ chunkOf fs
-unfolding recordsIn
+pub found : (s : List ℕ) (fs : List Fields) → recordsOf s ≡ result fs → recordsRead s ≡ chunkOf fs
+unfolding recordsRead
 found s fs e = ap recordsFound e
 
-pub reads-readable : (m : ℕ) (s : List ℕ) → Reads s → Readables m (recordsIn s)
+pub reads-readable : (m : ℕ) (s : List ℕ) → Reads s → Readables m (recordsRead s)
 reads-readable m s r = rw (found s (r .0) (r .1)) (chunk-readable m s (r .0) (r .1))
 
 -- ---- two chunks joined
@@ -36,7 +36,7 @@ module _ (a b : List ℕ) (p : Reads a) (q : Reads b) where
   reads-append : Reads (a ++ b)
   reads-append = (p .0 ++ q .0, append-fields)
 
-  pub in-append : recordsIn (a ++ b) ≡ recordsIn a ++ recordsIn b
+  pub in-append : recordsRead (a ++ b) ≡ recordsRead a ++ recordsRead b
   in-append =
       found (a ++ b) (p .0 ++ q .0) append-fields ∙ map-append recordOf (p .0) (q .0) ∙
       rw (found a (p .0) (p .1), found b (q .0) (q .1))
@@ -59,7 +59,7 @@ pub reads-joined : (st : List (List ℕ)) → AllRead st → Reads (joined st)
 reads-joined [] a = ([], records-nil)
 reads-joined (s ∷ st) a = reads-append s (joined st) (a .0) (reads-joined st (a .1))
 
-pub in-joined : (st : List (List ℕ)) → AllRead st → recordsIn (joined st) ≡ joined (map recordsIn st)
+pub in-joined : (st : List (List ℕ)) → AllRead st → recordsRead (joined st) ≡ joined (map recordsRead st)
 in-joined [] a = found [] [] records-nil
 in-joined (s ∷ st) a = rw (in-append s (joined st) (a .0) (reads-joined st (a .1)), in-joined st (a .1))
 

@@ -4,7 +4,8 @@ use mathlib.Core.Bool.{true}
 use Prim.Native.Nat.{ℕ, zero, suc, _%_, _^_}
 use lib.IntN.{ℤ, pos, _+ℤ_, natAbs}
 use lib.Signed.{_≤ℤ_, _<ℤ_}
-use Rattle.number.specs.IntegerLaws.{up, zed}
+use Rattle.number.specs.IntegerLaws.{zed}
+use Rattle.number.specs.Integer.{up}
 use Rattle.figure.specs.Mode.{Mode, modeOf}
 use Rattle.figure.specs.Stored.{IsStored, sizeOf, none, combined}
 

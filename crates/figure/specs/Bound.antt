@@ -12,7 +12,7 @@ use Rattle.algebra.specs.Sizes.{Sizes, cost, RunSizes}
 use Rattle.number.specs.Integer.{maxZ, clamp}
 use Rattle.number.specs.IntegerLaws.{abs-+, abs-max, abs-clamp}
 use Rattle.figure.specs.FourModes.{Amounts, limit, InRange, net, heaviest, eaten, stamp, lift, lineOf, Stamp}
-use Rattle.figure.specs.Run.{Line, atLeast, Between, between}
+use Rattle.figure.specs.Run.{HeaviestNumbers, atLeast, Between, between}
 use Rattle.figure.specs.Runs.{netContext, heaviestContext, eatenContext, stampContext, moved, lineAfter, betweenAfter}
 use Rattle.figure.specs.declared.Held.{Held}
 use Rattle.figure.specs.declared.Held.the-variants.{Nothing, Figure}
@@ -62,7 +62,7 @@ abbrev pub heaviestSizes : Sizes heaviest InRange
 heaviestSizes =
     record { unit = limit; size = sizeHeld; unit-pos = lit< tt; size-ι = size-nothing; size-⊗ = size-lift maxZ max-sum; size-node = line-node }
 
-pub record LineIn (k : Line) (n : ℕ) : Type 0 where
+pub record LineIn (k : HeaviestNumbers) (n : ℕ) : Type 0 where
   pub empty-in : natAbs (k .empty) ≤ n
   pub other-in : sizeHeld (k .other) ≤ n
   pub add-in : natAbs (k .add) ≤ n
@@ -92,7 +92,7 @@ line-size l i =
     let s : Held = lift maxZ (l .before) (l .after) in
     omega (arith, size-max (l .before) (l .after), line-of (l .carried) s i, size-moved s (l .carried .value))
 
-pub line-after-in : (f g : Line) (m n : ℕ) → LineIn f m → LineIn g n → LineIn (lineAfter f g) (m + n)
+pub line-after-in : (f g : HeaviestNumbers) (m n : ℕ) → LineIn f m → LineIn g n → LineIn (lineAfter f g) (m + n)
 line-after-in f g m n p q =
     omega (
       arith,

@@ -6,8 +6,7 @@ use lib.Dec.{eqb, lit<}
 use lib.IntN.{ℤ, pos, negsuc, _+ℤ_, natAbs}
 use lib.Signed.{leZ, _≤ℤ_}
 use Rattle.algebra.specs.Algebra.{Algebra}
-use Rattle.number.specs.Integer.{maxZ, clamp, wrap}
-use Rattle.number.specs.IntegerLaws.{up}
+use Rattle.number.specs.Integer.{maxZ, clamp, wrap, up}
 use Rattle.number.specs.Modulo.{wrap-small}
 use Rattle.figure.specs.declared.Held.{Held}
 use Rattle.figure.specs.declared.Held.the-variants.{Nothing, Figure}

@@ -22,7 +22,7 @@ abbrev pub IsNetRun : List (Level net) → ℤ → Type 0
 IsNetRun ls a = (x : ℤ) → x +ℤ a ≡ through net ls x
 
 -- "Mode 2: (z,A,B), z for nothing, else the greater of A and x + B." Where there is no A, x + B.
-pub record Line : Type 0 where
+pub record HeaviestNumbers : Type 0 where
   pub empty : ℤ
   pub other : Held
   pub add : ℤ
@@ -31,14 +31,14 @@ unfoldable pub atLeast : Held → ℤ → ℤ
 atLeast Nothing y = y
 atLeast (Figure a) y = maxZ a y
 
-unfoldable pub along : Line → Held → ℤ
+unfoldable pub along : HeaviestNumbers → Held → ℤ
 along k Nothing = k .empty
 along k (Figure x) = atLeast (k .other) (x +ℤ k .add)
 
-abbrev pub heaviestRun : Line → Run
+abbrev pub heaviestRun : HeaviestNumbers → Run
 heaviestRun k = record { first = k .empty; second = storeHeld (k .other); third = k .add }
 
-abbrev pub IsHeaviestRun : List (Level heaviest) → Line → Type 0
+abbrev pub IsHeaviestRun : List (Level heaviest) → HeaviestNumbers → Type 0
 IsHeaviestRun ls k = (x : Held) → Figure (along k x) ≡ through heaviest ls x
 
 -- "Mode 3: (a,l,h), x + a held between l and h, where a adds all values and combined figures on the way and l, h are the ends of what it

@@ -11,7 +11,7 @@ use Rattle.number.specs.Integer.{maxZ, clamp}
 use Rattle.number.specs.IntegerLaws.{zed, add-law, neg-law, abs-law, max-law, min-law, ≤-antisym, clamp-in}
 use Rattle.figure.specs.FourModes.{Amounts, InRange, net, heaviest, eaten, stamp, lift, Stamp, stampOf}
 use Rattle.figure.specs.ModeLaws.{stamp-≡}
-use Rattle.figure.specs.Run.{IsNetRun, Line, atLeast, along, IsHeaviestRun, Between, between, total, IsEatenRun, Affine, affine, IsStampRun}
+use Rattle.figure.specs.Run.{IsNetRun, HeaviestNumbers, atLeast, along, IsHeaviestRun, Between, between, total, IsEatenRun, Affine, affine, IsStampRun}
 use Rattle.figure.specs.Runs.{netContext, heaviestContext, eatenContext, stampContext, moved, lineLevel, lineAfter, betweenLevel, betweenAfter, between-ends, between-low, between-high}
 use Rattle.figure.specs.declared.Held.{Held}
 use Rattle.figure.specs.declared.Held.the-variants.{Nothing, Figure}
@@ -63,7 +63,7 @@ shown Nothing (Figure c) B B′ e = absurd (no-floor c B B′ e)
 shown (Figure a) Nothing B B′ e = absurd (no-floor a B′ B (λ x. sym (e x)))
 shown (Figure a) (Figure c) B B′ e = let r = both-shown a c B B′ e in (ap Figure (r .0), r .1)
 
-pub line-≡ : (j k : Line) → ((x : Held) → along j x ≡ along k x) → j ≡ k
+pub line-≡ : (j k : HeaviestNumbers) → ((x : Held) → along j x ≡ along k x) → j ≡ k
 unfolding along
 line-≡ j k e =
     let r = shown (j .other) (k .other) (j .add) (k .add) (λ x. e (Figure x)) in
@@ -73,7 +73,7 @@ abbrev numberOf : Held → ℤ
 numberOf Nothing = pos 0
 numberOf (Figure z) = z
 
-pub heaviest-only : (ls : List (Level heaviest)) (j k : Line) → IsHeaviestRun ls j → IsHeaviestRun ls k → j ≡ k
+pub heaviest-only : (ls : List (Level heaviest)) (j k : HeaviestNumbers) → IsHeaviestRun ls j → IsHeaviestRun ls k → j ≡ k
 heaviest-only ls j k p q = line-≡ j k (λ x. ap numberOf (p x ∙ sym (q x)))
 
 abbrev pub heaviestPinned : Pinned heaviestContext IsHeaviestRun
@@ -104,12 +104,12 @@ after-none : (a b : Held) (v : ℤ) → a ≡ Nothing → b ≡ Nothing → lift
 unfolding moved lift
 after-none a b v p q = ap₂ (λ a b. lift maxZ a (moved b v)) p q
 
-other-none : (k : Line) (ls : List (Level heaviest)) → k .other ≡ Nothing → NoOther ls → runOn heaviestContext k ls .other ≡ Nothing
+other-none : (k : HeaviestNumbers) (ls : List (Level heaviest)) → k .other ≡ Nothing → NoOther ls → runOn heaviestContext k ls .other ≡ Nothing
 unfolding runOn
 other-none k [] e n = e
 other-none k (l ∷ ls) e n = other-none (lineAfter (lineLevel l) k) ls (after-none _ (k .other) (l .carried .value) (none-moved (l .carried .value) (n .0 .0) (n .0 .1)) e) (n .1)
 
-none-other : (k : Line) (ls : List (Level heaviest)) → runOn heaviestContext k ls .other ≡ Nothing → (k .other ≡ Nothing) × NoOther ls
+none-other : (k : HeaviestNumbers) (ls : List (Level heaviest)) → runOn heaviestContext k ls .other ≡ Nothing → (k .other ≡ Nothing) × NoOther ls
 unfolding runOn
 none-other k [] e = (e, tt)
 none-other k (l ∷ ls) e =

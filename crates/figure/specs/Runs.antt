@@ -10,7 +10,7 @@ use Rattle.number.specs.IntegerLaws.{zed, add-law, view, diffs, diff-≡, +-mon
 use Rattle.number.specs.Modulo.{mods}
 use Rattle.figure.specs.FourModes.{Amounts, InRange, net, heaviest, eaten, stamp, lift, lineOf, Stamp, stampOf}
 use Rattle.figure.specs.ModeLaws.{stamp-≡, stamp-node}
-use Rattle.figure.specs.Run.{Line, atLeast, along, Between, between, Affine, affine}
+use Rattle.figure.specs.Run.{HeaviestNumbers, atLeast, along, Between, between, Affine, affine}
 use Rattle.figure.specs.declared.Held.{Held}
 use Rattle.figure.specs.declared.Held.the-variants.{Nothing, Figure}
 
@@ -50,12 +50,12 @@ unfoldable pub moved : Held → ℤ → Held
 moved Nothing v = Nothing
 moved (Figure a) v = Figure (a +ℤ v)
 
-abbrev pub lineLevel : Level heaviest → Line
+abbrev pub lineLevel : Level heaviest → HeaviestNumbers
 lineLevel l =
     let s : Held = lift maxZ (l .before) (l .after) in
     record { empty = lineOf (l .carried .value) s; other = moved s (l .carried .value); add = l .carried .value }
 
-abbrev pub lineAfter : Line → Line → Line
+abbrev pub lineAfter : HeaviestNumbers → HeaviestNumbers → HeaviestNumbers
 lineAfter f g =
     record {
       empty = atLeast (f .other) (g .empty +ℤ f .add);
@@ -70,7 +70,7 @@ at-least-twice Nothing (Figure c) y b = sym (max-+ c y b)
 at-least-twice (Figure a) Nothing y b = refl
 at-least-twice (Figure a) (Figure c) y b = max-assoc a (c +ℤ b) (y +ℤ b) ∙ ap (maxZ a) (sym (max-+ c y b))
 
-pub line-after : (f g : Line) → Unit {0} → (x : Held) → Figure (along (lineAfter f g) x) ≡ Figure (along f (Figure (along g x)))
+pub line-after : (f g : HeaviestNumbers) → Unit {0} → (x : Held) → Figure (along (lineAfter f g) x) ≡ Figure (along f (Figure (along g x)))
 unfolding along
 line-after f g _ Nothing = refl
 line-after f g _ (Figure x) = ap Figure (ap (atLeast (lift maxZ (f .other) (moved (g .other) (f .add)))) (sym (+ℤ-assoc x (g .add) (f .add))) ∙ at-least-twice (f .other) (g .other) (x +ℤ g .add) (f .add))
@@ -96,7 +96,7 @@ line-app l x = ap Figure (line-at (l .before) (l .after) x (l .carried))
 
 abbrev pub heaviestContext : Context heaviest InRange
 heaviestContext = record {
-  K = Line;
+  K = HeaviestNumbers;
   apply = λ k x. Figure (along k x);
   level = lineLevel;
   compose = lineAfter;

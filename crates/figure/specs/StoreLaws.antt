@@ -12,7 +12,7 @@ use mir.Val.{SFits}
 use Rattle.number.specs.IntegerLaws.{zed, sfits-abs}
 use Rattle.figure.specs.FourModes.{Stamp, nothing, storeHeld, readHeld, heldIf, storeStamp, readStamp, isStamp}
 use Rattle.figure.specs.ModeLaws.{stamp-≡}
-use Rattle.figure.specs.Run.{netRun, Line, heaviestRun, Between, eatenRun, Affine, stampRun}
+use Rattle.figure.specs.Run.{netRun, HeaviestNumbers, heaviestRun, Between, eatenRun, Affine, stampRun}
 use Rattle.figure.specs.Bound.{sizeHeld, LineIn, BetweenIn}
 use Rattle.figure.specs.declared.Held.{Held}
 use Rattle.figure.specs.declared.Held.the-variants.{Nothing, Figure}
@@ -70,7 +70,7 @@ stamp-is (negsuc n) e = absurd (omega (zed, e))
 abbrev pub readNetRun : Run → ℤ
 readNetRun k = k .first
 
-abbrev pub readHeaviestRun : Run → Line
+abbrev pub readHeaviestRun : Run → HeaviestNumbers
 readHeaviestRun k = record { empty = k .first; other = readHeld (k .second); add = k .third }
 
 abbrev pub readEatenRun : Run → Between
@@ -90,10 +90,10 @@ zero-fits = record { sfits = lit< tt }
 pub net-run-fits : (a : ℤ) (n : ℕ) → natAbs a ≤ n → n < 2 ^ 63 → RunFits (netRun a)
 net-run-fits a n h l = record { first-fits = sfits-abs w64 a (omega arith); second-fits = zero-fits; third-fits = zero-fits }
 
-pub line-back : (k : Line) (n : ℕ) → LineIn k n → n < 2 ^ 63 → readHeaviestRun (heaviestRun k) ≡ k
+pub line-back : (k : HeaviestNumbers) (n : ℕ) → LineIn k n → n < 2 ^ 63 → readHeaviestRun (heaviestRun k) ≡ k
 line-back k n h l = λ i. record { empty = k .empty; other = held-back (k .other) (omega arith) i; add = k .add }
 
-pub line-run-fits : (k : Line) (n : ℕ) → LineIn k n → n < 2 ^ 63 → RunFits (heaviestRun k)
+pub line-run-fits : (k : HeaviestNumbers) (n : ℕ) → LineIn k n → n < 2 ^ 63 → RunFits (heaviestRun k)
 line-run-fits k n h l = record { first-fits = sfits-abs w64 (k .empty) (omega arith); second-fits = held-fits (k .other) (omega arith); third-fits = sfits-abs w64 (k .add) (omega arith) }
 
 pub between-run-fits : (k : Between) (n : ℕ) → BetweenIn k n → n < 2 ^ 63 → RunFits (eatenRun k)

@@ -1,4 +1,4 @@
--- The smaller and the greater of two integers, a number held between two ends, and a number modulo 2^32.
+-- The smaller and the greater of two integers, a number held between two ends, one with what is negative as 0, and a number modulo 2^32.
 use mathlib.Core.Bool.{cond}
 use Prim.Native.Nat.{ℕ, _-_, _%_, _^_}
 use lib.IntN.{ℤ, pos, negsuc}
@@ -13,6 +13,11 @@ maxZ a b = cond (leZ a b) b a
 -- raised to lo if below it, then lowered to hi if above it
 unfoldable pub clamp : ℤ → ℤ → ℤ → ℤ
 clamp x lo hi = minZ (maxZ x lo) hi
+
+-- z, or 0 where it is negative
+abbrev pub up : ℤ → ℕ
+up (pos n) = n
+up (negsuc n) = 0
 
 -- z modulo 2^32; `negsuc n` is -1 - n
 unfoldable pub wrap : ℤ → ℕ

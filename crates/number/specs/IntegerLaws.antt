@@ -10,13 +10,9 @@ use lib.IntN.{ℤ, pos, negsuc, _+ℤ_, negℤ, subℕ, natAbs}
 use lib.Signed.{leZ, ltZ, _≤ℤ_, _<ℤ_, mag}
 use mir.Syntax.{Width}
 use mir.Val.{SFits, hbits}
-use Rattle.number.specs.Integer.{minZ, maxZ, clamp}
+use Rattle.number.specs.Integer.{minZ, maxZ, clamp, up}
 
--- ---- the two parts
-
-abbrev pub up : ℤ → ℕ
-up (pos n) = n
-up (negsuc n) = 0
+-- ---- the two parts: up, and dn
 
 abbrev pub dn : ℤ → ℕ
 dn (pos n) = 0

@@ -6,8 +6,8 @@ use native.Mathlib.Omega.{arith}
 use lib.IntN.{ℤ, pos, negsuc, _+ℤ_}
 use mir.Syntax.{w32}
 use mir.Val.{SFits, ofZ}
-use Rattle.number.specs.Integer.{wrap}
-use Rattle.number.specs.IntegerLaws.{up, dn, add-law}
+use Rattle.number.specs.Integer.{wrap, up}
+use Rattle.number.specs.IntegerLaws.{dn, add-law}
 
 -- a remainder is known by its size and by what it leaves
 pub mod-unique : (s t p q n : ℕ) → s < n → s + n * p ≡ t + n * q → s ≡ t % n

@@ -8,7 +8,7 @@ use lib.ListN.{length, length-map}
 use borrow.Author.Tests.{le-leb, lt-leb, eq-eqb}
 use Rattle.gate.specs.Outcome.{Outcome, refused, result, onward, written}
 use Rattle.row.specs.Row.{rowPieces, endToEnd}
-use Rattle.plan_work.specs.Gate.{ValidRow}
+use Rattle.plan_work.specs.Fair.{ValidRow}
 use Rattle.row.specs.Laws.{OwnLength, AllOwn, pieces-own}
 use Rattle.figure.specs.Mode.{modeOf, modeInUse}
 use Rattle.hill.specs.Row.{mergeRow}

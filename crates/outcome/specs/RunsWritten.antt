@@ -11,7 +11,7 @@ use Rattle.figure.specs.FourModes.{InRange}
 use Rattle.figure.specs.Mode.{modeOf}
 use Rattle.summary.specs.Layout.{SummaryIn}
 use Rattle.join_plan.specs.Plan.{Line, planOfRow}
-use Rattle.plan_work.specs.Gate.{ValidRow}
+use Rattle.plan_work.specs.Fair.{ValidRow}
 use Rattle.plan_work.specs.Runs.{runLevels, runOf, runsAlong, runsOf}
 use Rattle.plan_work.specs.RunsExact.{run-length, run-sound}
 use Rattle.outcome.specs.Outcomes.{firstMode, Summaries, askRow, askLog, eachRun, runsBytes, runsOutcome}

@@ -24,7 +24,8 @@ use Rattle.summary.specs.Accepted.{decoded}
 use Rattle.join_plan.specs.Plan.{Line, planOfRow}
 use Rattle.join_plan.specs.Gate.{gate-bound}
 use Rattle.plan_work.specs.Runs.{slopesOf}
-use Rattle.plan_work.specs.Gate.{rowFault, ValidRow}
+use Rattle.plan_work.specs.Gate.{rowFault}
+use Rattle.plan_work.specs.Fair.{ValidRow}
 use Rattle.plan_work.specs.GateExact.{mergeAll, finish-row, fair-row}
 use Rattle.outcome.specs.Outcomes.{twoTo64, allSummaries, allOf, firstMode, Summaries, askRow, askLog, lineBytes, linesBytes, planBytes}
 use Rattle.outcome.specs.Laws.{AllIn}

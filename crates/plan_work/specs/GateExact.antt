@@ -18,7 +18,8 @@ use Rattle.algebra.specs.Sizes.{Sizes}
 use Rattle.hill.specs.RowLaws.{inOrder}
 use Rattle.join_plan.specs.Gate.{summaryFault}
 use Rattle.plan_work.specs.Runs.{slopesOf}
-use Rattle.plan_work.specs.Gate.{ValidRow, partsOf, spoiltFault, joinFault, totalOpened, lastEnd, rowFault, FairPart, FairRow}
+use Rattle.plan_work.specs.Gate.{partsOf, spoiltFault, joinFault, totalOpened, lastEnd, rowFault}
+use Rattle.plan_work.specs.Fair.{ValidRow, FairPart, FairRow}
 
 -- A part's own count tells nothing new.
 counted : (v : Verdict) (n : ℕ) → n ≤ 100000 → low v (count n) ≡ v

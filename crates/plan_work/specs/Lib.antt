@@ -6,7 +6,8 @@ pub mod RunsByRecords
 -- Rows computed, and the definitions' clauses.
 pub mod Examples
 pub mod WorkLaws
--- The gate finds the fault that finishing the merged row answers.
+-- What is asked of the summaries of a row; of such a row the gate finds the fault that finishing the merged row answers.
+pub mod Fair
 pub mod GateExact
 -- The merge of a row, level by level, and the row and its plan so read.
 pub mod Fold

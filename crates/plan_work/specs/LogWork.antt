@@ -14,7 +14,8 @@ use Rattle.algebra.specs.Sizes.{Sizes}
 use Rattle.hill.specs.Valid.{AllReadable}
 use Rattle.hill.specs.ValidLaws.{valid-summary}
 use Rattle.plan_work.specs.Work.{workOf}
-use Rattle.plan_work.specs.Gate.{rowFault, ValidRow}
+use Rattle.plan_work.specs.Gate.{rowFault}
+use Rattle.plan_work.specs.Fair.{ValidRow}
 use Rattle.plan_work.specs.GateExact.{fair-row}
 use Rattle.plan_work.specs.WorkExact.{work-finish}
 

@@ -37,13 +37,13 @@ module _ {R : Type 0} (𝒜 : Algebra R) where
 
   module _ (row : List (Summary Fig R)) where
     -- The summaries strictly between i and j.
-    abbrev pub between : (i j : ℕ) → List (Summary Fig R)
-    between i j = drop (suc i) (take j row)
+    abbrev pub strictlyBetween : (i j : ℕ) → List (Summary Fig R)
+    strictlyBetween i j = drop (suc i) (take j row)
 
     -- A line's x: "the middle values of the hills between i and j whose peak is highest + 1 with the outcomes of the earlier lines from i to j
     -- whose lowest is highest + 1".
     unfoldable pub given : Line → List (Done Fig) → Fig
-    given e earlier = middlesAt (suc (e .highest)) (between (e .i) (e .j)) ⊗ outcomesAt (e .i) (e .j) (suc (e .highest)) earlier
+    given e earlier = middlesAt (suc (e .highest)) (strictlyBetween (e .i) (e .j)) ⊗ outcomesAt (e .i) (e .j) (suc (e .highest)) earlier
 
     -- The lines in order, each line's x put through its run; the latest stands first.
     unfoldable pub worked : List Line → List (Done Fig) → List (Done Fig)

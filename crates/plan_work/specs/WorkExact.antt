@@ -21,7 +21,8 @@ use Rattle.join_plan.specs.Plan.{levelsOfSummary}
 use Rattle.join_plan.specs.Gate.{summaryFault, fault-parts}
 use Rattle.plan_work.specs.Runs.{slopesOf, summaryAt}
 use Rattle.plan_work.specs.Work.{Done, oneMiddle, lastOutcome, workOf}
-use Rattle.plan_work.specs.Gate.{rowFault, FairHill, FairPart, FairRow}
+use Rattle.plan_work.specs.Gate.{rowFault}
+use Rattle.plan_work.specs.Fair.{FairHill, FairPart, FairRow}
 use Rattle.plan_work.specs.GateExact.{mergeAll, finish-row, row-unspoilt, Chain, Begins, row-begins}
 use Rattle.plan_work.specs.Fold.{down-none}
 use Rattle.plan_work.specs.Merged.{merged, closed, centre, pit, merged-stack, centre-up, centre-down}

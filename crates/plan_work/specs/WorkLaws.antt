@@ -14,7 +14,7 @@ use Rattle.algebra.specs.Run.{through}
 use Rattle.hill.specs.Summary.{Hill, Summary, blank, middle}
 use Rattle.join_plan.specs.Plan.{Line}
 use Rattle.plan_work.specs.Runs.{peakOf, slopesOf, leftAt, openFrom, levelOf, levelsDown, summaryAt, runLevels}
-use Rattle.plan_work.specs.Work.{Done, middlesAt, outcomesAt, between, given, worked}
+use Rattle.plan_work.specs.Work.{Done, middlesAt, outcomesAt, strictlyBetween, given, worked}
 
 and-no : (t : Bool) → t && false ≡ false
 and-no true = refl
@@ -73,7 +73,7 @@ module _ {R : Type 0} (𝒜 : Algebra R) where
   levels-next p g q h lowest n = refl
 
   -- The hills between i and j, one more at a time: none after i, and then the next.
-  pub middles-start : (row : List (Summary Fig R)) (i j l : ℕ) → j ≤ suc i → middlesAt 𝒜 l (between 𝒜 row i j) ≡ ι
+  pub middles-start : (row : List (Summary Fig R)) (i j l : ℕ) → j ≤ suc i → middlesAt 𝒜 l (strictlyBetween 𝒜 row i j) ≡ ι
   unfolding middlesAt
   middles-start row i j l a = rw (drop-of-length-le (take j row) {i = suc i} (rw (length-take j row) (omega arith)))
 
@@ -86,7 +86,7 @@ module _ {R : Type 0} (𝒜 : Algebra R) where
     middles-last l (t ∷ ss) s = ap (λ (y : Fig). cond (eqb (peakOf 𝒜 t) l) (middle (slopesOf 𝒜 t)) ι ⊗ y) (middles-last l ss s) ∙ sym (assoc _ _ _)
 
     pub middles-step : (row : List (Summary Fig R)) (i k l : ℕ) → i < k → k < length row →
-        middlesAt 𝒜 l (between 𝒜 row i (suc k)) ≡ middlesAt 𝒜 l (between 𝒜 row i k) ⊗ cond (eqb (peakOf 𝒜 (summaryAt 𝒜 row k)) l) (middle (slopesOf 𝒜 (summaryAt 𝒜 row k))) ι
+        middlesAt 𝒜 l (strictlyBetween 𝒜 row i (suc k)) ≡ middlesAt 𝒜 l (strictlyBetween 𝒜 row i k) ⊗ cond (eqb (peakOf 𝒜 (summaryAt 𝒜 row k)) l) (middle (slopesOf 𝒜 (summaryAt 𝒜 row k))) ι
     middles-step row i k l a b =
         rw (take-suc row k blank b, drop-append-le (suc i) (take k row) (summaryAt 𝒜 row k ∷ []) (rw (length-take-le k row (omega arith)) a))
         (middles-last l (drop (suc i) (take k row)) (summaryAt 𝒜 row k))

@@ -21,9 +21,10 @@ use Rattle.hill.specs.Building.{empty}
 use Rattle.hill.specs.ValidLaws.{weight-merge, fine-merge}
 use Rattle.join_plan.specs.Plan.{Line, planOfRow}
 use Rattle.plan_work.specs.Runs.{peakOf, slopesOf, leftAt, openFrom, levelOf, levelsDown, summaryAt, runLevels}
-use Rattle.plan_work.specs.Work.{Done, middlesAt, outcomesAt, between, given, worked, oneMiddle}
+use Rattle.plan_work.specs.Work.{Done, middlesAt, outcomesAt, strictlyBetween, given, worked, oneMiddle}
 use Rattle.plan_work.specs.WorkLaws.{gives, outs-nil, outs-cons, work, worked-nil, worked-cons, worked-append, levels-none, levels-next}
-use Rattle.plan_work.specs.Gate.{partsOf, spoiltFault, joinFault, totalOpened, lastEnd, partsFault, rowFault, ValidRow}
+use Rattle.plan_work.specs.Gate.{partsOf, spoiltFault, joinFault, totalOpened, lastEnd, partsFault, rowFault}
+use Rattle.plan_work.specs.Fair.{ValidRow}
 use Rattle.plan_work.specs.GateExact.{Begins, row-begins}
 use Rattle.plan_work.specs.Fold.{fold, fold-zero}
 use Rattle.plan_work.specs.Stack.{closing, through-levels}
@@ -227,9 +228,9 @@ module _ {R : Type 0} (𝒜 : Algebra R) {Fine : R → Type 0} (𝒮 : Sizes �
     pub middle-if-light : (t : Bool) (k : ℕ) → size (cond t (middle (slopesOf 𝒜 (summaryAt 𝒜 row k))) ι) ≤ load row
     middle-if-light t k = omega (arith, cond-size t (middle (slopesOf 𝒜 (summaryAt 𝒜 row k))), middle-light k)
 
-    pub middles-light : (i j l : ℕ) → size (middlesAt 𝒜 l (between 𝒜 row i j)) ≤ load row
+    pub middles-light : (i j l : ℕ) → size (middlesAt 𝒜 l (strictlyBetween 𝒜 row i j)) ≤ load row
     middles-light i j l =
-        omega (arith, middles-weight l (between 𝒜 row i j), weights-drop (suc i) (take j row), weights-take j row, weights-load row v)
+        omega (arith, middles-weight l (strictlyBetween 𝒜 row i j), weights-drop (suc i) (take j row), weights-take j row, weights-load row v)
 
     -- For a row without a line.
     pub one-middle-light : size (oneMiddle 𝒜 row) ≤ load row
@@ -252,7 +253,7 @@ module _ {R : Type 0} (𝒜 : Algebra R) {Fine : R → Type 0} (𝒮 : Sizes �
     given-light e ds a n =
         omega (
           arith,
-          size-⊗ (middlesAt 𝒜 (suc (e .highest)) (between 𝒜 row (e .i) (e .j))) (outcomesAt 𝒜 (e .i) (e .j) (suc (e .highest)) ds),
+          size-⊗ (middlesAt 𝒜 (suc (e .highest)) (strictlyBetween 𝒜 row (e .i) (e .j))) (outcomesAt 𝒜 (e .i) (e .j) (suc (e .highest)) ds),
           middles-light (e .i) (e .j) (suc (e .highest)),
           outs-many (load row) (e .i) (e .j) (suc (e .highest)) ds a n,
         )

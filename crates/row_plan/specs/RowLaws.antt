@@ -18,7 +18,8 @@ use Rattle.judge.specs.Judged.{headAt}
 use Rattle.judge.specs.Laws.{head-blank, head-spoilt, head-hill}
 use Rattle.join_plan.specs.Plan.{Levels, blank as noLevels, hill as levels, levelsOfSummary, planOfRow}
 use Rattle.join_plan.specs.Scan.{lineOf, passed, walk, linesTo, plan}
-use Rattle.plan_work.specs.Gate.{rowFault, ValidRow}
+use Rattle.plan_work.specs.Gate.{rowFault}
+use Rattle.plan_work.specs.Fair.{ValidRow}
 use Rattle.plan_work.specs.RowLevels.{plan-row}
 use Rattle.outcome.specs.Laws.{AllIn}
 use Rattle.outcome.specs.Through.{few-lines}

@@ -9,10 +9,11 @@ use Rattle.gate.specs.Outcome.{refused, result}
 use Rattle.number.specs.Bytes.{leAt, bytesOf}
 use Rattle.record.specs.Record.{within, inRange, accepted, whole, byShape, readOf, recordsIn, recordsOf}
 use Rattle.record.specs.Examples.{logD}
+use Rattle.figure.specs.FourModes.{isStamp}
 use Rattle.figure.specs.Mode.{modeOf, modeInUse}
 use Rattle.hill.specs.Verdict.{between, count, cut, ends}
 use Rattle.summary.specs.Layout.{encode}
-use Rattle.summary.specs.Judge.{leftAt, sumTo, nothingIn, counted, isStamp}
+use Rattle.summary.specs.Judge.{leftAt, sumTo, nothingIn, counted}
 use Rattle.summary.specs.Decode.{decode}
 use Rattle.summary.specs.Decide.{allTo, layoutFits, spoiltFits, levelsFit, openedFits, middleFits, recordsFit, valuesFit, hillFits, isSummary}
 use Rattle.summary.specs.Outcomes.{summaryBytes, mergeBytes, summariseOutcome, mergeOutcome, finishOutcome}

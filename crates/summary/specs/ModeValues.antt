@@ -8,13 +8,13 @@ use native.Mathlib.Omega.{arith}
 use lib.Dec.{leb, lit<}
 use lib.IntN.{ℤ, pos, negsuc, natAbs, pos-ne-negsuc}
 use borrow.Author.Tests.{leb-true, le-leb}
-use Rattle.number.specs.IntegerLaws.{up}
-use Rattle.figure.specs.FourModes.{limit, nothing, readHeld, storeHeld}
+use Rattle.number.specs.Integer.{up}
+use Rattle.figure.specs.FourModes.{limit, nothing, readHeld, storeHeld, isStamp}
 use Rattle.figure.specs.Bound.{sizeHeld}
 use Rattle.figure.specs.StoreLaws.{read-figure, held-stored}
 use Rattle.figure.specs.Mode.{Mode, modeOf, modeInUse}
 use Rattle.figure.specs.Stored.{IsStored, sizeOf, none}
-use Rattle.summary.specs.Judge.{same, nothingIn, counted, isStamp}
+use Rattle.summary.specs.Judge.{same, nothingIn, counted}
 use Rattle.summary.specs.Tests.{Tells, tells-same, false-true, and-right}
 
 -- Mode M has number m.

@@ -19,7 +19,7 @@ use Rattle.figure.specs.Stored.{sizeOf, none, combined, Combines}
 use Rattle.summary.specs.Layout.{SummaryIn}
 use Rattle.summary.specs.Judge.{riseAt, middleAt}
 use Rattle.summary.specs.Decode.{decode}
-use Rattle.plan_work.specs.Work.{middlesAt, outcomesAt, between, given}
+use Rattle.plan_work.specs.Work.{middlesAt, outcomesAt, strictlyBetween, given}
 use Rattle.plan_work.specs.WorkLaws.{outs-nil, outs-cons, middles-start, middles-step}
 use Rattle.plan_work.specs.WorkSizes.{AllLight, outs-many, middles-light}
 use Rattle.run_level.specs.declared.Place.{Place}
@@ -83,7 +83,7 @@ module _ (row : List ℕ) (m : ℕ) (p : Place) (level : ℕ) (acc : ℤ) (v : A
 pub record Between (row : List ℕ) (m i j level : ℕ) (acc : ℤ) (k : ℕ) : Type 0 where
   pub after : i < k
   pub near : k ≤ j
-  pub stores : Stores (modeOf m) acc (middlesAt (modeOf m .algebra) level (between (modeOf m .algebra) (rowIn m row) i k))
+  pub stores : Stores (modeOf m) acc (middlesAt (modeOf m .algebra) level (strictlyBetween (modeOf m .algebra) (rowIn m row) i k))
 
 module _ {row : List ℕ} {count m : ℕ} {ats starts peaks : List ℕ} {i j level : ℕ} (v : Middles row count m ats starts peaks i j level) where
   abbrev N : Mode
@@ -120,15 +120,15 @@ module _ {row : List ℕ} {count m : ℕ} {ats starts peaks : List ℕ} {i j lev
 
     pub between-next : (p : Place) (z r s : ℤ) → p ≡ placeIn ats starts peaks k → z ≡ acc → s ≡ r → Stores N r (withMiddle row m p level z) → Between row m i j level s (k + 1)
     between-next p z r s ep ez es t =
-        let f = middlesAt (N .algebra) level (between (N .algebra) R i k) in
-        let e : withMiddle row m p level z ≡ middlesAt (N .algebra) level (between (N .algebra) R i (k + 1)) =
+        let f = middlesAt (N .algebra) level (strictlyBetween (N .algebra) R i k) in
+        let e : withMiddle row m p level z ≡ middlesAt (N .algebra) level (strictlyBetween (N .algebra) R i (k + 1)) =
         (λ i′. withMiddle row m (ep i′) level (ez i′)) ∙ ap₂ (N .algebra ._⊗_) (w .stores .reads) (sym (middle-noted (v .ready) k here level (v .level-high))) ∙
         sym (middles-step (N .algebra) (N .laws) R i k level (w .after) (omega (arith, length-map (rowPieces row) (decode m), v .ready .let-through .through .long))) ∙
-        ap (λ (n : ℕ). middlesAt (N .algebra) level (between (N .algebra) R i n)) (sym (add-one k)) in
+        ap (λ (n : ℕ). middlesAt (N .algebra) level (strictlyBetween (N .algebra) R i n)) (sym (add-one k)) in
         record { after = omega (arith, w .after); near = omega arith; stores = stores-same N r s _ es (subst (Stores N r) e t) }
 
-  pub between-end : (acc : ℤ) (k : ℕ) → Between row m i j level acc k → j ≤ k → Stores N acc (middlesAt (N .algebra) level (between (N .algebra) R i j))
-  between-end acc k w h = let e : k ≡ j = omega (arith, w .near) in subst (λ (n : ℕ). Stores N acc (middlesAt (N .algebra) level (between (N .algebra) R i n))) e (w .stores)
+  pub between-end : (acc : ℤ) (k : ℕ) → Between row m i j level acc k → j ≤ k → Stores N acc (middlesAt (N .algebra) level (strictlyBetween (N .algebra) R i j))
+  between-end acc k w h = let e : k ≡ j = omega (arith, w .near) in subst (λ (n : ℕ). Stores N acc (middlesAt (N .algebra) level (strictlyBetween (N .algebra) R i n))) e (w .stores)
 
 -- ---- an outcome that joins, or not
 
@@ -212,7 +212,7 @@ module _ {row : List ℕ} {count m : ℕ} {ats starts peaks : List ℕ} {outs : 
   Q = modeOf m
 
   abbrev middlesOf : Q .algebra .Fig
-  middlesOf = middlesAt (Q .algebra) (e .high + 1) (between (Q .algebra) (rowIn m row) (e .i) (e .j))
+  middlesOf = middlesAt (Q .algebra) (e .high + 1) (strictlyBetween (Q .algebra) (rowIn m row) (e .i) (e .j))
 
   pub gives-middles : Middles row count m ats starts peaks (e .i) (e .j) (e .high + 1)
   gives-middles = record { ready = v .ready; order = v .order; within = v .within; level-high = omega (arith, v .level-high) }
@@ -233,5 +233,5 @@ module _ {row : List ℕ} {count m : ℕ} {ats starts peaks : List ℕ} {outs : 
     pub gives-stores : (r q : ℤ) → q ≡ r → r ≡ combined Q x y → Given row m is js lows outs n e q
     unfolding given
     gives-stores r q eq er highs =
-        subst (λ (l : ℕ). Stores Q q (Q .algebra ._⊗_ (middlesAt (Q .algebra) l (between (Q .algebra) (rowIn m row) (e .i) (e .j))) (outcomesAt (Q .algebra) (e .i) (e .j) l (doneIn Q is js lows highs outs n)))) (add-one (e .high))
+        subst (λ (l : ℕ). Stores Q q (Q .algebra ._⊗_ (middlesAt (Q .algebra) l (strictlyBetween (Q .algebra) (rowIn m row) (e .i) (e .j))) (outcomesAt (Q .algebra) (e .i) (e .j) l (doneIn Q is js lows highs outs n)))) (add-one (e .high))
         (stores-same Q r q _ eq (stores-combined Q x y _ _ (stores-same Q a x _ ex s) (stores-same Q b y _ ey (t highs)) (both-room highs) r er))

@@ -18,7 +18,7 @@ use Rattle.summary.specs.Judge.{kindAt, peakAt, middleAt, IsHill, IsSummary, is
 use Rattle.summary.specs.Decode.{decode}
 use Rattle.summary.specs.Values.{reading-blank, reading-spoilt, reading-hill}
 use Rattle.judge.specs.Laws.{head-blank, head-spoilt}
-use Rattle.plan_work.specs.Gate.{ValidRow}
+use Rattle.plan_work.specs.Fair.{ValidRow}
 use Rattle.plan_work.specs.Runs.{peakOf, slopesOf, summaryAt}
 use Rattle.plan_work.specs.WorkSizes.{load, load-fits, middle-light}
 use Rattle.row_plan.specs.Notes.{noPeak, noteOf}

@@ -2,7 +2,7 @@
 ghost use mathlib.Core.Path.{_≡_};
 ghost use Rattle.figure.specs.Mode.{modeOf};
 ghost use Rattle.summary.specs.Judge.{middleAt};
-ghost use Rattle.plan_work.specs.Work.{middlesAt, between};
+ghost use Rattle.plan_work.specs.Work.{middlesAt, strictlyBetween};
 ghost use Rattle.run_level.specs.Levels.{pieceOf};
 ghost use Rattle.work.specs.Stores.{Stores};
 ghost use Rattle.run_level.specs.Along.{rowIn};
@@ -50,7 +50,7 @@ fn middles(
     level: u8,
 ) -> i64
     requires { ⌜ Middles (now row) count mode (now ats) (now starts) (now peaks) i j level ⌝ }
-    ensures { λ r. ⌜ Stores (modeOf mode) r (middlesAt (modeOf mode .algebra) level (between (modeOf mode .algebra) (rowIn mode (now (row .entry))) i j)) ⌝ }
+    ensures { λ r. ⌜ Stores (modeOf mode) r (middlesAt (modeOf mode .algebra) level (strictlyBetween (modeOf mode .algebra) (rowIn mode (now (row .entry))) i j)) ⌝ }
 {
     let end = j as usize;
     let mut acc = figure::nothing(mode);

@@ -6,7 +6,7 @@ use mir.Facts.{toZ-ofZ}
 use Prim.Native.Nat.{ℕ, _+_, _%_, _^_}
 use native.Mathlib.Nat.{add-mod}
 use lib.IntN.{pos}
-use Rattle.number.specs.IntegerLaws.{up}
+use Rattle.number.specs.Integer.{up}
 use Rattle.number.specs.Word.{back}
 use Rattle.figure.specs.Mode.{modeOf}
 use Rattle.figure.specs.Stored.{combined}

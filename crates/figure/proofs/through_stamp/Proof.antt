@@ -5,8 +5,7 @@ use mathlib.Core.Path.{_∙_, ap, ap₂}
 use mir.Facts.{toZ-ofZ}
 use Prim.Native.Nat.{ℕ, _*_}
 use lib.IntN.{ℤ, pos, _+ℤ_}
-use Rattle.number.specs.Integer.{wrap}
-use Rattle.number.specs.IntegerLaws.{up}
+use Rattle.number.specs.Integer.{wrap, up}
 use Rattle.number.specs.Word.{back}
 use Rattle.figure.specs.Mode.{modeOf}
 use Rattle.figure.specs.Stored.{passed}

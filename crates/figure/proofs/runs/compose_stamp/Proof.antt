@@ -5,7 +5,7 @@ use Prim.Native.Nat.{ℕ, _+_, _*_, _%_, _^_}
 use native.Mathlib.Nat.{mod-add-mod}
 use lib.IntN.{pos}
 use mir.Syntax.{w64}
-use Rattle.number.specs.IntegerLaws.{up}
+use Rattle.number.specs.Integer.{up}
 use Rattle.number.specs.Word.{back}
 use Rattle.figure.specs.Mode.{modeOf}
 use Rattle.figure.specs.Stored.{runAfter}
