@@ -12,14 +12,14 @@ use Rattle.row.specs.Row.{firstLength, piecesIn, rowPieces, endToEnd}
 use Rattle.record.specs.Record.{within, inRange, accepted, whole, byShape, readOf, recordsIn, recordsOf}
 use Rattle.record.specs.Encoding.{openBytes, closeBytes}
 use Rattle.record.specs.Examples.{logD}
-use Rattle.figure.specs.FourModes.{lift, lineOf, storeHeld, readHeld}
+use Rattle.figure.specs.FourModes.{lift, lineOf, storeHeld, readHeld, isStamp}
 use Rattle.figure.specs.Run.{atLeast}
 use Rattle.figure.specs.Runs.{moved}
 use Rattle.figure.specs.Mode.{modeOf, modeInUse}
 use Rattle.hill.specs.Verdict.{between, count, cut, ends}
 use Rattle.hill.specs.Row.{onResult}
 use Rattle.summary.specs.Layout.{encode}
-use Rattle.summary.specs.Judge.{riseAt, leftAt, sumTo, nothingIn, counted, isStamp}
+use Rattle.summary.specs.Judge.{riseAt, leftAt, sumTo, nothingIn, counted}
 use Rattle.summary.specs.Decode.{decode}
 use Rattle.summary.specs.Decide.{allTo, layoutFits, spoiltFits, levelsFit, openedFits, middleFits, recordsFit, valuesFit, hillFits, isSummary}
 use Rattle.summary.specs.Outcomes.{summaryBytes, summariseOutcome, finishOutcome}

@@ -9,10 +9,10 @@ use lib.Dec.{leb, ltb}
 use lib.IntN.{ℤ, pos, natAbs}
 use borrow.Author.Tests.{leb-true, leb-false, lt-ltb, le-ltb, eq-eqb, ne-eqb}
 use Rattle.number.specs.Bytes.{i64At}
-use Rattle.figure.specs.FourModes.{limit, nothing, storeHeld, isStamp as isStampFigure}
+use Rattle.figure.specs.FourModes.{limit, nothing, storeHeld, isStamp}
 use Rattle.figure.specs.Mode.{modeInUse, modeOf}
 use Rattle.figure.specs.Stored.{sizeOf, none}
-use Rattle.summary.specs.Judge.{modeAt, riseAt, fallAt, openedAt, leftAt, middleAt, heldAt, sumTo, same, nothingIn, counted, isStamp}
+use Rattle.summary.specs.Judge.{modeAt, riseAt, fallAt, openedAt, leftAt, middleAt, heldAt, sumTo, same, nothingIn, counted}
 use Rattle.summary.specs.Decide.{allTo, valuesFit}
 use Rattle.summary.specs.ModeValues.{numbered}
 use Rattle.judge.specs.Laid.{stampsFit, sizesFit, valueIn}
@@ -43,7 +43,7 @@ size-is (suc (suc (suc (suc zero)))) n z = absurd (n refl)
 size-is (suc (suc (suc (suc (suc m))))) n z = sym (ap (λ (t : Bool). cond (t && same z nothing) 0 (natAbs z)) (ne-eqb (suc (suc (suc (suc (suc m))))) 2 (λ e. omega arith)))
 
 stamp-is : (z : ℤ) → modeOf 4 .isFigure z ≡ isStamp z
-unfolding modeOf isStamp isStampFigure
+unfolding modeOf
 stamp-is z = refl
 
 -- a sum up to one more than n tells whether the whole is at most n

@@ -7,10 +7,10 @@ use lib.ListN.{length}
 use lib.IntN.{ℤ}
 use Rattle.number.specs.Bytes.{i32At, i64At}
 use Rattle.record.specs.Record.{inRange}
-use Rattle.figure.specs.FourModes.{limit}
+use Rattle.figure.specs.FourModes.{limit, isStamp}
 use Rattle.figure.specs.Mode.{modeOf}
 use Rattle.figure.specs.Stored.{sizeOf}
-use Rattle.summary.specs.Judge.{startAt, peakAt, endAt, openedAt, riseAt, fallAt, leftAt, middleAt, heldAt, sumTo, isStamp}
+use Rattle.summary.specs.Judge.{startAt, peakAt, endAt, openedAt, riseAt, fallAt, leftAt, middleAt, heldAt, sumTo}
 use Rattle.summary.specs.Decide.{allTo, layoutFits, spoiltFits, hillFits}
 
 abbrev pub hillLength : List ℕ → ℕ

@@ -9,7 +9,7 @@ use Rattle.number.specs.Bytes.{leAt, bytesOf}
 use Rattle.number.specs.Integer.{maxZ}
 use Rattle.row.specs.Row.{firstLength, piecesIn, rowPieces}
 use Rattle.record.specs.Record.{within, inRange}
-use Rattle.figure.specs.FourModes.{Amounts, lift, lineOf, storeHeld, readHeld}
+use Rattle.figure.specs.FourModes.{Amounts, lift, lineOf, storeHeld, readHeld, isStamp}
 use Rattle.figure.specs.declared.Held.the-variants.{Nothing}
 use Rattle.figure.specs.Run.{atLeast}
 use Rattle.figure.specs.Runs.{moved}
@@ -17,7 +17,7 @@ use Rattle.figure.specs.Mode.{modeOf, modeInUse}
 use Rattle.hill.specs.Verdict.{between, count, ends}
 use Rattle.hill.specs.Summary.{Summary, hill, blank, part, spoilt, whole}
 use Rattle.summary.specs.Layout.{layout, encode}
-use Rattle.summary.specs.Judge.{sumTo, nothingIn, counted, isStamp}
+use Rattle.summary.specs.Judge.{sumTo, nothingIn, counted}
 use Rattle.summary.specs.Decode.{decode}
 use Rattle.summary.specs.Decide.{allTo, layoutFits, spoiltFits, levelsFit, openedFits, middleFits, recordsFit, valuesFit, hillFits, isSummary}
 use Rattle.join_plan.specs.Plan.{leftOpen, upTo, downFrom, select, depthsJoined, lineFor, planOf, folded}

@@ -80,7 +80,7 @@ log-found s t e = go (rowFault (s .row)) e
     go (refuse n) e = let z : _≡_ {A = ℕ} 0 1 = cc in absurd (omega arith)
 
 module _ (m : ℕ) where
-  valid-row : (ps : List (List ℕ)) → AllIn m ps → ValidRow (modeOf m .algebra) (modeOf m .sizes) (map (decode m) ps)
+  pub valid-row : (ps : List (List ℕ)) → AllIn m ps → ValidRow (modeOf m .algebra) (modeOf m .sizes) (map (decode m) ps)
   valid-row [] a = tt
   valid-row (p ∷ ps) a = (decoded m p (a .0), valid-row ps (a .1))
 

@@ -5,9 +5,9 @@ use Prim.Native.Nat.{ℕ, zero, suc, _+_, _*_}
 use lib.Dec.{leb, eqb}
 use lib.ListN.{length}
 use Rattle.record.specs.Record.{inRange}
-use Rattle.figure.specs.FourModes.{limit}
+use Rattle.figure.specs.FourModes.{limit, isStamp}
 use Rattle.figure.specs.Mode.{modeInUse}
-use Rattle.summary.specs.Judge.{lengthAt, kindAt, modeAt, faultAt, spoiltStartAt, startAt, peakAt, endAt, openedAt, riseAt, fallAt, leftAt, middleAt, valueAt, floorAt, ceilingAt, heldAt, same, nothingIn, absoluteValues, isStamp}
+use Rattle.summary.specs.Judge.{lengthAt, kindAt, modeAt, faultAt, spoiltStartAt, startAt, peakAt, endAt, openedAt, riseAt, fallAt, leftAt, middleAt, valueAt, floorAt, ceilingAt, heldAt, same, nothingIn, absoluteValues}
 
 -- f 0 to f (n - 1) all pass
 unfoldable pub allTo : ℕ → (ℕ → Bool) → Bool

@@ -8,9 +8,9 @@ use native.Mathlib.Omega.{arith}
 use lib.Dec.{leb, eqb}
 use lib.ListN.{length}
 use Rattle.record.specs.Record.{inRange}
-use Rattle.figure.specs.FourModes.{limit}
+use Rattle.figure.specs.FourModes.{limit, isStamp}
 use Rattle.figure.specs.Mode.{modeInUse}
-use Rattle.summary.specs.Judge.{lengthAt, kindAt, modeAt, faultAt, spoiltStartAt, startAt, peakAt, endAt, openedAt, riseAt, fallAt, leftAt, middleAt, valueAt, floorAt, ceilingAt, heldAt, nothingIn, absoluteValues, isStamp, AllStamps, HasLayout, IsSpoilt, IsHill, IsSummary, isBlank, isSpoilt, isHill}
+use Rattle.summary.specs.Judge.{lengthAt, kindAt, modeAt, faultAt, spoiltStartAt, startAt, peakAt, endAt, openedAt, riseAt, fallAt, leftAt, middleAt, valueAt, floorAt, ceilingAt, heldAt, nothingIn, absoluteValues, AllStamps, HasLayout, IsSpoilt, IsHill, IsSummary, isBlank, isSpoilt, isHill}
 use Rattle.summary.specs.Decide.{allTo, layoutFits, spoiltFits, levelsFit, openedFits, middleFits, recordsFit, valuesFit, hillFits, isSummary}
 use Rattle.summary.specs.Tests.{Tells, tells-le, tells-eq, tells-true, tells-and, tells-or, tells-where, tells-unless, tells-not, tells-same, tells-all, tells-also, false-true}
 

@@ -11,7 +11,7 @@ use lib.IntN.{ℤ, pos, natAbs}
 use lib.Signed.{leZ}
 use Rattle.number.specs.Bytes.{leAt, i32At, i64At}
 use Rattle.record.specs.Record.{inRange}
-use Rattle.figure.specs.FourModes.{limit, nothing}
+use Rattle.figure.specs.FourModes.{limit, nothing, isStamp}
 use Rattle.figure.specs.Mode.{modeInUse}
 
 -- "Each begins with length, kind and mode, 16 bits each."
@@ -99,10 +99,7 @@ abbrev pub absoluteValues : List ℕ → ℕ
 absoluteValues b =
     sumTo (riseAt b) (λ i. counted (modeAt b) (leftAt b i)) + counted (modeAt b) (middleAt b) + sumTo (fallAt b) (λ j. counted (modeAt b) (heldAt b j))
 
--- "In mode 4, 64-bit values are 0 to 2^32 - 1."
-unfoldable pub isStamp : ℤ → Bool
-isStamp z = leZ (pos 0) z && leZ z (pos 4294967295)
-
+-- "In mode 4, 64-bit values are 0 to 2^32 - 1" (`isStamp`).
 pub record AllStamps (b : List ℕ) : Type 0 where
   pub lefts : (i : ℕ) → i < riseAt b → isStamp (leftAt b i) ≡ true
   pub middle : isStamp (middleAt b) ≡ true

@@ -28,7 +28,8 @@ use Rattle.outcome.specs.Outcomes.{Summaries, askLog}
 use Rattle.outcome.specs.Laws.{ask-all}
 use Rattle.row_plan.specs.Notes.{noteOf}
 use Rattle.row_plan.specs.Asks.{summariesIn}
-use Rattle.row_plan.specs.RowLaws.{valid-row, each-in, decoded-at}
+use Rattle.outcome.specs.Through.{valid-row}
+use Rattle.row_plan.specs.RowLaws.{each-in, decoded-at}
 use Rattle.run_level.specs.Levels.{pieceOf, placeIn}
 use Rattle.run_level.specs.Lines.{placed}
 use Rattle.run_level.specs.StandsFor.{all-stored, mode-at}
