@@ -91,6 +91,8 @@ WHOLE = hill(1, 0, 0, 0, 3, [], 12)
 INSIDE = hill(1, 1, 1, 1, 1, [], 1)
 OPEN = hill(1, 0, 0, 1, 1, [], 0, [(10, 0, 100, 0)])
 SHUT = hill(1, 1, 0, 0, 0, [0], 0)
+# 10 g that holds 1 g, the inner closed by the second of three chunks and the outer by the third.
+NESTED = hill(1, 0, 0, 2, 2, [], 0, [(10, 0, 100, 0), (1, 0, 100, 0)]) + hill(1, 2, 1, 1, 0, [0], 0) + SHUT
 NEGATIVE = opening(0, -3) + close(0)
 TEN_OVER = short(0, 10) + short(1, 1) + close(1) + short(1, 5) + close(1) + close(0)
 NINE = short(0, 0) + short(1, 9) + close(1) + short(1, 1) + close(1) + close(0)
@@ -122,9 +124,10 @@ INPUTS = {
     "judge/ground_passed": call("summarise::finish", hill(1, 2, 0, 1, 1, [0, 0], 0, [(0, 0, 0, 0)])),
     "judge/hill_100001": call("summarise::finish", hill(1, 0, 0, 0, 100_001, [], 0)),
     "judge/one_gram_more": call("summarise::finish", hill(1, 0, 0, 0, 1, [], GRAMS + 1)),
-    "merge/hands_back_left": merge(blank(1), HEAD),
+    "merge/hands_back_left": merge(HEAD, TAIL),
     "merge/join_fault_ignored": merge(OPEN, OPEN),
-    "merge/left_alone_written": merge(HEAD, TAIL),
+    "merge/counts_before_piece": merge(HEAD, TAIL),
+    "merge/left_half_twice": call("merge::merge_row", HEAD + TAIL),
     "merge/opened_not_cut": merge(spoilt(1, 9, 0, 1, 100_001), INSIDE),
     "merge/peak_counted_twice": merge(HEAD, TAIL, 24),
     "merge/pieces_cut_alike": call("merge::merge_row", blank(1) + HEAD),
@@ -140,6 +143,9 @@ INPUTS = {
     "record/kind_for_length": call("record::read_first", D),
     "row_plan/meets_is_7": call("plan::plan", OPEN + OPEN),
     "row_plan/no_shared_record": call("plan::plan", OPEN + INSIDE + SHUT),
+    "run_level/floor_is_ceiling": runs(3),
+    "run_level/piece_begins_at_its_number": runs(1),
+    "run_level/start_for_peak": call("runs::runs", HEAD + hill(1, 2, 1, 2, 1, [0], 0, [(7, 0, 100, 0)]) + TAIL),
     "runs/fit_of_lines": runs(1),
     "runs/floor_as_ceiling": runs(3),
     "runs/hills_swapped": runs(1),
@@ -177,6 +183,19 @@ INPUTS = {
     "tulghimo/status_always_12": call("tulghimo::tulghimo_merge_row", 65 * blank(1)),
     "tulghimo/summarise_always_net": call("tulghimo::tulghimo_summarise", D, 4),
     "tulghimo/summarise_mode_cut": call("tulghimo::tulghimo_summarise", D, 65_537),
+    "tulghimo/work_always_4": call("tulghimo::tulghimo_work", OPEN + OPEN),
+    "tulghimo/work_levels_for_joins": call("tulghimo::tulghimo_work", HEAD + TAIL),
+    "tulghimo/work_no_figure": call("tulghimo::tulghimo_work", HEAD + TAIL),
+    "work/first_outcome": call("work::work", NESTED),
+    "work/highest_level_only": call("work::work", HEAD + TAIL),
+    "work/joins_invented": call("work::work", HEAD + TAIL),
+    "work/left_value_dropped": call("work::work", HEAD + TAIL),
+    "work/levels_invented": call("work::work", HEAD + TAIL),
+    "work/middles_at_highest": call("work::work", OPEN + INSIDE + SHUT),
+    "work/no_earlier_outcomes": call("work::work", NESTED),
+    "work/no_middles": call("work::work", OPEN + INSIDE + SHUT),
+    "work/outcomes_at_highest": call("work::work", NESTED),
+    "work/refusal_invented": call("work::work", OPEN + OPEN),
 }
 
 # ---- the program that is run: how each call is made, and in which crate it stands
@@ -196,6 +215,10 @@ ARMS = {
     "merge::merge_row": WRITTEN.format("merge::merge_row(&input, &mut out)"),
     "plan::plan": WRITTEN.format("plan::plan(&input, &mut out)"),
     "runs::runs": WRITTEN.format("runs::runs(&input, &mut out)"),
+    "work::work": """match work::work(&input) {
+            work::Worked::Done(t) => format!("{} {} {}", t.figure, t.joins, t.levels),
+            work::Worked::Refused(n) => format!("refused {n}"),
+        }""",
     "day::figures": """match day::figures(&input) {
             day::Day::Figures(f) => format!("{} {} {} {}", f.net, f.heaviest, f.eaten, f.stamp),
             day::Day::Refused(n) => format!("refused {n}"),
@@ -345,6 +368,10 @@ def main(chosen):
                 failed += 1
                 continue
             old, new = words["old"], words["new"]
+            if (CRATES / name.split("/")[0] / words["file"]).read_text().count(old) != 1:
+                print(f"{name}: its old text does not stand once in {words['file']}")
+                failed += 1
+                continue
             edited = build(scratch / str(number), name.split("/")[0], words["file"],
                            lambda text: text.replace(old, new), scratch / "as-it-is")
             right, wrong = ask(program, INPUTS[name]), ask(edited, INPUTS[name])

@@ -1,6 +1,6 @@
 //! The calls, with buffers of their own.
 
-use crate::{raw, Figures, Kind, Line, Mode, Record, Refusal};
+use crate::{raw, Figures, Kind, Line, Mode, Record, Refusal, Run, Work};
 
 /// No summary is longer, in bytes.
 const LONGEST_SUMMARY: usize = 1_788;
@@ -115,6 +115,40 @@ pub fn merge_row(row: &[u8]) -> Result<Vec<u8>, Refusal> {
 pub fn plan(row: &[u8]) -> Result<Vec<Line>, Refusal> {
     let lines = written(MOST_LINES * Line::LENGTH, |out| raw::plan(row, out))?;
     Ok(lines.chunks_exact(Line::LENGTH).map(Line::read).collect())
+}
+
+/// The runs of a row's join plan, one for each line in plan order. Refused: 4 to 11.
+///
+/// ```
+/// use tulghimo::{example, runs, summarise, Mode, Run};
+///
+/// let (one, two) = example::two_stretches();
+/// for (mode, numbers) in Mode::ALL.into_iter().zip([[12, 0, 0], [15, 7, 15], [15, 10, 14], [961, 72, 0]]) {
+///     let row = [summarise(one, mode)?, summarise(two, mode)?].concat();
+///     assert_eq!(runs(&row), Ok(vec![Run { mode, numbers }]));
+/// }
+/// # Ok::<(), tulghimo::Refusal>(())
+/// ```
+pub fn runs(row: &[u8]) -> Result<Vec<Run>, Refusal> {
+    let runs = written(MOST_LINES * Run::LENGTH, |out| raw::runs(row, out))?;
+    runs.chunks_exact(Run::LENGTH).map(Run::read).collect()
+}
+
+/// The work along a row's join plan: the figure of the log, without merging its summaries. Refused: 4 to 11.
+///
+/// ```
+/// use tulghimo::{example, summarise, work, Mode, Work};
+///
+/// let (one, two) = example::two_stretches();
+/// let row = [summarise(one, Mode::Eaten)?, summarise(two, Mode::Eaten)?].concat();
+/// // One line, of the depths 0 and 1.
+/// assert_eq!(work(&row), Ok(Work { figure: 14, joins: 1, levels: 2 }));
+/// # Ok::<(), tulghimo::Refusal>(())
+/// ```
+pub fn work(row: &[u8]) -> Result<Work, Refusal> {
+    let [figure, joins, levels] = numbers(|work| raw::work(row, work))?;
+    // At most 125 joins of at most 64 levels.
+    Ok(Work { figure, joins: joins as u32, levels: levels as u32 })
 }
 
 /// The figure of one summary: that of the log it stands for. In mode 2 bytes that no chunk makes may hold nothing, which is

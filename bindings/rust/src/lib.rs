@@ -16,6 +16,6 @@ pub mod raw;
 mod refusal;
 mod types;
 
-pub use calls::{day, finish, merge, merge_row, plan, read, summarise};
+pub use calls::{day, finish, merge, merge_row, plan, read, runs, summarise, work};
 pub use refusal::Refusal;
-pub use types::{Figures, Kind, Line, Mode, Record};
+pub use types::{Figures, Kind, Line, Mode, Record, Run, Work};

@@ -84,6 +84,40 @@ impl Line {
     }
 }
 
+/// The run of a join: the figure of its lowest-depth record as a function of x, by three numbers. Net: (a, 0, 0), x + a. Heaviest:
+/// (z, A, B), z for nothing, else the greater of A and x + B. Eaten: (a, l, h), x + a held between l and h. Stamp: (m, q, 0),
+/// m·x + q modulo 2^32.
+#[derive(Clone, Copy, Debug, PartialEq, Eq, Hash)]
+#[allow(missing_docs)]
+pub struct Run {
+    pub mode: Mode,
+    /// In heaviest A is -2^63 where nothing else is on the way.
+    pub numbers: [i64; 3],
+}
+
+impl Run {
+    /// In bytes.
+    pub(crate) const LENGTH: usize = 30;
+
+    /// After length and kind come the mode and the three numbers.
+    pub(crate) fn read(bytes: &[u8]) -> Result<Run, Refusal> {
+        let mode = Mode::try_from(u32::from(unsigned(bytes, 4)))?;
+        let number = |place: usize| i64::from_le_bytes(bytes[place..place + 8].try_into().expect("8 bytes"));
+        Ok(Run { mode, numbers: [6, 14, 22].map(number) })
+    }
+}
+
+/// What the work along a plan gives.
+#[derive(Clone, Copy, Debug, PartialEq, Eq, Hash)]
+pub struct Work {
+    /// The figure of the log that the row stands for.
+    pub figure: i64,
+    /// The joins used: the plan's lines.
+    pub joins: u32,
+    /// The levels folded: highest - lowest + 1, over the plan.
+    pub levels: u32,
+}
+
 /// The four figures of a whole log.
 #[derive(Clone, Copy, Debug, PartialEq, Eq, Hash)]
 #[allow(missing_docs)]

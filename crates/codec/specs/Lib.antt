@@ -2,4 +2,5 @@
 pub mod Contracts
 pub mod WriteLaws
 pub mod LoadLaws
+pub mod CloseLaws
 pub mod Calls

@@ -11,7 +11,7 @@ use Rattle.figure.specs.Mode.{Mode, modeOf}
 use Rattle.figure.specs.Stored.{sizeOf}
 use Rattle.hill.specs.Summary.{Hill, hill}
 use Rattle.hill.specs.Valid.{weightUp, weightDown}
-use Rattle.hill.specs.Building.{push, push-nil, join, close, closes, merge}
+use Rattle.hill.specs.Building.{push, push-nil, join, close, merge}
 use Rattle.hill.specs.Slopes.{rise-closes, fall-closes}
 use Rattle.summary.specs.Judge.{modeAt, riseAt, fallAt, leftAt, middleAt, valueAt, floorAt, ceilingAt, heldAt, IsHill}
 use Rattle.summary.specs.Decode.{amountsAt, leftsIn, rightsIn, hillIn}
@@ -22,7 +22,7 @@ use Rattle.slopes.specs.declared.Counts.{Counts}
 use Rattle.slopes.specs.Arrays.{Arrays, arrays, Fig, slopesOf, weightOf, Able, StandsFor}
 use Rattle.slopes.specs.Actions.{Pushed, CanClose, Joins, Added}
 use Rattle.slopes.specs.Laws.{counts, withHeld, able, restate, rise-is, fall-is, rise-slopes, fall-slopes, joins, joined, pushed, after-more}
-use Rattle.codec.specs.Contracts.{Sinks, Puts, Stacked, Loads}
+use Rattle.codec.specs.Contracts.{Sinks, Sunk, Puts, Stacked, Loads}
 
 -- a hill's bytes in mode m
 pub in-mode : (b : List ℕ) {m : ℕ} → IsHill b → modeAt b ≡ m → Numbered (modeAt b) (modeOf m)
@@ -35,7 +35,7 @@ module _ (M : Mode) (b : List ℕ) where
   lefts-more i zero = rw (zero-add i) (omega arith)
   lefts-more i (suc d) = rw (suc-add d i) (omega (arith, lefts-more i d))
 
-  lefts-first : (i k : ℕ) → i ≤ k → weightUp (M .algebra) (M .sizes) (leftsIn (M .read) b i) ≤ weightUp (M .algebra) (M .sizes) (leftsIn (M .read) b k)
+  pub lefts-first : (i k : ℕ) → i ≤ k → weightUp (M .algebra) (M .sizes) (leftsIn (M .read) b i) ≤ weightUp (M .algebra) (M .sizes) (leftsIn (M .read) b k)
   lefts-first i k h =
       let e : k - i + i ≡ k = omega arith in
       subst (λ (n : ℕ). weightUp (M .algebra) (M .sizes) (leftsIn (M .read) b i) ≤ weightUp (M .algebra) (M .sizes) (leftsIn (M .read) b n)) e (lefts-more i (k - i))
@@ -51,18 +51,9 @@ module _ (M : Mode) (b : List ℕ) where
 
 -- ---- the left values
 
--- After i of the left values.
-abbrev pub Sunk : (M : Mode) (b : List ℕ) (i : ℕ) (A₀ : Arrays) (c₀ : Counts) (A : Arrays) (c : Counts) → Type 0
-Sunk M b i A₀ c₀ A c =
-    StandsFor M A c (closes (M .algebra) (slopesOf M A₀ c₀) (leftsIn (M .read) b i))
-    (weightOf M (slopesOf M A₀ c₀) + weightUp (M .algebra) (M .sizes) (leftsIn (M .read) b i))
-
 -- what arrays stand for as they are
 pub stands-still : {M : Mode} {A : Arrays} {c : Counts} → Able M A c → StandsFor M A c (slopesOf M A c) (weightOf M (slopesOf M A c))
 stands-still a = record { sound = a .sound; stored = a .stored; is = refl; fine = a .fine; light = omega arith }
-
-pub none-sunk : {M : Mode} (b : List ℕ) {A : Arrays} {c : Counts} → Able M A c → Sunk M b 0 A c A c
-none-sunk {M} b {A} {c} a = restate (stands-still a) (weightOf M (slopesOf M A c) + 0) refl (omega arith)
 
 module _ {M : Mode} {b : List ℕ} {k i : ℕ} {A₀ A : Arrays} {c₀ c : Counts} (p : Sinks M b k A₀ c₀) (lt : i < k) (s : Sunk M b i A₀ c₀ A c) where
   next-light : weightOf M (slopesOf M A₀ c₀) + weightUp (M .algebra) (M .sizes) (leftsIn (M .read) b i) + sizeOf M (leftAt b i) < 2 ^ 62

@@ -1,17 +1,17 @@
 // A summary between bytes and the arrays of a hill under construction, in any mode. Each caller shows that the bytes are there, and that they fit.
 ghost use mathlib.Core.Path.{_≡_};
-ghost use Prim.Native.Nat.{_+_, _*_, _≤_};
+ghost use Prim.Native.Nat.{_+_, _*_, _≤_, min};
 ghost use lib.ListN.{length};
 ghost use lib.Seq.{sets};
 ghost use Rattle.figure.specs.Mode.{modeOf};
 ghost use Rattle.hill.specs.Summary.{blank, part, spoilt, whole};
-ghost use Rattle.hill.specs.Valid.{weightUp};
-ghost use Rattle.hill.specs.Building.{closes, merge};
+ghost use Rattle.hill.specs.Building.{merge};
 ghost use Rattle.summary.specs.Layout.{encode};
 ghost use Rattle.summary.specs.Judge.{riseAt};
-ghost use Rattle.summary.specs.Decode.{leftsIn, hillIn};
-ghost use Rattle.slopes.specs.Arrays.{arrays, slopesOf, weightOf, StandsFor};
-ghost use Rattle.codec.specs.Contracts.{Wrote, frontBytes, levelBytes, numbersBytes, rowBytes, rowsBytes, Writes, Sinks, Stacked, Loads};
+ghost use Rattle.summary.specs.Decode.{hillIn};
+ghost use Rattle.slopes.specs.Arrays.{Arrays, arrays, slopesOf, weightOf, StandsFor};
+ghost use Rattle.slopes.specs.declared.Counts.{Counts};
+ghost use Rattle.codec.specs.Contracts.{Wrote, frontBytes, levelBytes, numbersBytes, rowBytes, rowsBytes, Writes, Falls, Carried, Sinks, Sunk, SinksOn, Stacked, Loads};
 use slopes::Counts;
 
 // ---- writing
@@ -137,10 +137,45 @@ pub fn write_hill(
 
 // ---- loading
 
-// The first k left values of a hill's bytes, from the start level down: each joins its level, which is then closed.
-fn sink_all(
+fn fewer(a: usize, b: usize) -> usize
+    ensures { λ r. ⌜ r ≡ min a b ⌝ }
+{
+    if a < b { a } else { b }
+}
+
+// The first k left values of a hill's bytes, each closing one of n records, the deepest first: held so far, the right's value and what came from
+// deeper go through the record. The last outcome is answered, for the level below; the arrays stay as they are.
+fn close_down(
     mode: u16,
     b: &[u8],
+    k: usize,
+    values: &[i32; 64],
+    floors: &[i32; 64],
+    ceilings: &[i32; 64],
+    held: &[i64; 64],
+    n: usize,
+) -> i64
+    requires { ⌜ Falls (modeOf mode) (now b) k (now values) (now floors) (now ceilings) (now held) n ⌝ }
+    ensures { λ r. ⌜ Carried (modeOf mode) (now (b .entry)) k (now (values .entry)) (now (floors .entry)) (now (ceilings .entry)) (now (held .entry)) n r ⌝ }
+{
+    let mut deeper = figure::nothing(mode);
+    let mut i: usize = 0;
+    while i < k {
+        let top = n - 1 - i;
+        let x = number::read_i64(b, 16 + 8 * i);
+        let here = figure::combine(mode, held[top], x);
+        let all = figure::combine(mode, here, deeper);
+        deeper = figure::through(mode, values[top], floors[top], ceilings[top], all);
+        i += 1;
+    }
+    deeper
+}
+
+// The left values from number `first` to k: each joins its level, which is then closed.
+fn sink_rest(
+    mode: u16,
+    b: &[u8],
+    first: usize,
     k: usize,
     left: &mut [i64; 64],
     values: &[i32; 64],
@@ -149,17 +184,15 @@ fn sink_all(
     held: &mut [i64; 64],
     start: Counts,
 ) -> Counts
-    requires { ⌜ Sinks (modeOf mode) (now b) k (arrays (now left) (now values) (now floors) (now ceilings) (now held)) start ⌝ }
-    ensures { λ r. ⌜ StandsFor (modeOf mode) (arrays (now (left .exit)) (now (values .entry)) (now (floors .entry)) (now (ceilings .entry)) (now (held .exit))) r
-        (closes (modeOf mode .algebra) (slopesOf (modeOf mode) (arrays (now (left .entry)) (now (values .entry)) (now (floors .entry)) (now (ceilings .entry)) (now (held .entry))) start)
-        (leftsIn (modeOf mode .read) (now (b .entry)) k))
-        (weightOf (modeOf mode) (slopesOf (modeOf mode) (arrays (now (left .entry)) (now (values .entry)) (now (floors .entry)) (now (ceilings .entry)) (now (held .entry))) start)
-        + weightUp (modeOf mode .algebra) (modeOf mode .sizes) (leftsIn (modeOf mode .read) (now (b .entry)) k)) ⌝ }
+    requires { ⌜ SinksOn (modeOf mode) (now b) first k (arrays (now left) (now values) (now floors) (now ceilings) (now held)) start ⌝ }
+    ensures { λ r. ⌜ ((A : Arrays) (c : Counts) → Sinks (modeOf mode) (now (b .entry)) k A c
+        → Sunk (modeOf mode) (now (b .entry)) first A c (arrays (now (left .entry)) (now (values .entry)) (now (floors .entry)) (now (ceilings .entry)) (now (held .entry))) start
+        → Sunk (modeOf mode) (now (b .entry)) k A c (arrays (now (left .exit)) (now (values .entry)) (now (floors .entry)) (now (ceilings .entry)) (now (held .exit))) r) ⌝ }
 {
     let mut nl = start.nl;
     let mut n = start.n;
     let mut mid = start.mid;
-    let mut i: usize = 0;
+    let mut i: usize = first;
     while i < k {
         let x = number::read_i64(b, 16 + 8 * i);
         let c = slopes::sink(
@@ -178,6 +211,46 @@ fn sink_all(
         i += 1;
     }
     Counts { nl, n, mid }
+}
+
+// The first k left values of a hill's bytes, from the start level down: each joins its level, which is then closed. As long as there are records
+// to close, what came from deeper is carried along.
+fn sink_all(
+    mode: u16,
+    b: &[u8],
+    k: usize,
+    left: &mut [i64; 64],
+    values: &[i32; 64],
+    floors: &[i32; 64],
+    ceilings: &[i32; 64],
+    held: &mut [i64; 64],
+    start: Counts,
+) -> Counts
+    requires { ⌜ Sinks (modeOf mode) (now b) k (arrays (now left) (now values) (now floors) (now ceilings) (now held)) start ⌝ }
+    ensures { λ r. ⌜ Sunk (modeOf mode) (now (b .entry)) k (arrays (now (left .entry)) (now (values .entry)) (now (floors .entry)) (now (ceilings .entry)) (now (held .entry))) start
+        (arrays (now (left .exit)) (now (values .entry)) (now (floors .entry)) (now (ceilings .entry)) (now (held .exit))) r ⌝ }
+{
+    let nl = start.nl;
+    let n = start.n;
+    let both = fewer(k, n);
+    let deeper = close_down(mode, b, both, values, floors, ceilings, &*held, n);
+    let mid = slopes::add(mode, held, n - both, start.mid, deeper);
+    sink_rest(
+        mode,
+        b,
+        both,
+        k,
+        left,
+        values,
+        floors,
+        ceilings,
+        held,
+        Counts {
+            nl,
+            n: n - both,
+            mid,
+        },
+    )
 }
 
 // The k records of a hill's bytes, which stand from `first` on, are put on top of n others.

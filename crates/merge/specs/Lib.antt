@@ -4,5 +4,6 @@ pub mod Asks
 pub mod RowAsks
 pub mod SayLaws
 pub mod KeptLaws
+pub mod CopyLaws
 pub mod CallLaws
 pub mod RowLaws

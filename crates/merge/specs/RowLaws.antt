@@ -1,5 +1,6 @@
 -- A row of accepted summaries and its halves. Assumes nothing.
 use mathlib.Core.Path.{_≡_, refl, ap, ap₂, sym, subst, _∙_}
+use mathlib.Core.Bool.{true}
 use mathlib.Core.List.{List, [], _∷_, _++_, map, append-assoc, append-nil}
 use Prim.Native.Nat.{ℕ, zero, suc, _+_, _-_, _/_, _≤_, _<_}
 use native.Mathlib.Omega.{arith}
@@ -9,16 +10,19 @@ use Rattle.algebra.specs.Algebra.{Algebra, Laws}
 use Rattle.number.specs.Laws.{part-rest}
 use Rattle.row.specs.Row.{rowPieces, endToEnd}
 use Rattle.row.specs.Laws.{pieces-joined}
-use Rattle.figure.specs.Mode.{modeOf}
+use Rattle.figure.specs.Mode.{modeOf, modeInUse}
 use Rattle.hill.specs.Summary.{Summary, blank}
 use Rattle.hill.specs.Merge.{mergeSummary}
 use Rattle.hill.specs.Row.{halves, mergeRow}
 use Rattle.hill.specs.RowLaws.{inOrder, halves-inOrder, mergeRow-inOrder, map-take, map-drop}
 use Rattle.hill.specs.SummaryLaws.{merge-blank, mergeSummary-assoc}
 use Rattle.hill.specs.ValidLaws.{valid-mergeSummary}
-use Rattle.summary.specs.Layout.{SummaryIn}
+use Rattle.summary.specs.Layout.{SummaryIn, encode}
 use Rattle.summary.specs.Decode.{decode}
-use Rattle.summary.specs.Accepted.{Accepted, IsSummaryIn, decoded, encode-fits}
+use Rattle.summary.specs.Fields.{AllBytes}
+use Rattle.summary.specs.Accepted.{Accepted, IsSummaryIn, mode-used, encoded, encode-decode, decoded, encode-fits}
+use Rattle.summary.specs.Outcomes.{mergeBytes}
+use Rattle.summary.specs.MergeBytes.{merge-encoded}
 use Rattle.outcome.specs.Laws.{AllIn, pieces-all}
 use Rattle.merge.specs.RowAsks.{rowSummary, rowMerged, Row}
 
@@ -66,28 +70,31 @@ module _ (m : ℕ) where
   row-accepted : (ps : List (List ℕ)) → AllIn m ps → Accepted m (mergeRow (modeOf m .algebra) (these ps))
   row-accepted ps a = subst (Accepted m) (sym (mergeRow-inOrder (modeOf m .algebra) (modeOf m .laws) (these ps))) (in-order ps a)
 
+  in-use : (ps : List (List ℕ)) → AllIn m ps → 0 < length ps → modeInUse m ≡ true
+  in-use [] a l = absurd (omega arith)
+  in-use (p ∷ ps) a l = mode-used m p (a .0)
+
 -- ---- one piece
 
 module _ {m : ℕ} {row : List ℕ} {count : ℕ} (h : Row m row count) where
+  pub merged-is : IsSummaryIn m (rowMerged m row)
+  unfolding rowSummary
+  merged-is = encoded m (in-use m (rowPieces row) (h .all) (omega (arith, h .some, h .count-is))) (mergeRow (modeOf m .algebra) (these m (rowPieces row))) (row-accepted m (rowPieces row) (h .all))
+
   pub merged-fits : length (rowMerged m row) ≤ 1788
   unfolding rowSummary
   merged-fits = encode-fits m (mergeRow (modeOf m .algebra) (these m (rowPieces row))) (row-accepted m (rowPieces row) (h .all))
 
-  -- its bytes are a summary, and the row's
-  pub record OnePiece : Type 0 where
-    pub is : IsSummaryIn m row
-    pub same : rowSummary m row ≡ decode m row
-
-  pub one-piece : count < 2 → OnePiece
+  pub one-piece : AllBytes row → count < 2 → rowMerged m row ≡ row
   unfolding rowSummary
-  one-piece l = go (rowPieces row) refl (h .all) (pieces-joined row) (omega (arith, h .some, h .count-is))
+  one-piece b l = go (rowPieces row) (h .all) (pieces-joined row) (omega (arith, h .some, h .count-is))
     where
-      go : (ps : List (List ℕ)) → rowPieces row ≡ ps → AllIn m ps → endToEnd ps ≡ row → length ps ≡ 1 → OnePiece
-      go [] q a e n = absurd (omega arith)
-      go (p ∷ []) q a e n =
+      go : (ps : List (List ℕ)) → AllIn m ps → endToEnd ps ≡ row → length ps ≡ 1 → encode m (mergeRow (modeOf m .algebra) (these m ps)) ≡ row
+      go [] a e n = absurd (omega arith)
+      go (p ∷ []) a e n =
           let s : p ≡ row = sym (append-nil p) ∙ e in
-          record { is = subst (IsSummaryIn m) s (a .0); same = ap (λ (ps : List (List ℕ)). mergeRow (modeOf m .algebra) (these m ps)) q ∙ ap (decode m) s }
-      go (p ∷ (r ∷ ps)) q a e n = absurd (omega arith)
+          encode-decode m p (subst AllBytes (sym s) b) (a .0) ∙ s
+      go (p ∷ (q ∷ ps)) a e n = absurd (omega arith)
 
   -- ---- the halves: the row is cut where the first (count + 1) / 2 pieces end
   module _ {k at : ℕ} (l : 2 ≤ count) (ek : k ≡ (count + 1) / 2) (ea : at ≡ length (endToEnd (take k (rowPieces row)))) where
@@ -132,10 +139,16 @@ module _ {m : ℕ} {row : List ℕ} {count : ℕ} (h : Row m row count) where
     pub rest-row : Row m (take (length row - at) (drop at row)) (count - k)
     rest-row = rw (part-rest at row) right-row
 
-    pub halves-merged : mergeSummary (modeOf m .algebra) (rowSummary m (take at row)) (rowSummary m (take (length row - at) (drop at row))) ≡ rowSummary m row
+    pub halves-merged : mergeBytes m (rowMerged m (take at row)) (rowMerged m (take (length row - at) (drop at row))) ≡ rowMerged m row
     unfolding rowSummary
     halves-merged =
+        let u = in-use m ps (h .all) (omega (arith, h .some, h .count-is)) in
+        let x = in-take m k ps (h .all) in
+        let y = in-drop m k ps (h .all) in
         let n : (length (these m ps) + 1) / 2 ≡ k = rw (length-map ps (decode m)) (ap (λ (c : ℕ). (c + 1) / 2) (sym (h .count-is)) ∙ sym ek) in
-        rw (part-rest at row, left-pieces, right-pieces, map-take (decode m) k ps, map-drop (decode m) k ps)
+        rw (part-rest at row, left-pieces, right-pieces)
+        (merge-encoded m (mergeRow (modeOf m .algebra) (these m (take k ps))) (mergeRow (modeOf m .algebra) (these m (drop k ps))) u (row-accepted m (take k ps) x) (row-accepted m (drop k ps) y)
+        ∙ ap (encode m)
+        (rw (map-take (decode m) k ps, map-drop (decode m) k ps)
         (subst (λ (i : ℕ). mergeSummary (modeOf m .algebra) (mergeRow (modeOf m .algebra) (take i (these m ps))) (mergeRow (modeOf m .algebra) (drop i (these m ps))) ≡ mergeRow (modeOf m .algebra) (these m ps)) n
-        (sym (by-halves (modeOf m .algebra) (modeOf m .laws) (these m ps) (omega (arith, length-map ps (decode m), h .count-is)))))
+        (sym (by-halves (modeOf m .algebra) (modeOf m .laws) (these m ps) (omega (arith, length-map ps (decode m), h .count-is)))))))

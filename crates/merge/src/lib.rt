@@ -296,76 +296,40 @@ fn mode_of_all(pieces: &[u8]) -> OneMode
     OneMode::Refused(6)
 }
 
-// Accepted pieces of one mode join what was merged before them: half with half and each half likewise, the left half having the odd one.
-fn merge_halves(
-    mode: u16,
-    pieces: &[u8],
-    count: usize,
-    left: &mut [i64; 64],
-    values: &mut [i32; 64],
-    floors: &mut [i32; 64],
-    ceilings: &mut [i32; 64],
-    held: &mut [i64; 64],
-    a: Merged,
-) -> Merged
-    requires { ⌜ Row mode (now pieces) count ⌝ }
-    requires { ⌜ Keeps mode (arrays (now left) (now values) (now floors) (now ceilings) (now held)) a ⌝ }
-    ensures { λ r. ⌜ ((s : SummaryIn mode) → Kept mode (arrays (now (left .entry)) (now (values .entry)) (now (floors .entry)) (now (ceilings .entry)) (now (held .entry))) a s
-        → Kept mode (arrays (now (left .exit)) (now (values .exit)) (now (floors .exit)) (now (ceilings .exit)) (now (held .exit))) r
-        (mergeSummary (modeOf mode .algebra) s (rowSummary mode (now (pieces .entry))))) ⌝ }
+// A summary's own bytes.
+fn copy(b: &[u8], out: &mut [u8]) -> Written
+    ensures { λ r. ⌜ Answers (written (length (now (out .entry))) (now (b .entry))) (now (out .entry)) (now (out .exit)) r ⌝ }
 {
-    if count < 2 {
-        return add_piece(mode, pieces, left, values, floors, ceilings, held, a);
+    if out.len() < b.len() {
+        return Written::Refused(12);
     }
-    let half = (count + 1) / 2;
-    let at = row::end_of(pieces, half);
-    let b = merge_halves(
-        mode,
-        &pieces[..at],
-        half,
-        left,
-        values,
-        floors,
-        ceilings,
-        held,
-        a,
-    );
-    merge_halves(
-        mode,
-        &pieces[at..],
-        count - half,
-        left,
-        values,
-        floors,
-        ceilings,
-        held,
-        b,
-    )
+    let mut i: usize = 0;
+    while i < b.len() {
+        out[i] = b[i];
+        i += 1;
+    }
+    Written::Bytes(i)
 }
 
-// Accepted pieces of one mode, merged.
+// Accepted pieces of one mode: half with half and each half likewise, the left half having the odd one.
 fn merge_pieces(mode: u16, pieces: &[u8], count: usize, out: &mut [u8]) -> Written
     requires { ⌜ Row mode (now pieces) count ⌝ }
     ensures { λ r. ⌜ Answers (written (length (now (out .entry))) (rowMerged mode (now (pieces .entry)))) (now (out .entry)) (now (out .exit)) r ⌝ }
 {
-    let mut lefts = [0i64; 64];
-    let mut values = [0i32; 64];
-    let mut floors = [0i32; 64];
-    let mut ceilings = [0i32; 64];
-    let mut held = [0i64; 64];
-    let empty = none_merged(mode);
-    let all = merge_halves(
-        mode,
-        pieces,
-        count,
-        &mut lefts,
-        &mut values,
-        &mut floors,
-        &mut ceilings,
-        &mut held,
-        empty,
-    );
-    put_merged(mode, &lefts, &values, &floors, &ceilings, &held, all, out)
+    if count < 2 {
+        return copy(pieces, out);
+    }
+    let half = (count + 1) / 2;
+    let at = row::end_of(pieces, half);
+    let mut left = [0u8; 1788];
+    let Written::Bytes(n) = merge_pieces(mode, &pieces[..at], half, &mut left) else {
+        return Written::Refused(12);
+    };
+    let mut right = [0u8; 1788];
+    let Written::Bytes(k) = merge_pieces(mode, &pieces[at..], count - half, &mut right) else {
+        return Written::Refused(12);
+    };
+    join(mode, &left[..n], &right[..k], out)
 }
 
 // MERGING A ROW: questions 4, 5, 6 and 12.

@@ -5,6 +5,7 @@ use mathlib.Core.Logic.{dite}
 use Prim.Native.Nat.{ℕ, zero, suc, _+_, _-_, _≤_, _<_}
 use native.Mathlib.Decide.{decLt}
 use native.Mathlib.Omega.{arith}
+use lib.ListN.{length}
 use Rattle.row.specs.Row.{rowPieces}
 use Rattle.algebra.specs.Run.{Level}
 use Rattle.algebra.specs.Sizes.{costs}
@@ -12,20 +13,34 @@ use Rattle.figure.specs.Mode.{modeOf}
 use Rattle.summary.specs.Layout.{SummaryIn}
 use Rattle.summary.specs.Decode.{decode}
 use Rattle.join_plan.specs.Plan.{Line, planOfRow}
+use Rattle.join_plan.specs.Scan.{plan}
 use Rattle.plan_work.specs.Runs.{peakOf, slopesOf, levelsDown, summaryAt, runLevels}
 use Rattle.plan_work.specs.WorkLaws.{levels-next}
 use Rattle.plan_work.specs.RunsExact.{line-spans}
 use Rattle.plan_work.specs.WorkSizes.{levels-light, load-fits}
-use Rattle.row_plan.specs.Arrays.{lineIn, linesIn}
+use Rattle.row_plan.specs.Arrays.{levelsIn, lineIn, linesIn, Kept}
+use Rattle.row_plan.specs.AsksLaws.{kept-count}
 use Rattle.outcome.specs.Through.{valid-row}
 use Rattle.row_plan.specs.RowLaws.{decoded-at}
 use Rattle.run_level.specs.declared.Place.{Place}
-use Rattle.run_level.specs.Levels.{pieceOf, placeIn, Reads, levelAt, levelFor}
+use Rattle.run_level.specs.Levels.{pieceOf, Begun, placeIn, Reads, levelAt, levelFor}
 use Rattle.run_level.specs.StandsFor.{LineLevels, level-is}
 use Rattle.run_level.specs.Lines.{line-reads, levels-of}
-use Rattle.run_level.specs.Along.{rowIn, Along, levelsOf}
+use Rattle.run_level.specs.Along.{rowIn, LetThrough, Along, levelsOf}
 
 -- ---- the lines in the arrays
+
+-- A row that is let through, once its plan is scanned.
+module _ {row : List ℕ} {count m : ℕ} {starts peaks ends : List ℕ} (t : LetThrough row count m starts peaks ends) {is₀ js₀ lows₀ highs₀ is js lows highs : List ℕ} {n : ℕ}
+    (k : Kept (plan (levelsIn starts peaks ends) count) 0 is₀ js₀ lows₀ highs₀ n is js lows highs) where
+  pub plan-count : n ≡ length (planOfRow (rowIn m row))
+  plan-count = kept-count _ is₀ js₀ lows₀ highs₀ is js lows highs n k ∙ ap length (t .through .plan-is)
+
+  pub lines-few : n ≤ 128
+  lines-few = omega (arith, kept-count _ is₀ js₀ lows₀ highs₀ is js lows highs n k, t .through .room)
+
+  pub along : {ats : List ℕ} → Begun row count ats → Along row count m ats starts peaks is js lows highs n
+  along b = record { ready = record { ends = ends; let-through = t; begun = b }; lines = k .lines ∙ t .through .plan-is; few = lines-few }
 
 line-here : (is js lows highs : List ℕ) (k n : ℕ) → k < n → List·Memᴰ (lineIn is js lows highs k) (linesIn is js lows highs n)
 line-here is js lows highs k zero h = absurd (omega arith)

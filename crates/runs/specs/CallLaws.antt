@@ -21,12 +21,12 @@ use Rattle.outcome.specs.Outcomes.{Summaries, firstMode, askRow, askLog, runsBy
 use Rattle.outcome.specs.Through.{valid-row, Found, ask-found, lines-125}
 use Rattle.row_plan.specs.Arrays.{levelsIn, linesIn, Kept}
 use Rattle.row_plan.specs.Asks.{askAll, Through}
-use Rattle.row_plan.specs.AsksLaws.{kept-count}
 use Rattle.row_plan.specs.CallLaws.{call-refused, call-wrote}
 use Rattle.row_plan.specs.Wrote.{Wrote}
 use Rattle.row_plan.specs.WroteLaws.{wrote-all}
 use Rattle.run_level.specs.Levels.{Begun}
 use Rattle.run_level.specs.Along.{rowIn, LetThrough}
+use Rattle.run_level.specs.AlongLaws.{plan-count, along}
 use Rattle.runs.specs.Runs.{Lines, linesRuns}
 use Rattle.runs.specs.BytesLaws.{length-each}
 
@@ -34,17 +34,11 @@ use Rattle.runs.specs.BytesLaws.{length-each}
 
 module _ {row : List ℕ} {count m : ℕ} {starts peaks ends : List ℕ} (t : LetThrough row count m starts peaks ends)
     {is js lows highs is′ js′ lows′ highs′ : List ℕ} {n : ℕ} (k : Kept (plan (levelsIn starts peaks ends) count) 0 is js lows highs n is′ js′ lows′ highs′) where
-  plan-count : n ≡ length (planOfRow (rowIn m row))
-  plan-count = kept-count _ is js lows highs is′ js′ lows′ highs′ n k ∙ ap length (t .through .plan-is)
-
-  pub few-lines : n ≤ 128
-  few-lines = omega (arith, kept-count _ is js lows highs is′ js′ lows′ highs′ n k, t .through .room)
-
   -- 30 bytes a line
   pub runs-length : length (linesRuns row m (planOfRow (rowIn m row))) ≡ 30 * n
   runs-length =
       length-each m (runsOf (modeOf m .context) (rowIn m row)) ∙
-      ap (λ (l : ℕ). 30 * l) (runs-count (modeOf m .context) (modeOf m .sizes) (λ r f. f) (rowIn m row) (valid-row m (rowPieces row) (t .through .all)) ∙ sym plan-count)
+      ap (λ (l : ℕ). 30 * l) (runs-count (modeOf m .context) (modeOf m .sizes) (λ r f. f) (rowIn m row) (valid-row m (rowPieces row) (t .through .all)) ∙ sym (plan-count t k))
 
   -- all are written
   pub runs-written : (b out : List ℕ) → 30 * n ≤ length b → out ≡ sets b 0 (linesRuns row m (linesIn is′ js′ lows′ highs′ n)) → Wrote (linesRuns row m (planOfRow (rowIn m row))) (result (30 * n)) b out
@@ -52,10 +46,7 @@ module _ {row : List ℕ} {count m : ℕ} {starts peaks ends : List ℕ} (t : Le
       wrote-all (linesRuns row m (planOfRow (rowIn m row))) b out (30 * n) (sym runs-length) (omega (arith, runs-length)) (e ∙ ap (λ (l : List Line). sets b 0 (linesRuns row m l)) (k .lines ∙ t .through .plan-is))
 
   pub all-lines : {ats : List ℕ} → Begun row count ats → Lines row m ats starts peaks is′ js′ lows′ highs′ n
-  all-lines b = record {
-    count = count;
-    along = record { ready = record { ends = ends; let-through = t; begun = b }; lines = k .lines ∙ t .through .plan-is; few = few-lines };
-  }
+  all-lines b = record { count = count; along = along t k b }
 
 -- ---- the call
 

@@ -6,6 +6,7 @@ use lib.IntN.{ℤ, pos, negℤ}
 use Rattle.gate.specs.Outcome.{Outcome, refused, result}
 use Rattle.record.specs.declared.Fields.{Fields}
 use Rattle.text.specs.declared.Figures.{Figures}
+use Rattle.plan_work.specs.Work.{Work}
 
 -- A refusal is the question's number, negative; a call that is done answers 0, ..
 abbrev pub statusOf : {A : Type 0} → Outcome A → ℤ
@@ -40,3 +41,8 @@ figureAfter (result z) figure = sets figure 0 (z ∷ [])
 abbrev pub figuresAfter : Outcome Figures → List ℤ → List ℤ
 figuresAfter (refused n) figures = figures
 figuresAfter (result f) figures = sets figures 0 (f .net ∷ f .heaviest ∷ f .eaten ∷ f .stamp ∷ [])
+
+-- The buffer of three with "the figure, the joins used (its lines) and the number of levels folded", or as it was.
+abbrev pub workAfter : Outcome (Work ℤ) → List ℤ → List ℤ
+workAfter (refused n) answer = answer
+workAfter (result w) answer = sets answer 0 (w .figure ∷ pos (w .joins) ∷ pos (w .levels) ∷ [])

@@ -6,14 +6,17 @@ ghost use Rattle.gate.specs.Outcome.{result, bufferAfter};
 ghost use Rattle.gate.specs.Answers.{writtenAnswer, lengthAnswered};
 ghost use Rattle.record.specs.Record.{readOf};
 ghost use Rattle.summary.specs.Outcomes.{summariseOutcome, mergeOutcome, finishOutcome};
-ghost use Rattle.outcome.specs.Outcomes.{mergeRowOutcome, planOutcome, runsOutcome};
+ghost use Rattle.outcome.specs.Outcomes.{mergeRowOutcome, planOutcome, runsOutcome, workOutcome};
 ghost use Rattle.day.specs.Day.{dayOutcome};
-ghost use Rattle.tulghimo.specs.Interface.{statusOf, lengthStatus, Short, fieldsAfter, figureAfter, figuresAfter};
+ghost use Rattle.work.specs.Answers.{workIn};
+ghost use Rattle.tulghimo.specs.Interface.{statusOf, lengthStatus, Short, fieldsAfter, figureAfter, figuresAfter, workAfter};
 use day::Day;
 use gate::Finished;
 use gate::Written;
 use record::Read;
 use text::Figures;
+use work::Totals;
+use work::Worked;
 
 // A refusal, as the C functions answer it.
 fn refusal(n: u8) -> i64
@@ -53,6 +56,19 @@ fn put_figures(f: Figures, figures: &mut [i64; 4]) -> i64
     figures[1] = heaviest;
     figures[2] = eaten;
     figures[3] = stamp;
+    0
+}
+
+// The figure, the joins and the levels of the work along a plan, stored in their order.
+fn put_totals(t: Totals, answer: &mut [i64; 3]) -> i64
+    ensures { λ r. ⌜ (r ≡ pos 0) × (now (answer .exit) ≡ workAfter (result (workIn t)) (now (answer .entry))) ⌝ }
+{
+    let figure = t.figure;
+    let joins = number::from_u32(t.joins);
+    let levels = number::from_u32(t.levels);
+    answer[0] = figure;
+    answer[1] = joins;
+    answer[2] = levels;
     0
 }
 
@@ -133,6 +149,19 @@ pub extern "C" fn tulghimo_runs(row: &[u8], out: &mut [u8]) -> i64
 {
     let written = runs::runs(row, out);
     status(written)
+}
+
+// The work along a row's plan: 0 and the figure, the joins used and the levels folded, or minus the refusal and `answer` as it was.
+#[no_mangle]
+pub extern "C" fn tulghimo_work(row: &[u8], answer: &mut [i64; 3]) -> i64
+    ensures answer { λ r. ⌜ r ≡ statusOf (workOutcome (now (row .entry))) ⌝ }
+    ensures buffer { λ _. ⌜ now (answer .exit) ≡ workAfter (workOutcome (now (row .entry))) (now (answer .entry)) ⌝ }
+{
+    let d = work::work(row);
+    match d {
+        Worked::Done(t) => put_totals(t, answer),
+        Worked::Refused(n) => refusal(n),
+    }
 }
 
 // The figures of a whole log: 0 and net, heaviest, eaten and stamp, or minus the refusal and `figures` as it was.

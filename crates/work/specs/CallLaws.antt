@@ -1,22 +1,20 @@
 -- What the call `work` comes to, where a row is refused and where it is let through. Assumes nothing.
 use mathlib.Core.Path.{_≡_, sym, ap, _∙_}
 use mathlib.Core.List.{List}
-use Prim.Native.Nat.{ℕ, _≤_}
-use native.Mathlib.Omega.{arith}
+use Prim.Native.Nat.{ℕ}
 use lib.IntN.{ℤ}
-use lib.ListN.{length}
 use Rattle.gate.specs.Outcome.{Outcome, refused, result, onward}
 use Rattle.row.specs.Row.{rowPieces}
 use Rattle.figure.specs.Mode.{modeOf}
-use Rattle.join_plan.specs.Plan.{folded, planOfRow}
+use Rattle.join_plan.specs.Plan.{folded}
 use Rattle.join_plan.specs.Scan.{plan}
 use Rattle.plan_work.specs.Work.{Work, workOf}
 use Rattle.outcome.specs.Outcomes.{Summaries, askRow, workAlong, workOutcome}
 use Rattle.row_plan.specs.Arrays.{levelsIn, linesIn, Kept}
 use Rattle.row_plan.specs.Asks.{askAll, summariesIn, Through}
-use Rattle.row_plan.specs.AsksLaws.{after-all, kept-count}
-use Rattle.run_level.specs.Levels.{Begun}
-use Rattle.work.specs.Contracts.{rowIn, LetThrough, Along}
+use Rattle.row_plan.specs.AsksLaws.{after-all}
+use Rattle.run_level.specs.Along.{rowIn, LetThrough}
+use Rattle.run_level.specs.AlongLaws.{plan-count}
 
 pub work-refused : (row : List ℕ) (n : ℕ) → askAll row ≡ refused n → refused n ≡ workOutcome row
 unfolding workOutcome
@@ -32,21 +30,12 @@ work-through {row = row} t w e =
 
 module _ {row : List ℕ} {count m : ℕ} {starts peaks ends : List ℕ} (t : LetThrough row count m starts peaks ends) {is₀ js₀ lows₀ highs₀ is js lows highs : List ℕ} {n : ℕ}
     (k : Kept (plan (levelsIn starts peaks ends) count) 0 is₀ js₀ lows₀ highs₀ n is js lows highs) where
-  lines-are : linesIn is js lows highs n ≡ planOfRow (rowIn m row)
-  lines-are = k .lines ∙ t .through .plan-is
-
-  pub lines-few : n ≤ 128
-  lines-few = omega (arith, kept-count _ is₀ js₀ lows₀ highs₀ is js lows highs n k, t .through .room)
-
-  pub along : (ats : List ℕ) → Begun row count ats → Along row count m ats starts peaks is js lows highs n
-  along ats b = record { ready = record { ends = ends; let-through = t; begun = b }; lines = lines-are; few = lines-few }
-
   -- The figure, the joins and the levels are those of the work along the plan.
   pub work-is : (f g : ℤ) (l : ℕ) → g ≡ f → f ≡ modeOf m .store (workOf (modeOf m .algebra) (rowIn m row) .figure) → l ≡ folded (linesIn is js lows highs n) →
       record { figure = g; joins = n; levels = l } ≡ workAlong (summariesIn m (rowPieces row))
   unfolding workAlong
   work-is f g l eg ef el i = record {
     figure = (eg ∙ ef) i;
-    joins = (kept-count _ is₀ js₀ lows₀ highs₀ is js lows highs n k ∙ ap length (t .through .plan-is)) i;
-    levels = (el ∙ ap folded lines-are) i;
+    joins = plan-count t k i;
+    levels = (el ∙ ap folded (k .lines ∙ t .through .plan-is)) i;
   }

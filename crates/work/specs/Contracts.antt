@@ -1,29 +1,26 @@
 -- What the inner functions of `work` ask, and the lists that their arrays stand for. Definitions only.
 use mathlib.Core.Path.{_≡_}
 use mathlib.Core.Bool.{_&&_, cond}
-use mathlib.Core.List.{List, [], _∷_, map}
+use mathlib.Core.List.{List, [], _∷_}
 use Prim.Native.Nat.{ℕ, zero, suc, _+_, _-_, _≤_, _<_}
 use lib.Dec.{leb, eqb}
 use lib.IntN.{ℤ, pos}
 use lib.ListN.{getD}
 use Rattle.row.specs.Row.{rowPieces}
-use Rattle.algebra.specs.Run.{Level}
 use Rattle.algebra.specs.Sizes.{costs}
 use Rattle.figure.specs.Mode.{Mode, modeOf}
 use Rattle.figure.specs.Stored.{IsStored, sizeOf}
-use Rattle.summary.specs.Layout.{SummaryIn}
 use Rattle.summary.specs.Judge.{modeAt, middleAt, IsHill}
-use Rattle.summary.specs.Decode.{decode}
-use Rattle.join_plan.specs.Plan.{Line, planOfRow}
-use Rattle.plan_work.specs.Runs.{peakOf, slopesOf, levelsDown}
+use Rattle.join_plan.specs.Plan.{Line}
+use Rattle.plan_work.specs.Runs.{runLevels}
 use Rattle.plan_work.specs.Work.{Done, outcomesAt, given, worked}
 use Rattle.plan_work.specs.WorkSizes.{LineLight}
 use Rattle.row_plan.specs.Arrays.{line, lineIn, linesIn}
-use Rattle.row_plan.specs.Asks.{Through}
 use Rattle.run_level.specs.declared.Place.{Place}
 use Rattle.run_level.specs.declared.RunLevel.{RunLevel}
-use Rattle.run_level.specs.Levels.{pieceOf, Begun, Placed, Reads}
+use Rattle.run_level.specs.Levels.{pieceOf, placeIn, Placed, Reads}
 use Rattle.run_level.specs.StandsFor.{IsLevel, LineLevels}
+use Rattle.run_level.specs.Along.{rowIn, Ready, levelsOf}
 use Rattle.work.specs.declared.given.Join.{Join}
 use Rattle.work.specs.Stores.{Stores}
 
@@ -34,41 +31,12 @@ outcomeMost = 100_000_000_000_000
 abbrev pub most : ℕ
 most = 13_100_000_000_000_000
 
--- The summaries of a row.
-abbrev pub rowIn : (m : ℕ) → List ℕ → List (SummaryIn m)
-rowIn m row = map (decode m) (rowPieces row)
-
--- ---- a row that is let through
-
-pub record LetThrough (row : List ℕ) (count m : ℕ) (starts peaks ends : List ℕ) : Type 0 where
-  pub kinds : List ℕ
-  pub openeds : List ℕ
-  pub through : Through row count m kinds starts peaks ends openeds
-
--- Its pieces are noted.
-pub record Ready (row : List ℕ) (count m : ℕ) (ats starts peaks : List ℕ) : Type 0 where
-  pub ends : List ℕ
-  pub let-through : LetThrough row count m starts peaks ends
-  pub begun : Begun row count ats
-
--- And the n lines of its plan are in four arrays.
-pub record Along (row : List ℕ) (count m : ℕ) (ats starts peaks is js lows highs : List ℕ) (n : ℕ) : Type 0 where
-  pub ready : Ready row count m ats starts peaks
-  pub lines : linesIn is js lows highs n ≡ planOfRow (rowIn m row)
-  pub few : n ≤ 128
-
 -- ---- one line's run
 
 pub record Steps (m : ℕ) (l : RunLevel) (x : ℤ) : Type 0 where
   pub level : IsLevel m l
   pub stored : IsStored (modeOf m) x
   pub room : sizeOf (modeOf m) x + (sizeOf (modeOf m) (l .held) + sizeOf (modeOf m) (l .left)) ≤ most
-
--- The n levels from `low` on of the hills at two places.
-abbrev pub levelsOf : (row : List ℕ) (m : ℕ) (opener closer : Place) (low n : ℕ) → List (Level (modeOf m .algebra))
-levelsOf row m o c low n =
-    levelsDown (modeOf m .algebra) (peakOf (modeOf m .algebra) (decode m (pieceOf row (o .piece)))) (slopesOf (modeOf m .algebra) (decode m (pieceOf row (o .piece))))
-    (peakOf (modeOf m .algebra) (decode m (pieceOf row (c .piece)))) (slopesOf (modeOf m .algebra) (decode m (pieceOf row (c .piece)))) low n
 
 pub record Runs (row : List ℕ) (m : ℕ) (opener closer : Place) (low high : ℕ) (x : ℤ) : Type 0 where
   pub some : low ≤ high
@@ -151,6 +119,7 @@ pub record WorksLine (row : List ℕ) (count m : ℕ) (ats starts peaks is js lo
   pub ready : Ready row count m ats starts peaks
   pub outcomes : OutsStored (modeOf m) outs k
   pub levels : LineLevels m (rowPieces row) (joined e)
+  pub run-is : runLevels (modeOf m .algebra) (rowIn m row) (joined e) ≡ levelsOf row m (placeIn ats starts peaks (e .i)) (placeIn ats starts peaks (e .j)) (e .low) (suc (e .high) - e .low)
   pub light : LineLight (modeOf m .algebra) (modeOf m .sizes) (rowIn m row) (joined e) (doneIn (modeOf m) is js lows highs outs k)
 
 -- The first n lines are worked.

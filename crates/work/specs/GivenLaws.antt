@@ -25,9 +25,10 @@ use Rattle.plan_work.specs.WorkSizes.{AllLight, outs-many, middles-light}
 use Rattle.run_level.specs.declared.Place.{Place}
 use Rattle.run_level.specs.Levels.{pieceOf, beginOf, placeIn}
 use Rattle.run_level.specs.Laws.{piece-inside, piece-field}
+use Rattle.run_level.specs.Along.{rowIn}
 use Rattle.work.specs.declared.given.Join.{Join}
 use Rattle.work.specs.Stores.{Stores, own, stores-same, size-is, size-stored, stores-none, can-combine, stores-combined}
-use Rattle.work.specs.Contracts.{outcomeMost, rowIn, IsPlaceOfHill, middleIf, withMiddle, AddsMiddle, Middles, AddsOutcome, withOutcome, OutsStored, doneIn, Outcomes, Gives, Given}
+use Rattle.work.specs.Contracts.{outcomeMost, IsPlaceOfHill, middleIf, withMiddle, AddsMiddle, Middles, AddsOutcome, withOutcome, OutsStored, doneIn, Outcomes, Gives, Given}
 use Rattle.work.specs.RowLaws.{valid, row-light, noted-hill, noted-place, middle-stored, middle-small, middle-noted}
 
 -- ---- a middle value

@@ -1,6 +1,6 @@
 -- A figure through one level, and through the levels of a line. Assumes nothing.
 use mathlib.Core.Path.{_≡_, refl, sym, ap, _∙_, subst}
-use mathlib.Core.List.{List, [], _∷_, _++_}
+use mathlib.Core.List.{List, [], _∷_}
 use Prim.Native.Nat.{ℕ, suc, _+_, _-_, _^_, _≤_, _<_}
 use native.Mathlib.Omega.{arith}
 use lib.IntN.{ℤ}
@@ -9,15 +9,15 @@ use Rattle.algebra.specs.Sizes.{costs, Spent, spend}
 use Rattle.figure.specs.FourModes.{Amounts, limit}
 use Rattle.figure.specs.Mode.{Mode, modeOf}
 use Rattle.figure.specs.Stored.{IsStored, sizeOf, amounts, combined, passed, Combines, Passes}
-use Rattle.summary.specs.Decode.{decode}
-use Rattle.plan_work.specs.Runs.{peakOf, slopesOf, leftAt, openFrom, levelOf}
-use Rattle.plan_work.specs.WorkLaws.{levels-none, levels-next}
+use Rattle.plan_work.specs.WorkLaws.{levels-none}
 use Rattle.run_level.specs.declared.Place.{Place}
 use Rattle.run_level.specs.declared.RunLevel.{RunLevel}
 use Rattle.run_level.specs.Levels.{pieceOf, levelAt, levelFor, Reads}
-use Rattle.run_level.specs.StandsFor.{IsLevel, level-is, level-stored}
+use Rattle.run_level.specs.StandsFor.{IsLevel, level-stored}
+use Rattle.run_level.specs.Along.{levelsOf}
+use Rattle.run_level.specs.AlongLaws.{levels-cons}
 use Rattle.work.specs.Stores.{Stores, own, stores-same, size-is, size-stored, can-combine, stores-combined, can-pass, stores-passed}
-use Rattle.work.specs.Contracts.{most, Steps, Runs, levelsOf}
+use Rattle.work.specs.Contracts.{most, Steps, Runs}
 
 -- ---- one level
 
@@ -117,10 +117,7 @@ module _ (row : List ℕ) (m : ℕ) (o c : Place) (low high : ℕ) (x : ℤ) (v 
     levels-are : levelsOf row m o c low (depth - low) ≡ levelFor m (levelAt p q d) ∷ levelsOf row m o c low (d - low)
     levels-are =
         let n : depth - low ≡ suc (d - low) = omega arith in
-        let e : low + (d - low) ≡ d = omega arith in
-        ap (levelsOf row m o c low) n ∙ levels-next (N .algebra) _ _ _ _ low (d - low) ∙
-        subst (λ (k : ℕ). levelOf (N .algebra) (openFrom (N .algebra) (peakOf (N .algebra) (decode m p)) (slopesOf (N .algebra) (decode m p)) (suc k)) (leftAt (N .algebra) (peakOf (N .algebra) (decode m q)) (slopesOf (N .algebra) (decode m q)) (suc k)) ++ levelsOf row m o c low (d - low) ≡ levelFor m (levelAt p q d) ∷ levelsOf row m o c low (d - low)) (sym e)
-        (ap (λ (ls : List (Level (N .algebra))). ls ++ levelsOf row m o c low (d - low)) (level-is m p q d (reads-next .opens) (reads-next .closes)))
+        ap (levelsOf row m o c low) n ∙ levels-cons row m o c low (d - low) d (omega arith) reads-next
 
     here : N .sizes .size (N .read y) + costs (N .sizes) (levelFor m (levelAt p q d) ∷ levelsOf row m o c low (d - low)) ≤ most
     here = subst (λ (ls : List (Level (N .algebra))). N .sizes .size (N .read y) + costs (N .sizes) ls ≤ most) levels-are (omega (arith, g .room, size-is N y))

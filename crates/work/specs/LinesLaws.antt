@@ -1,6 +1,6 @@
 -- The lines of a plan worked in order, and the figure that they give. Assumes nothing.
 use mathlib.Core.Path.{_≡_, refl, sym, ap, ap₂, _∙_, subst}
-use mathlib.Core.List.{List, [], _∷_, _++_, append-assoc, List·Memᴰ, List·Memᴰ·head, List·Memᴰ·tail}
+use mathlib.Core.List.{List, [], _∷_, _++_, append-assoc}
 use mathlib.Core.Logic.{dite}
 use Prim.Native.Nat.{ℕ, zero, suc, _+_, _-_, _≤_, _<_}
 use native.Mathlib.Decide.{decLt}
@@ -21,7 +21,7 @@ use Rattle.summary.specs.Decode.{decode, hillIn}
 use Rattle.summary.specs.Values.{reading-hill}
 use Rattle.join_plan.specs.Plan.{Line, planOfRow}
 use Rattle.plan_work.specs.GateExact.{Begins, row-begins}
-use Rattle.plan_work.specs.Runs.{peakOf, slopesOf, levelsDown, summaryAt, runLevels}
+use Rattle.plan_work.specs.Runs.{summaryAt, runLevels}
 use Rattle.plan_work.specs.Work.{Done, worked, oneMiddle, lastOutcome, workOf}
 use Rattle.plan_work.specs.WorkLaws.{work, worked-nil, worked-cons, worked-append}
 use Rattle.plan_work.specs.WorkSizes.{load, AllLight, LineLight, line-light}
@@ -30,12 +30,14 @@ use Rattle.row_plan.specs.ScanLaws.{length-lines}
 use Rattle.row_plan.specs.RowLaws.{decoded-at}
 use Rattle.run_level.specs.declared.Place.{Place}
 use Rattle.run_level.specs.Levels.{pieceOf, placeIn}
-use Rattle.run_level.specs.StandsFor.{LineLevels, line-levels}
+use Rattle.run_level.specs.StandsFor.{LineLevels}
 use Rattle.run_level.specs.Lines.{line-reads}
+use Rattle.run_level.specs.Along.{rowIn, Ready, Along, levelsOf}
+use Rattle.run_level.specs.AlongLaws.{line-levels-of, line-is}
 use Rattle.work.specs.declared.given.Join.{Join}
 use Rattle.work.specs.Stores.{Stores, stores-same, stores-is, own, size-is, size-stored}
-use Rattle.work.specs.Contracts.{most, rowIn, Ready, Along, Runs, levelsOf, doneIn, joined, Gives, Given, WorksLine, AllWorked}
-use Rattle.work.specs.RowLaws.{valid, passes, row-light, noted-hill, middle-stored, IsWhole, no-hill}
+use Rattle.work.specs.Contracts.{most, Runs, doneIn, joined, Gives, Given, WorksLine, AllWorked}
+use Rattle.work.specs.RowLaws.{valid, row-light, noted-hill, middle-stored, IsWhole, no-hill}
 
 -- ---- one line
 
@@ -61,15 +63,6 @@ module _ {row : List ℕ} {count m : ℕ} {ats starts peaks is js lows highs : L
   abbrev c : Place
   c = placeIn ats starts peaks (e .j)
 
-  -- The levels of the line are those of its two places.
-  levels-are : runLevels (M .algebra) (rowIn m row) (joined e) ≡ levelsOf row m o c (e .low) (suc (e .high) - e .low)
-  unfolding runLevels
-  levels-are =
-      let j : e .j < length (rowPieces row) = v .levels .within in
-      let i : e .i < length (rowPieces row) = omega (arith, v .levels .order) in
-      ap₂ (λ (s t : SummaryIn m). levelsDown (M .algebra) (peakOf (M .algebra) s) (slopesOf (M .algebra) s) (peakOf (M .algebra) t) (slopesOf (M .algebra) t) (e .low) (suc (e .high) - e .low))
-      (decoded-at m (rowPieces row) (e .i) i) (decoded-at m (rowPieces row) (e .j) j)
-
   module _ (x y : ℤ) (ey : y ≡ x) (g : Given row m is js lows outs k e x) where
     pub line-runs : (p q : Place) → p ≡ o → q ≡ c → Runs row m p q (e .low) (e .high) y
     line-runs p q ep eq =
@@ -87,7 +80,7 @@ module _ {row : List ℕ} {count m : ℕ} {ats starts peaks is js lows highs : L
       where
         light : sizeOf M x + costs (M .sizes) (levelsOf row m o c (e .low) (suc (e .high) - e .low)) ≤ most
         light =
-            subst (λ (ls : List (Level (M .algebra))). sizeOf M x + costs (M .sizes) ls ≤ most) levels-are
+            subst (λ (ls : List (Level (M .algebra))). sizeOf M x + costs (M .sizes) ls ≤ most) (v .run-is)
             (omega (arith, size-stored M x _ (g highs), v .light .run-light, row-light (v .ready .let-through)))
 
     -- Its outcome.
@@ -95,7 +88,7 @@ module _ {row : List ℕ} {count m : ℕ} {ats starts peaks is js lows highs : L
         Stores M s (work (M .algebra) (rowIn m row) (joined e) (doneIn M is js lows highs outs k) .out)
     line-stores p q r s ep eq es t =
         let f : through (M .algebra) (levelsOf row m p q (e .low) (suc (e .high) - e .low)) (M .read y) ≡ through (M .algebra) (runLevels (M .algebra) (rowIn m row) (joined e)) (M .read x) =
-        (λ i. through (M .algebra) (levelsOf row m (ep i) (eq i) (e .low) (suc (e .high) - e .low)) (M .read (ey i))) ∙ ap (λ (ls : List (Level (M .algebra))). through (M .algebra) ls (M .read x)) (sym levels-are) in
+        (λ i. through (M .algebra) (levelsOf row m (ep i) (eq i) (e .low) (suc (e .high) - e .low)) (M .read (ey i))) ∙ ap (λ (ls : List (Level (M .algebra))). through (M .algebra) ls (M .read x)) (sym (v .run-is)) in
         stores-same M r s _ es (subst (Stores M r) (f ∙ ap (through (M .algebra) (runLevels (M .algebra) (rowIn m row) (joined e))) (g highs .reads)) t)
 
 -- ---- all lines
@@ -107,10 +100,6 @@ split-lines is js lows highs k (suc n) h = dite (decLt k n)
     (λ l. let s = split-lines is js lows highs k n l in
     (s .0 ++ (lineIn is js lows highs n ∷ []), sym (append-assoc (linesIn is js lows highs k) (lineIn is js lows highs k ∷ s .0) (lineIn is js lows highs n ∷ [])) ∙ ap (λ (ls : List Line). ls ++ (lineIn is js lows highs n ∷ [])) (s .1)))
     (λ l. let e : k ≡ n = omega arith in ([], ap (λ (i : ℕ). linesIn is js lows highs (suc i)) e))
-
-among : (es fs : List Line) (e : Line) → List·Memᴰ e (es ++ (e ∷ fs))
-among [] fs e = List·Memᴰ·head refl
-among (x ∷ es) fs e = List·Memᴰ·tail (among es fs e)
 
 each-light : (M : Mode) (B : ℕ) (is js lows highs : List ℕ) (outs : List ℤ) (n : ℕ) → AllLight (M .algebra) (M .sizes) B (doneIn M is js lows highs outs n) → (k : ℕ) → k < n → sizeOf M (getD outs k (pos 0)) ≤ B
 each-light M B is js lows highs outs zero a k h = absurd (omega arith)
@@ -158,7 +147,7 @@ module _ {row : List ℕ} {count m : ℕ} {ats starts peaks is js lows highs : L
   is-light : LineLight (N .algebra) (N .sizes) R next (doneIn N is js lows highs outs k)
   is-light =
       subst (LineLight (N .algebra) (N .sizes) R next) (sym (w .done .outcomes))
-      (line-light (N .algebra) (N .sizes) R (valid (a .ready .let-through)) (N .laws) (N .commutative) (passes (a .ready .let-through)) these behind next in-plan (omega (arith, length-lines is js lows highs k, a .few)))
+      (line-light (N .algebra) (N .sizes) R (valid (a .ready .let-through)) (N .laws) (N .commutative) (a .ready .let-through .through .faultless) these behind next in-plan (omega (arith, length-lines is js lows highs k, a .few)))
 
   pub line-works : (e : Join) → joined e ≡ next → WorksLine row count m ats starts peaks is js lows highs outs k e
   line-works e q = record {
@@ -168,7 +157,8 @@ module _ {row : List ℕ} {count m : ℕ} {ats starts peaks is js lows highs : L
       each = w .done .each;
       light = λ i l. omega (arith, each-light N (load (N .algebra) (N .sizes) R) is js lows highs outs k (is-light .outs) i l, row-light (a .ready .let-through));
     };
-    levels = subst (LineLevels m (rowPieces row)) (sym q) (line-levels m (rowPieces row) (a .ready .let-through .through .all) next (subst (List·Memᴰ next) in-plan (among these behind next)));
+    levels = subst (LineLevels m (rowPieces row)) (sym q) (line-levels-of a k h);
+    run-is = subst (λ (l : Line). runLevels (N .algebra) R l ≡ levelsOf row m (placeIn ats starts peaks (l .i)) (placeIn ats starts peaks (l .j)) (l .lowest) (suc (l .highest) - l .lowest)) (sym q) (line-is a k h);
     light = subst (λ (l : Line). LineLight (N .algebra) (N .sizes) R l (doneIn N is js lows highs outs k)) (sym q) is-light;
   }
 
@@ -238,7 +228,7 @@ module _ {row : List ℕ} {count m : ℕ} {ats starts peaks : List ℕ} (t : Rea
   S = rowIn m row
 
   pub seek-start : Seeking row count m 0
-  seek-start = record { near = omega arith; begins = row-begins S (passes (t .let-through)); same = refl }
+  seek-start = record { near = omega arith; begins = row-begins S (t .let-through .through .faultless); same = refl }
 
   pub seek-end : (k : ℕ) {A : Type 0} → Seeking row count m k → count ≤ k → A
   seek-end k w h = absurd (subst Begins (drop-of-length-le S {i = k} (omega (arith, length-map (rowPieces row) (decode m), t .let-through .through .long))) (w .begins))

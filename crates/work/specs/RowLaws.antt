@@ -7,38 +7,29 @@ use native.Mathlib.Omega.{arith}
 use lib.Dec.{eqb}
 use lib.ListN.{length, getD}
 use borrow.Author.Tests.{ne-eqb}
-use Rattle.gate.specs.Outcome.{Outcome, result, onward}
 use Rattle.row.specs.Row.{rowPieces}
 use Rattle.algebra.specs.Algebra.{Algebra}
 use Rattle.figure.specs.FourModes.{Amounts}
 use Rattle.figure.specs.Mode.{modeOf}
 use Rattle.figure.specs.Stored.{IsStored, sizeOf}
-use Rattle.hill.specs.Verdict.{Verdict, pass, refuse}
-use Rattle.hill.specs.Finish.{outcome}
 use Rattle.hill.specs.Summary.{Summary, blank, part, spoilt, whole, middle}
 use Rattle.summary.specs.Layout.{SummaryIn}
 use Rattle.summary.specs.Judge.{kindAt, peakAt, middleAt, IsHill, IsSummary, isBlank, isSpoilt, isHill}
 use Rattle.summary.specs.Decode.{decode}
 use Rattle.summary.specs.Values.{reading-blank, reading-spoilt, reading-hill}
 use Rattle.judge.specs.Laws.{head-blank, head-spoilt}
-use Rattle.plan_work.specs.Gate.{rowFault, ValidRow}
+use Rattle.plan_work.specs.Gate.{ValidRow}
 use Rattle.plan_work.specs.Runs.{peakOf, slopesOf, summaryAt}
 use Rattle.plan_work.specs.WorkSizes.{load, load-fits, middle-light}
-use Rattle.outcome.specs.Outcomes.{Summaries, askLog}
-use Rattle.outcome.specs.Laws.{ask-all}
 use Rattle.row_plan.specs.Notes.{noteOf}
-use Rattle.row_plan.specs.Asks.{summariesIn}
 use Rattle.outcome.specs.Through.{valid-row}
 use Rattle.row_plan.specs.RowLaws.{each-in, decoded-at}
 use Rattle.run_level.specs.Levels.{pieceOf, placeIn}
 use Rattle.run_level.specs.Lines.{placed}
 use Rattle.run_level.specs.StandsFor.{all-stored, mode-at}
+use Rattle.run_level.specs.Along.{rowIn, LetThrough, Ready}
 use Rattle.work.specs.Stores.{size-is}
-use Rattle.work.specs.Contracts.{outcomeMost, rowIn, LetThrough, Ready, IsPlaceOfHill, middleIf}
-
-passed-only : {A : Type 0} (v : Verdict) (a : A) → outcome v a ≡ result a → v ≡ pass
-passed-only pass a e = refl
-passed-only (refuse n) a e = cc
+use Rattle.work.specs.Contracts.{outcomeMost, IsPlaceOfHill, middleIf}
 
 module _ {row : List ℕ} {count m : ℕ} {starts peaks ends : List ℕ} (t : LetThrough row count m starts peaks ends) where
   abbrev 𝒜 : Algebra Amounts
@@ -47,15 +38,9 @@ module _ {row : List ℕ} {count m : ℕ} {starts peaks ends : List ℕ} (t : Le
   pub valid : ValidRow 𝒜 (modeOf m .sizes) (rowIn m row)
   valid = valid-row m (rowPieces row) (t .through .all)
 
-  pub passes : rowFault (rowIn m row) ≡ pass
-  unfolding askLog
-  passes =
-      let a = ask-all m (rowPieces row) (t .through .all) (omega (arith, t .through .long, t .through .some)) (omega (arith, t .through .long, t .through .few)) in
-      passed-only (rowFault (rowIn m row)) (summariesIn m (rowPieces row)) (sym (ap (λ (o : Outcome Summaries). onward o askLog) a) ∙ t .through .asked)
-
   -- All that its opened records can make.
   pub row-light : load 𝒜 (modeOf m .sizes) (rowIn m row) ≤ outcomeMost
-  row-light = load-fits 𝒜 (modeOf m .sizes) (rowIn m row) valid (modeOf m .laws) (modeOf m .commutative) passes (modeOf m .unit-small)
+  row-light = load-fits 𝒜 (modeOf m .sizes) (rowIn m row) valid (modeOf m .laws) (modeOf m .commutative) (t .through .faultless) (modeOf m .unit-small)
 
 -- A summary that is a hill.
 abbrev pub IsWhole : {Fig R : Type 0} → Summary Fig R → Type 0

@@ -5,7 +5,8 @@ ghost use Rattle.summary.specs.Judge.{middleAt};
 ghost use Rattle.plan_work.specs.Work.{middlesAt, between};
 ghost use Rattle.run_level.specs.Levels.{pieceOf};
 ghost use Rattle.work.specs.Stores.{Stores};
-ghost use Rattle.work.specs.Contracts.{IsPlaceOfHill, AddsMiddle, withMiddle, AddsOutcome, withOutcome, rowIn, Middles, OutsStored, Outcomes, Gives, Given};
+ghost use Rattle.run_level.specs.Along.{rowIn};
+ghost use Rattle.work.specs.Contracts.{IsPlaceOfHill, AddsMiddle, withMiddle, AddsOutcome, withOutcome, Middles, OutsStored, Outcomes, Gives, Given};
 use run_level::Place;
 
 // A line of the plan.
@@ -120,9 +121,10 @@ pub fn given(
     requires { ⌜ Gives (now row) count mode (now ats) (now starts) (now peaks) (now outs) n e ⌝ }
     ensures { λ r. ⌜ Given (now (row .entry)) mode (now (is .entry)) (now (js .entry)) (now (lows .entry)) (now (outs .entry)) n e r ⌝ }
 {
-    let level = e.high + 1;
     let i = e.i;
     let j = e.j;
+    let high = e.high;
+    let level = high + 1;
     let between = middles(row, count, mode, ats, starts, peaks, i, j, level);
     figure::combine(
         mode,

@@ -6,7 +6,7 @@ ghost use Rattle.outcome.specs.Outcomes.{workAlong, workOutcome};
 ghost use Rattle.row_plan.specs.Asks.{summariesIn};
 ghost use Rattle.row.specs.Row.{rowPieces};
 ghost use Rattle.work.specs.Answers.{workIn, workedAnswer};
-ghost use Rattle.work.specs.Contracts.{LetThrough};
+ghost use Rattle.run_level.specs.Along.{LetThrough};
 use row_plan::ask::Asked;
 use row_plan::ask::ask;
 use row_plan::levels::fold_levels;

@@ -4,7 +4,8 @@ ghost use Rattle.algebra.specs.Run.{step, through};
 ghost use Rattle.figure.specs.Mode.{modeOf};
 ghost use Rattle.run_level.specs.Levels.{pieceOf, levelFor};
 ghost use Rattle.work.specs.Stores.{Stores};
-ghost use Rattle.work.specs.Contracts.{Steps, Runs, levelsOf};
+ghost use Rattle.run_level.specs.Along.{levelsOf};
+ghost use Rattle.work.specs.Contracts.{Steps, Runs};
 use run_level::Place;
 use run_level::RunLevel;
 

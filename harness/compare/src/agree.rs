@@ -45,6 +45,15 @@ pub fn plan(row: &[u8]) -> Vec<i64> {
     bytes(calls::plan(row, AMPLE), |out| raw::plan(row, out))
 }
 
+pub fn runs(row: &[u8]) -> Vec<i64> {
+    bytes(calls::runs(row, AMPLE), |out| raw::runs(row, out))
+}
+
+pub fn work(row: &[u8]) -> Vec<i64> {
+    let expected = calls::work(row).map(|(figure, joins, levels)| [figure, joins, levels]);
+    numbers(expected, |work| raw::work(row, work))
+}
+
 pub fn finish(summary: &[u8]) -> Vec<i64> {
     numbers(calls::finish(summary).map(|figure| [figure]), |figure| raw::finish(summary, figure))
 }

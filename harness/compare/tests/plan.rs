@@ -1,15 +1,23 @@
-//! The join plan: the proved library against the reference, every byte of every buffer.
+//! The join plan, its runs and the work along it: the proved library against the reference, every byte of every buffer.
 
-use compare::agree::plan as agree;
-use compare::LentBytes;
+use compare::{agree, LentBytes, LentNumbers};
 use reference::calls;
 use reference::gen::{damage, forged, logs, Rng};
 use reference::layout::encode;
 use reference::mode::Mode;
 use reference::plan::{encode_plan, plan_by_records};
 use reference::record::{encode_all, Record};
+use reference::tree::log_figure;
+use reference::work::levels_folded;
 
 const AMPLE: usize = 8192;
+
+/// A row by all three calls.
+fn agree(row: &[u8]) {
+    agree::plan(row);
+    agree::runs(row);
+    agree::work(row);
+}
 
 fn row_of(chunks: &[Vec<Record>], mode: Mode) -> Vec<u8> {
     let summary = |chunk: &Vec<Record>| calls::summarise(&encode_all(chunk), mode.number(), AMPLE).unwrap();
@@ -39,6 +47,22 @@ fn lines_are_the_joins_by_records() {
         let row = row_of(&chunks, Mode::Net);
         let expected = Ok(encode_plan(&plan_by_records(&chunks)));
         LentBytes::new(AMPLE).check(&expected, |out| tulghimo::raw::plan(&row, out));
+    }
+}
+
+#[test]
+fn the_work_is_the_recursion() {
+    let mut rng = Rng::new(0x91a7);
+    for _ in 0..300 {
+        let log = logs::any_log(&mut rng, 40);
+        let count = 2 + rng.below(9);
+        let chunks = logs::cut(&mut rng, &log, count);
+        let lines = plan_by_records(&chunks);
+        for mode in Mode::ALL {
+            let expected = [log_figure(mode, &log), lines.len() as i64, levels_folded(&lines) as i64];
+            let answer = LentNumbers::default().lend(|work| tulghimo::raw::work(&row_of(&chunks, mode), work));
+            assert_eq!(answer, (0, expected));
+        }
     }
 }
 

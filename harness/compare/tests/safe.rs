@@ -5,7 +5,7 @@ use reference::gen::{damage, forged, logs, Rng};
 use reference::layout::encode;
 use reference::mode;
 use reference::plan::{encode_plan, Line};
-use tulghimo::{Kind, Mode, Refusal};
+use tulghimo::{Kind, Mode, Refusal, Run};
 
 /// Longer than any result.
 const AMPLE: usize = 8192;
@@ -61,6 +61,17 @@ fn agree_on_row(row: &[u8]) {
         encode_plan(&lines.iter().map(plain).collect::<Vec<_>>())
     });
     assert_eq!(plan, calls::plan(row, AMPLE));
+    let runs = by_number(tulghimo::runs(row)).map(|runs| {
+        let of_one = |run: &Run| {
+            let mut bytes = vec![30, 0, 20, 0, run.mode.number() as u8, 0];
+            bytes.extend(run.numbers.iter().flat_map(|number| number.to_le_bytes()));
+            bytes
+        };
+        runs.iter().flat_map(of_one).collect::<Vec<u8>>()
+    });
+    assert_eq!(runs, calls::runs(row, AMPLE));
+    let work = by_number(tulghimo::work(row)).map(|work| (work.figure, work.joins.into(), work.levels.into()));
+    assert_eq!(work, calls::work(row));
 }
 
 #[test]

@@ -39,6 +39,8 @@ pub const CALLS: &[Call] = &[
     Call { name: "merge", takes: Takes::Pieces, compare: |given| agree::merge(&given.first, &given.second) },
     Call { name: "merge_row", takes: Takes::Row, compare: |given| agree::merge_row(&given.first) },
     Call { name: "plan", takes: Takes::Row, compare: |given| agree::plan(&given.first) },
+    Call { name: "runs", takes: Takes::Row, compare: |given| agree::runs(&given.first) },
+    Call { name: "work", takes: Takes::Row, compare: |given| agree::work(&given.first) },
     Call { name: "finish", takes: Takes::Piece, compare: |given| agree::finish(&given.first) },
     Call { name: "day", takes: Takes::Chunk, compare: |given| agree::day(&given.first) },
 ];

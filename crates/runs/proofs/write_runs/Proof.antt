@@ -4,7 +4,8 @@ use mathlib.Core.Path.{refl}
 use native.Mathlib.Omega.{arith}
 use denote.Ref.{now}
 use Rattle.row_plan.specs.WroteLaws.{too-short}
-use Rattle.runs.specs.CallLaws.{few-lines, runs-length, runs-written, all-lines}
+use Rattle.run_level.specs.AlongLaws.{lines-few}
+use Rattle.runs.specs.CallLaws.{runs-length, runs-written, all-lines}
 use borrow.Author.Needs.{needs}
 use Rattle.runs.proofs.write_runs.Statement.{statement}
 use Rattle.runs.proofs.write_runs.Tie as tie
@@ -13,7 +14,7 @@ scan-requires : tie.Need-scan-requires
 scan-requires c κs = let t = c .before .before .before .before .before .before .pre .through in (t .whole .noted, (record { is-128 = refl; js-128 = refl; lows-128 = refl; highs-128 = refl }, (t .few, t .room)))
 
 mul-total : tie.Need-mul-total
-mul-total c = record { fits = omega (arith, few-lines (c .before .before .before .before .before .before .before .pre) (c .scan .ensures)) }
+mul-total c = record { fits = omega (arith, lines-few (c .before .before .before .before .before .before .before .pre) (c .scan .ensures)) }
 
 returns : tie.Need-returns
 returns c = too-short _ (now (c .before .before .before .before .before .before .before .before .args .out)) (omega (arith, runs-length (c .before .before .before .before .before .before .before .before .pre) (c .before .scan .ensures), c .if1 .taken))

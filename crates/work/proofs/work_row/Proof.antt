@@ -5,7 +5,8 @@ use native.Mathlib.Omega.{arith}
 use mir.Syntax.{w64}
 use borrow.Author.Needs.{needs}
 use Rattle.number.specs.Word.{back}
-use Rattle.work.specs.CallLaws.{along, lines-few, work-is}
+use Rattle.run_level.specs.AlongLaws.{along, lines-few}
+use Rattle.work.specs.CallLaws.{work-is}
 use Rattle.work.proofs.work_row.Statement.{statement}
 use Rattle.work.proofs.work_row.Tie as tie
 
@@ -19,7 +20,7 @@ scan-requires c κs =
 
 work-lines-requires : tie.Need-work-lines-requires
 work-lines-requires c κs =
-    along (c .before .before .before .before .before .before .before .before .before .before .before .before .before .pre) (c .before .before .before .before .before .scan .ensures) _ (c .before .before .before .before .before .before .before .before .before .before .begin-pieces .ensures)
+    along (c .before .before .before .before .before .before .before .before .before .before .before .before .before .pre) (c .before .before .before .before .before .scan .ensures) (c .before .before .before .before .before .before .before .before .before .before .begin-pieces .ensures)
 
 cast-t25 : tie.Need-cast-t25
 cast-t25 c =

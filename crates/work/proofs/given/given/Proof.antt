@@ -19,12 +19,12 @@ outcomes-requires c κs = search needs
 
 combine-requires : tie.Need-combine-requires
 combine-requires c κs =
-    let a = c .before .before .before .before in
+    let a = c .before .before .before in
     gives-can (a .pre) (now (a .args .is)) (now (a .args .js)) (now (a .args .lows)) _ _ _ _ (back w64 _ (c .before .middles .ok)) (back w64 _ (c .outcomes .ok)) (c .before .middles .ensures) (c .outcomes .ensures)
 
 returns : tie.Need-returns
 returns c =
-    let a = c .before .before .before .before .before in
+    let a = c .before .before .before .before in
     gives-stores (a .pre) (now (a .args .is)) (now (a .args .js)) (now (a .args .lows)) _ _ _ _ (back w64 _ (c .before .before .middles .ok)) (back w64 _ (c .before .outcomes .ok)) (c .before .before .middles .ensures) (c .before .outcomes .ensures) _ _ (back w64 _ (c .combine .ok)) (c .combine .ensures)
 
 pub given-spec : {M : Type 1} → statement M
