@@ -101,6 +101,7 @@ LONGEST = short(0, 1) + 4095 * (short(1, 1) + close(1)) + close(0)
 
 # What tells each edit from the program.
 INPUTS = {
+    "codec/deeper_dropped": merge(HEAD, TAIL),
     "codec/held_over_ceiling": merge(hill(1, 0, 0, 1, 2, [], 0, [(10, 0, 100, 5)]), SHUT),
     "codec/left_from_peak": summarise(1, D[36:]),
     "codec/middle_left_out": merge(HEAD, hill(1, 2, 1, 1, 1, [0], 7)),
@@ -111,6 +112,8 @@ INPUTS = {
     "day/nothing_is_0": call("day::figures", opening(0, 10) + opening(1, -3) + close(1) + close(0)),
     "day/rest_unread": call("day::figures", D),
     "day/stamp_for_eaten": call("day::figures", D),
+    "emit/peak_counted_twice": merge(HEAD, TAIL, 24),
+    "emit/sixteen_refused": merge(OPEN, OPEN, 16),
     "fault/ground_not_asked": summarise(1, TWO_DAYS),
     "fault/highest_fault": summarise(1, short(0, 1) + TWO_DAYS),
     "fault/takes_100001": call("plan::plan", hill(1, 0, 0, 1, 50_001, [], 0, [(10, 0, 100, 0)]) + hill(1, 1, 0, 0, 50_000, [0], 0)),
@@ -129,7 +132,6 @@ INPUTS = {
     "merge/counts_before_piece": merge(HEAD, TAIL),
     "merge/left_half_twice": call("merge::merge_row", HEAD + TAIL),
     "merge/opened_not_cut": merge(spoilt(1, 9, 0, 1, 100_001), INSIDE),
-    "merge/peak_counted_twice": merge(HEAD, TAIL, 24),
     "merge/pieces_cut_alike": call("merge::merge_row", blank(1) + HEAD),
     "merge/six_before_five": call("merge::merge_row", blank(1) + struct.pack("<HHH", 6, 15, 1)),
     "merge/takes_65": call("merge::merge_row", 65 * blank(1)),

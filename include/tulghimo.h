@@ -35,7 +35,7 @@ int64_t tulghimo_plan(const uint8_t *row, size_t n, uint8_t *out, size_t cap);
 int64_t tulghimo_runs(const uint8_t *row, size_t n, uint8_t *out, size_t cap);
 
 /* The work along the plan of a row: 0 and the figure, the joins used and the number of levels folded, or -4 to -11. */
-int64_t tulghimo_work(const uint8_t *row, size_t n, int64_t answer[3]);
+int64_t tulghimo_work(const uint8_t *row, size_t n, int64_t totals[3]);
 
 /* The figures of a whole log of at most 65,536 bytes: 0 and net, heaviest, eaten and stamp, or -2, -3 or -7 to -11. */
 int64_t tulghimo_day(const uint8_t *log, size_t n, int64_t figures[4]);

@@ -146,7 +146,7 @@ pub fn runs(row: &[u8]) -> Result<Vec<Run>, Refusal> {
 /// # Ok::<(), tulghimo::Refusal>(())
 /// ```
 pub fn work(row: &[u8]) -> Result<Work, Refusal> {
-    let [figure, joins, levels] = numbers(|work| raw::work(row, work))?;
+    let [figure, joins, levels] = numbers(|totals| raw::work(row, totals))?;
     // At most 125 joins of at most 64 levels.
     Ok(Work { figure, joins: joins as u32, levels: levels as u32 })
 }

@@ -12,7 +12,7 @@ mod ffi {
         pub fn tulghimo_finish(summary: *const u8, n: usize, figure: *mut i64) -> i64;
         pub fn tulghimo_plan(row: *const u8, n: usize, out: *mut u8, cap: usize) -> i64;
         pub fn tulghimo_runs(row: *const u8, n: usize, out: *mut u8, cap: usize) -> i64;
-        pub fn tulghimo_work(row: *const u8, n: usize, work: *mut i64) -> i64;
+        pub fn tulghimo_work(row: *const u8, n: usize, totals: *mut i64) -> i64;
         pub fn tulghimo_day(log: *const u8, n: usize, figures: *mut i64) -> i64;
     }
 }
@@ -53,8 +53,8 @@ pub fn runs(row: &[u8], out: &mut [u8]) -> i64 {
 }
 
 /// Works along a row's join plan: 0 and the figure, the joins used and the levels folded, or minus the refusal (4 to 11).
-pub fn work(row: &[u8], work: &mut [i64; 3]) -> i64 {
-    unsafe { ffi::tulghimo_work(row.as_ptr(), row.len(), work.as_mut_ptr()) }
+pub fn work(row: &[u8], totals: &mut [i64; 3]) -> i64 {
+    unsafe { ffi::tulghimo_work(row.as_ptr(), row.len(), totals.as_mut_ptr()) }
 }
 
 /// The figures of a whole log: 0 and net, heaviest, eaten and stamp, or minus the refusal (2, 3 or 7 to 11).

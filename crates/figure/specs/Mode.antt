@@ -1,18 +1,19 @@
 -- A mode with all that belongs to it, and the modes by their numbers. Each later theorem takes a `Mode`.
 use mathlib.Core.Path.{_≡_, refl}
 use mathlib.Core.Bool.{Bool, true, _&&_}
+use mathlib.Core.List.{List}
 use Prim.Native.Nat.{ℕ, zero, suc, _^_, _≤_, _<_}
 use lib.Dec.{leb, lit≤}
 use lib.IntN.{ℤ, +ℤ-comm}
 use mir.Syntax.{w64}
 use mir.Val.{SFits}
 use Rattle.algebra.specs.Algebra.{Algebra, Laws, Commutative}
-use Rattle.algebra.specs.Run.{Context}
+use Rattle.algebra.specs.Run.{Level, Context}
 use Rattle.algebra.specs.Sizes.{Sizes, RunSizes}
 use Rattle.number.specs.IntegerLaws.{sfits-abs}
 use Rattle.figure.specs.FourModes.{Amounts, limit, InRange, net, heaviest, eaten, stamp, storeHeld, readHeld, storeStamp, readStamp, isStamp}
 use Rattle.figure.specs.ModeLaws.{netLaws, eatenLaws, heaviestLaws, heaviest-comm, stampLaws, stamp-comm}
-use Rattle.figure.specs.Run.{netRun, heaviestRun, eatenRun, stampRun}
+use Rattle.figure.specs.Run.{netRun, IsNetRun, heaviestRun, IsHeaviestRun, eatenRun, IsEatenRun, stampRun, IsStampRun}
 use Rattle.figure.specs.Runs.{netContext, heaviestContext, eatenContext, stampContext}
 use Rattle.figure.specs.RunUnique.{Pinned, netPinned, heaviestPinned, eatenPinned, stampPinned}
 use Rattle.figure.specs.Bound.{netSizes, netRunSizes, heaviestSizes, heaviestRunSizes, eatenSizes, eatenRunSizes, stampSizes, stampRunSizes}
@@ -35,9 +36,10 @@ pub record Mode : Type 1 where
   pub is-figure : (z : ℤ) → isFigure z ≡ true → store (read z) ≡ z
   pub figure-is : (z : ℤ) → store (read z) ≡ z → isFigure z ≡ true
   pub store-fits : (v : algebra .Fig) → sizes .size v < 2 ^ 63 → SFits w64 (store v)
-  -- runs, that their numbers are the only ones, and the numbers as they are stored
+  -- runs: how their numbers are computed, which numbers are the run of given levels, that those computed are and no others, and as they are stored
   pub context : Context algebra InRange
-  pub pinned : Pinned context
+  pub IsRun : List (Level algebra) → context .K → Type 0
+  pub pinned : Pinned context IsRun
   pub runSizes : RunSizes context sizes
   pub storeRun : context .K → Run
   pub readRun : Run → context .K
@@ -59,6 +61,7 @@ mode1 = record {
   figure-is = λ _ _. refl;
   store-fits = sfits-abs w64;
   context = netContext;
+  IsRun = IsNetRun;
   pinned = netPinned;
   runSizes = netRunSizes;
   storeRun = netRun;
@@ -82,6 +85,7 @@ mode2 = record {
   figure-is = λ _ _. refl;
   store-fits = held-fits;
   context = heaviestContext;
+  IsRun = IsHeaviestRun;
   pinned = heaviestPinned;
   runSizes = heaviestRunSizes;
   storeRun = heaviestRun;
@@ -105,6 +109,7 @@ mode3 = record {
   figure-is = λ _ _. refl;
   store-fits = sfits-abs w64;
   context = eatenContext;
+  IsRun = IsEatenRun;
   pinned = eatenPinned;
   runSizes = eatenRunSizes;
   storeRun = eatenRun;
@@ -128,6 +133,7 @@ mode4 = record {
   figure-is = stamp-is;
   store-fits = λ s _. stamp-fits s;
   context = stampContext;
+  IsRun = IsStampRun;
   pinned = stampPinned;
   runSizes = stampRunSizes;
   storeRun = stampRun;

@@ -16,19 +16,18 @@ use Rattle.figure.specs.Runs.{netContext, heaviestContext, eatenContext,
 use Rattle.figure.specs.declared.Held.{Held}
 use Rattle.figure.specs.declared.Held.the-variants.{Nothing, Figure}
 
--- What it is to be the run of levels, that a mode's numbers are, and that no others are.
-pub record Pinned {𝒜 : Algebra Amounts} (C : Context 𝒜 InRange) : Type 1 where
-  pub Is : List (Level 𝒜) → C .K → Type 0
-  pub is : (l : Level 𝒜) (ls : List (Level 𝒜)) → AllSound InRange (l ∷ ls) → Is (l ∷ ls) (run C l ls)
-  pub only : (ls : List (Level 𝒜)) (j k : C .K) → Is ls j → Is ls k → j ≡ k
+-- A mode's numbers are the run of their levels, and no others are; IsRun says which numbers are.
+pub record Pinned {𝒜 : Algebra Amounts} (C : Context 𝒜 InRange) (IsRun : List (Level 𝒜) → C .K → Type 0) : Type 0 where
+  pub is : (l : Level 𝒜) (ls : List (Level 𝒜)) → AllSound InRange (l ∷ ls) → IsRun (l ∷ ls) (run C l ls)
+  pub only : (ls : List (Level 𝒜)) (j k : C .K) → IsRun ls j → IsRun ls k → j ≡ k
 
 -- ---- mode 1: x + a for one x determines a
 
 pub net-only : (ls : List (Level net)) (a b : ℤ) → IsNetRun ls a → IsNetRun ls b → a ≡ b
 net-only ls a b p q = sym (+ℤ-idl a) ∙ p (pos 0) ∙ sym (q (pos 0)) ∙ +ℤ-idl b
 
-abbrev pub netPinned : Pinned netContext
-netPinned = record { Is = IsNetRun; is = run-is netContext; only = net-only }
+abbrev pub netPinned : Pinned netContext IsNetRun
+netPinned = record { is = run-is netContext; only = net-only }
 
 -- ---- mode 2: far below, x shows A; far above, it shows B; where there is no A, x shows that too
 
@@ -77,8 +76,8 @@ numberOf (Figure z) = z
 pub heaviest-only : (ls : List (Level heaviest)) (j k : Line) → IsHeaviestRun ls j → IsHeaviestRun ls k → j ≡ k
 heaviest-only ls j k p q = line-≡ j k (λ x. ap numberOf (p x ∙ sym (q x)))
 
-abbrev pub heaviestPinned : Pinned heaviestContext
-heaviestPinned = record { Is = IsHeaviestRun; is = run-is heaviestContext; only = heaviest-only }
+abbrev pub heaviestPinned : Pinned heaviestContext IsHeaviestRun
+heaviestPinned = record { is = run-is heaviestContext; only = heaviest-only }
 
 -- A is nothing exactly where no other figure is on the way.
 
@@ -159,8 +158,8 @@ eaten-only ls j k p q =
     ≤-antisym (subst (λ y. y ≤ℤ k .high) (p .gives-high .1) (q .not-above (p .gives-high .0))) (subst (λ y. y ≤ℤ j .high) (q .gives-high .1) (p .not-above (q .gives-high .0))) in
     λ i. record { add = a i; low = l i; high = h i }
 
-abbrev pub eatenPinned : Pinned eatenContext
-eatenPinned = record { Is = IsEatenRun; is = eaten-is; only = eaten-only }
+abbrev pub eatenPinned : Pinned eatenContext IsEatenRun
+eatenPinned = record { is = eaten-is; only = eaten-only }
 
 -- Where low is below high, what a run does determines a as well.
 
@@ -220,5 +219,5 @@ affine-≡ j k e =
 pub stamp-only : (ls : List (Level stamp)) (j k : Affine) → IsStampRun ls j → IsStampRun ls k → j ≡ k
 stamp-only ls j k p q = affine-≡ j k (λ x. p x ∙ sym (q x))
 
-abbrev pub stampPinned : Pinned stampContext
-stampPinned = record { Is = IsStampRun; is = run-is stampContext; only = stamp-only }
+abbrev pub stampPinned : Pinned stampContext IsStampRun
+stampPinned = record { is = run-is stampContext; only = stamp-only }

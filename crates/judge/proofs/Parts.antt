@@ -4,18 +4,17 @@ use mathlib.Core.Bool.{Bool, true, false, cond, _&&_}
 use mathlib.Core.List.{List}
 use Prim.Native.Nat.{ℕ, _≤_, _<_}
 use native.Mathlib.Omega.{arith}
-use lib.Dec.{leb, eqb}
+use lib.Dec.{eqb}
 use lib.ListN.{length}
-use borrow.Author.Tests.{leb-true, leb-false, ne-eqb}
+use borrow.Author.Tests.{ne-eqb}
 use Rattle.gate.specs.Outcome.{refused, result}
 use Rattle.figure.specs.Mode.{modeInUse}
 use Rattle.summary.specs.Judge.{lengthAt, kindAt, modeAt, startAt, peakAt, endAt}
 use Rattle.summary.specs.Decide.{layoutFits, levelsFit, openedFits, middleFits, recordsFit, valuesFit, hillFits, isSummary}
-use Rattle.summary.specs.Tests.{tells-and, tells-le, tells-eq, tells-true, false-true}
-use Rattle.summary.specs.DecideLaws.{decide-summary}
-use Rattle.judge.specs.Judged.{hillHeadAt, headAt, pieceAt, judgedOf}
+use Rattle.summary.specs.Tests.{tells-and, tells-le, tells-eq, tells-true}
+use Rattle.judge.specs.Judged.{headAt, judgedOf}
 use Rattle.judge.specs.Laid.{hillLength, isSpoiltTest, isHillTest, Levels, Laid}
-use Rattle.judge.specs.Laws.{judged-yes, judged-no, test-hill, head-hill, Judges, hill-is, hill-laid}
+use Rattle.judge.specs.Laws.{judged-yes, judged-no}
 use Rattle.judge.specs.declared.Head.{Head}
 
 and-false : (t : Bool) → t && false ≡ false
@@ -74,19 +73,6 @@ module _ (b : List ℕ) where
   hill-tests o m r v l a eo em er ev = rw (l, a) (ap₂ _&&_ (ap₂ _&&_ (ap₂ _&&_ eo em) er) ev)
 
   -- ---- an answer
-
-  pub spoilt-long : isSpoiltTest b ≡ true → 16 ≤ length b
-  spoilt-long e = go (leb 16 (length b)) refl
-    where
-      go : (t : Bool) → leb 16 (length b) ≡ t → 16 ≤ length b
-      go true y = leb-true 16 (length b) y
-      go false n = false-true (sym (short-spoilt (leb-false 16 (length b) n)) ∙ e)
-
-  pub hill-long : (kindAt b ≡ 16 → ⊥) → (kindAt b ≡ 17 → ⊥) → isHillTest b ≡ true → Laid b
-  hill-long m n e =
-      let y : isSummary b ≡ true = test-hill b m n ∙ e in
-      let j : Judges b (pieceAt b) = record { test = y; summary = decide-summary b .from y; piece = refl } in
-      hill-laid (hill-is j (hillHeadAt b) (head-hill b m n) .0)
 
   pub answer-yes : isSummary b ≡ true → (m : ℕ) (h : Head) → m ≡ modeAt b → h ≡ headAt b → result (record { mode = m; head = h }) ≡ judgedOf b
   answer-yes y m h p q = ap₂ (λ (k : ℕ) (x : Head). result (record { mode = k; head = x })) p q ∙ sym (judged-yes b y)

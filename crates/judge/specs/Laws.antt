@@ -2,10 +2,11 @@
 use mathlib.Core.Path.{_≡_, refl, sym, ap, _∙_, subst}
 use mathlib.Core.Bool.{Bool, true, false, cond}
 use mathlib.Core.List.{List}
-use Prim.Native.Nat.{ℕ}
+use Prim.Native.Nat.{ℕ, _≤_}
 use native.Mathlib.Omega.{arith}
 use lib.Dec.{eqb}
 use lib.IntN.{ℤ}
+use lib.ListN.{length}
 use borrow.Author.Tests.{ne-eqb}
 use Rattle.gate.specs.Outcome.{refused, result}
 use Rattle.figure.specs.FourModes.{readHeld, storeHeld}
@@ -139,19 +140,35 @@ said-hill (saidBlank f) s q = let z : _≡_ {A = ℕ} 0 1 = cc in absurd (omega 
 said-hill (saidSpoilt v) s q = let z : _≡_ {A = ℕ} 0 1 = cc in absurd (omega arith)
 said-hill (saidHill v) s q = (v, cc)
 
+module _ {b : List ℕ} (i : IsSummary b) where
+  pub blank-at : headAt b ≡ Blank → HasLayout b 16 6
+  blank-at q = said-blank (said b i) q
+
+  pub spoilt-at : (h : SpoiltHead) → headAt b ≡ Spoilt h → IsSpoilt b × (h ≡ spoiltHeadAt b)
+  spoilt-at h q = said-spoilt (said b i) h q
+
+  pub hill-at : (h : HillHead) → headAt b ≡ Hill h → IsHill b × (h ≡ hillHeadAt b)
+  hill-at h q = said-hill (said b i) h q
+
 module _ {b : List ℕ} {p : Piece} (j : Judges b p) where
   -- the head stands where the bytes say
   at-head : headAt b ≡ p .head
   at-head = sym (ap (λ (x : Piece). x .head) (j .piece))
 
   pub blank-is : p .head ≡ Blank → HasLayout b 16 6
-  blank-is q = said-blank (said b (j .summary)) (at-head ∙ q)
+  blank-is q = blank-at (j .summary) (at-head ∙ q)
 
   pub spoilt-is : (h : SpoiltHead) → p .head ≡ Spoilt h → IsSpoilt b × (h ≡ spoiltHeadAt b)
-  spoilt-is h q = said-spoilt (said b (j .summary)) h (at-head ∙ q)
+  spoilt-is h q = spoilt-at (j .summary) h (at-head ∙ q)
 
   pub hill-is : (h : HillHead) → p .head ≡ Hill h → IsHill b × (h ≡ hillHeadAt b)
-  hill-is h q = said-hill (said b (j .summary)) h (at-head ∙ q)
+  hill-is h q = hill-at (j .summary) h (at-head ∙ q)
+
+-- length, kind and mode are there
+pub six : {b : List ℕ} → IsSummary b → 6 ≤ length b
+six (isBlank f) = omega (arith, f .length-fits)
+six (isSpoilt v) = omega (arith, v .layout .length-fits)
+six (isHill v) = omega (arith, v .layout .length-fits)
 
 -- all the bytes that a hill's numbers stand in are there
 pub hill-laid : {b : List ℕ} → IsHill b → Laid b

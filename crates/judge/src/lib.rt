@@ -4,7 +4,7 @@ ghost use Prim.Native.Nat.{_+_, _≤_, min};
 ghost use lib.ListN.{length};
 ghost use Rattle.figure.specs.Mode.{modeOf};
 ghost use Rattle.figure.specs.Stored.{sizeOf};
-ghost use Rattle.summary.specs.Judge.{riseAt, fallAt, sumTo};
+ghost use Rattle.summary.specs.Judge.{riseAt, fallAt, sumTo, IsSummary};
 ghost use Rattle.summary.specs.Decide.{
   allTo,
   layoutFits,
@@ -14,8 +14,9 @@ ghost use Rattle.summary.specs.Decide.{
   middleFits,
   recordsFit,
   valuesFit,
+  isSummary,
 };
-ghost use Rattle.judge.specs.Judged.{heldIn, spoiltHeadAt, hillHeadAt, judgedAnswer, judgedOf};
+ghost use Rattle.judge.specs.Judged.{heldIn, spoiltHeadAt, hillHeadAt, headAt, judgedAnswer, judgedOf};
 ghost use Rattle.judge.specs.Laid.{
   isSpoiltTest,
   isHillTest,
@@ -46,6 +47,7 @@ pub struct HillHead {
     pub middle: Held,
 }
 
+// A summary is one of three cases: a chunk with no record, one with a fault, or a hill, whose slopes stay in the bytes.
 pub enum Head {
     Blank,
     Spoilt(SpoiltHead),
@@ -331,6 +333,33 @@ fn hill_head(b: &[u8]) -> HillHead
     }
 }
 
+// Which of the three cases the bytes of a summary are, and what it says.
+pub fn head_of(b: &[u8]) -> Head
+    requires { ⌜ IsSummary (now b) ⌝ }
+    ensures { λ r. ⌜ r ≡ headAt (now (b .entry)) ⌝ }
+{
+    let kind = number::read_u16(b, 2);
+    match kind {
+        16 => Head::Blank,
+        17 => Head::Spoilt(spoilt_head(b)),
+        _ => Head::Hill(hill_head(b)),
+    }
+}
+
+// ---- question 5
+
+fn is_summary(b: &[u8]) -> bool
+    requires { ⌜ 6 ≤ length (now b) ⌝ }
+    ensures { λ r. ⌜ r ≡ isSummary (now (b .entry)) ⌝ }
+{
+    let kind = number::read_u16(b, 2);
+    match kind {
+        16 => layout_fits(b, 16, 6),
+        17 => is_spoilt(b),
+        _ => is_hill(b),
+    }
+}
+
 // Whether bytes are exactly one summary, and which.
 pub fn judge(b: &[u8]) -> Judged
     ensures { λ r. ⌜ judgedAnswer r ≡ judgedOf (now (b .entry)) ⌝ }
@@ -338,34 +367,11 @@ pub fn judge(b: &[u8]) -> Judged
     if b.len() < 6 {
         return Judged::NotOne;
     }
-    let mode = number::read_u16(b, 4);
-    let kind = number::read_u16(b, 2);
-    match kind {
-        16 => {
-            if layout_fits(b, 16, 6) {
-                Judged::Summary(Piece {
-                    mode,
-                    head: Head::Blank,
-                })
-            } else {
-                Judged::NotOne
-            }
-        }
-        17 => {
-            if is_spoilt(b) {
-                let head = Head::Spoilt(spoilt_head(b));
-                Judged::Summary(Piece { mode, head })
-            } else {
-                Judged::NotOne
-            }
-        }
-        _ => {
-            if is_hill(b) {
-                let head = Head::Hill(hill_head(b));
-                Judged::Summary(Piece { mode, head })
-            } else {
-                Judged::NotOne
-            }
-        }
+    if !is_summary(b) {
+        return Judged::NotOne;
     }
+    Judged::Summary(Piece {
+        mode: number::read_u16(b, 4),
+        head: head_of(b),
+    })
 }

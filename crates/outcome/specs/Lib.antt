@@ -1,5 +1,6 @@
--- What must be believed: Outcomes, definitions only. Worked cases are in Examples; Laws says what the questions find, Through what they let through.
+-- What must be believed: Outcomes, definitions only. Worked cases are in Examples; Laws says what the questions find, Through what they let through, RunsWritten that the runs are the paper's.
 pub mod Outcomes
 pub mod Examples
 pub mod Laws
 pub mod Through
+pub mod RunsWritten

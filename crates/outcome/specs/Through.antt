@@ -71,7 +71,7 @@ ask-found ps s e = go (twoTo64 ps) refl (allSummaries ps) refl (allOf (firstMode
 
 -- ---- 7 to 11, and the plan
 
-log-found : (s t : Summaries) → askLog s ≡ result t → (rowFault (s .row) ≡ pass) × (s ≡ t)
+pub log-found : (s t : Summaries) → askLog s ≡ result t → (rowFault (s .row) ≡ pass) × (s ≡ t)
 unfolding askLog
 log-found s t e = go (rowFault (s .row)) e
   where

@@ -44,5 +44,5 @@ figuresAfter (result f) figures = sets figures 0 (f .net ∷ f .heaviest ∷ f .
 
 -- The buffer of three with "the figure, the joins used (its lines) and the number of levels folded", or as it was.
 abbrev pub workAfter : Outcome (Work ℤ) → List ℤ → List ℤ
-workAfter (refused n) answer = answer
-workAfter (result w) answer = sets answer 0 (w .figure ∷ pos (w .joins) ∷ pos (w .levels) ∷ [])
+workAfter (refused n) totals = totals
+workAfter (result w) totals = sets totals 0 (w .figure ∷ pos (w .joins) ∷ pos (w .levels) ∷ [])

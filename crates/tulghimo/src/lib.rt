@@ -60,15 +60,15 @@ fn put_figures(f: Figures, figures: &mut [i64; 4]) -> i64
 }
 
 // The figure, the joins and the levels of the work along a plan, stored in their order.
-fn put_totals(t: Totals, answer: &mut [i64; 3]) -> i64
-    ensures { λ r. ⌜ (r ≡ pos 0) × (now (answer .exit) ≡ workAfter (result (workIn t)) (now (answer .entry))) ⌝ }
+fn put_totals(t: Totals, totals: &mut [i64; 3]) -> i64
+    ensures { λ r. ⌜ (r ≡ pos 0) × (now (totals .exit) ≡ workAfter (result (workIn t)) (now (totals .entry))) ⌝ }
 {
     let figure = t.figure;
     let joins = number::from_u32(t.joins);
     let levels = number::from_u32(t.levels);
-    answer[0] = figure;
-    answer[1] = joins;
-    answer[2] = levels;
+    totals[0] = figure;
+    totals[1] = joins;
+    totals[2] = levels;
     0
 }
 
@@ -151,15 +151,15 @@ pub extern "C" fn tulghimo_runs(row: &[u8], out: &mut [u8]) -> i64
     status(written)
 }
 
-// The work along a row's plan: 0 and the figure, the joins used and the levels folded, or minus the refusal and `answer` as it was.
+// The work along a row's plan: 0 and the figure, the joins used and the levels folded, or minus the refusal and `totals` as it was.
 #[no_mangle]
-pub extern "C" fn tulghimo_work(row: &[u8], answer: &mut [i64; 3]) -> i64
+pub extern "C" fn tulghimo_work(row: &[u8], totals: &mut [i64; 3]) -> i64
     ensures answer { λ r. ⌜ r ≡ statusOf (workOutcome (now (row .entry))) ⌝ }
-    ensures buffer { λ _. ⌜ now (answer .exit) ≡ workAfter (workOutcome (now (row .entry))) (now (answer .entry)) ⌝ }
+    ensures buffer { λ _. ⌜ now (totals .exit) ≡ workAfter (workOutcome (now (row .entry))) (now (totals .entry)) ⌝ }
 {
     let d = work::work(row);
     match d {
-        Worked::Done(t) => put_totals(t, answer),
+        Worked::Done(t) => put_totals(t, totals),
         Worked::Refused(n) => refusal(n),
     }
 }
