@@ -7,13 +7,13 @@ use native.Mathlib.Omega.{arith}
 use lib.Dec.{eqb}
 use lib.ListN.{length}
 use Rattle.hill.specs.Verdict.{Verdict, pass, low, ask, between, count, ends}
-use Rattle.hill.specs.VerdictLaws.{low-pass, low-comm, low-assoc, low-fst, low-snd, between-pass}
-use Rattle.hill.specs.Log.{Record, opening, closing, startLevel, endLevel, endOf, openedOf, joints, logFault}
-use Rattle.hill.specs.Growth.{grown}
+use Rattle.hill.specs.VerdictLaws.{low-pass, low-comm, low-assoc, low-fst, low-snd, between-pass, count-few}
+use Rattle.hill.specs.Log.{Record, startLevel, endLevel, endOf, openedOf, joints, logFault}
+use Rattle.hill.specs.Growth.{grown, opened-few}
 use Rattle.figure.specs.FourModes.{Amounts}
 use Rattle.figure.specs.Mode.{modeOf}
 use Rattle.fault.specs.Fault.{noFault, verdictOf}
-use Rattle.fault.specs.Laws.{clear, clear-is, is-clear, ground-pass, count-few}
+use Rattle.fault.specs.Laws.{clear, clear-is, is-clear, ground-pass}
 use Rattle.day.specs.declared.Tally.{Tally}
 
 -- ---- definitions
@@ -97,14 +97,9 @@ pub no-record : {t : Tally} (xs : List (Record Amounts)) → Tallied t xs → t 
 no-record [] k e = refl
 no-record (x ∷ xs) k e = cc (k .begun)
 
-pub opened-length : (xs : List (Record Amounts)) → openedOf xs ≤ length xs
-opened-length [] = omega arith
-opened-length (opening d r ∷ xs) = omega (arith, opened-length xs)
-opened-length (closing d ∷ xs) = omega (arith, opened-length xs)
-
 -- question 9 cannot get a "no" where there are too few records
 few-opened : (xs : List (Record Amounts)) → length xs ≤ 100_000 → count (openedOf xs) ≡ pass
-few-opened xs l = count-few (openedOf xs) (omega (arith, opened-length xs))
+few-opened xs l = count-few (openedOf xs) (omega (arith, opened-few xs))
 
 -- what is asked of the levels and of their fault
 pub log-fault : {t : Tally} (xs : List (Record Amounts)) → Tallied t xs → t .begun ≡ true → length xs ≤ 100_000 → low (verdictOf (t .fault)) (ask 11 (eqb (t .level) 0)) ≡ logFault xs

@@ -1,12 +1,12 @@
 -- What the pass over a log keeps from turn to turn, and what it comes to at the end. Assumes nothing.
-use mathlib.Core.Path.{_≡_, refl, sym, ap, subst, _∙_}
+use mathlib.Core.Path.{_≡_, sym, ap, subst, _∙_}
 use mathlib.Core.Bool.{true, false}
 use mathlib.Core.List.{List, [], _∷_, _++_}
-use Prim.Native.Nat.{ℕ, suc, _-_, _≤_, _<_}
+use Prim.Native.Nat.{ℕ, _-_, _≤_, _<_}
 use native.Mathlib.Omega.{arith}
 use lib.Dec.{eqb}
 use lib.IntN.{ℤ}
-use lib.ListN.{length, take, drop}
+use lib.ListN.{length, length-map, take, drop}
 use Rattle.gate.specs.Outcome.{refused, result}
 use Rattle.record.specs.Record.{readOf}
 use Rattle.record.specs.Laws.{sound}
@@ -30,22 +30,14 @@ use Rattle.fault.specs.Fault.{noFault, verdictOf}
 use Rattle.fault.specs.Laws.{clear-is, found-is, is-clear, ground-pass}
 use Rattle.summary.specs.Values.{tells-range}
 use Rattle.summary.specs.Outcomes.{recordOf, chunkOf}
+use Rattle.summary.specs.OutcomeLaws.{chunk-append}
+use Rattle.hill.specs.Growth.{opened-few}
 use Rattle.text.specs.declared.Figures.{Figures}
 use Rattle.day.specs.declared.Tally.{Tally}
 use Rattle.day.specs.Day.{figureIn, figuresOf, dayOutcome}
 use Rattle.day.specs.DayLaws.{unreadable, readable}
-use Rattle.day.specs.Levels.{Noted, Tallied, none-yet, tallied, was-none, meets, opened-length, no-record, log-fault}
+use Rattle.day.specs.Levels.{Noted, Tallied, none-yet, tallied, was-none, meets, no-record, log-fault}
 use Rattle.day.specs.Pass.{rising, Stands, Standing, Ready, Applied}
-
--- ---- records one after the other
-
-chunk-more : (fs : List Fields) (f : Fields) → chunkOf (fs ++ (f ∷ [])) ≡ chunkOf fs ++ (recordOf f ∷ [])
-chunk-more [] f = refl
-chunk-more (g ∷ fs) f = ap (λ (xs : List (Record Amounts)). recordOf g ∷ xs) (chunk-more fs f)
-
-chunk-length : (fs : List Fields) → length (chunkOf fs) ≡ length fs
-chunk-length [] = refl
-chunk-length (f ∷ fs) = ap suc (chunk-length fs)
 
 -- ---- the figures
 
@@ -112,7 +104,7 @@ begin {log} short b l f e = record {
 
 module _ {log rest : List ℕ} {t : Tally} {mid : Figures} {vs fs cs ns hs es ss : List ℤ} (i : Inv log rest t mid vs fs cs ns hs es ss) where
   few : length (chunkOf (i .done)) ≤ 100_000
-  few = omega (arith, i .short, i .handed .few, chunk-length (i .done))
+  few = omega (arith, i .short, i .handed .few, length-map (i .done) recordOf)
 
   -- ---- one turn
 
@@ -126,7 +118,7 @@ module _ {log rest : List ℕ} {t : Tally} {mid : Figures} {vs fs cs ns hs es ss
     pub ready : {t′ : Tally} → Noted t (recordOf f) t′ → Ready (t′ .fault) f mid vs fs cs ns hs es ss
     ready n = record {
       records = chunkOf (i .done);
-      few = omega (arith, few, opened-length (chunkOf (i .done)));
+      few = omega (arith, few, opened-few (chunkOf (i .done)));
       standing = standing-before n;
       deep = read-deep;
       in-range = tells-range (f .depth) (amounts (f .value) (f .floor) (f .ceiling)) .from (sound rest f e .ranged) .1;
@@ -138,8 +130,8 @@ module _ {log rest : List ℕ} {t : Tally} {mid : Figures} {vs fs cs ns hs es ss
       short = i .short;
       done = i .done ++ (f ∷ []);
       handed = handing.next (i .handed) f e;
-      noted = rw (chunk-more (i .done) f) (tallied (i .noted) n);
-      standing = λ z. rw (chunk-more (i .done) f, n .level) (a z (chunkOf (i .done)) (standing-before n z));
+      noted = rw (chunk-append (i .done) (f ∷ [])) (tallied (i .noted) n);
+      standing = λ z. rw (chunk-append (i .done) (f ∷ []), n .level) (a z (chunkOf (i .done)) (standing-before n z));
     }
 
   pub stopped : 0 < length rest → readOf rest ≡ refused 3 → dayOutcome log ≡ refused 3

@@ -6,9 +6,9 @@ use Prim.Native.Nat.{ℕ, _≤_, _<_}
 use native.Mathlib.Decide.{decLt}
 use native.Mathlib.Omega.{arith}
 use lib.Dec.{ltb, eqb}
-use borrow.Author.Tests.{lt-ltb, le-ltb, le-leb, lt-leb, eq-eqb, ne-eqb, eqb-true}
+use borrow.Author.Tests.{lt-ltb, le-ltb, lt-leb, eq-eqb, ne-eqb, eqb-true}
 use Rattle.hill.specs.Verdict.{Verdict, pass, refuse, low, lower, ask, between, count}
-use Rattle.hill.specs.VerdictLaws.{low-pass, low-comm, refuse-pass}
+use Rattle.hill.specs.VerdictLaws.{low-pass, low-comm, refuse-pass, count-few}
 use Rattle.fault.specs.Fault.{noFault, verdictOf}
 
 -- ---- a fault or none
@@ -60,10 +60,6 @@ unfolding between verdictOf
 above a b h z = rw (eq-eqb a b h, lt-ltb 0 a (omega arith))
 
 -- ---- question 9
-
-pub count-few : (n : ℕ) → n ≤ 100000 → count n ≡ pass
-unfolding count
-count-few n h = rw (le-leb n 100000 h)
 
 pub few : (n : ℕ) → n ≤ 100000 → verdictOf noFault ≡ count n
 few n h = clear noFault (omega arith) ∙ sym (count-few n h)

@@ -1,13 +1,13 @@
 -- A chunk with one record more at its end: what a pass over the records goes by. Assumes nothing.
 use mathlib.Core.Path.{_≡_, refl, ap, sym, _∙_}
 use mathlib.Core.List.{List, [], _∷_, _++_}
-use Prim.Native.Nat.{suc, _+_, _-_, min}
+use Prim.Native.Nat.{suc, _+_, _-_, _≤_, min}
 use native.Mathlib.Omega.{arith}
 use lib.ListN.{length}
 use Rattle.algebra.specs.Algebra.{Algebra}
 use Rattle.hill.specs.Verdict.{low, between}
 use Rattle.hill.specs.VerdictLaws.{low-pass, low-assoc}
-use Rattle.hill.specs.Log.{Record, depth, startLevel, endLevel, endOf, peakOf, opens, openedOf, joints}
+use Rattle.hill.specs.Log.{Record, opening, closing, depth, startLevel, endLevel, endOf, peakOf, opens, openedOf, joints}
 use Rattle.hill.specs.Closing.{at}
 use Rattle.hill.specs.Building.{empty, step, hillOf, run-append}
 
@@ -27,6 +27,11 @@ module _ {R : Type 0} where
   pub opened-append : (xs ys : List (Record R)) → openedOf (xs ++ ys) ≡ openedOf xs + openedOf ys
   opened-append [] ys = omega arith
   opened-append (x ∷ xs) ys = omega (arith, opened-append xs ys)
+
+  pub opened-few : (xs : List (Record R)) → openedOf xs ≤ length xs
+  opened-few [] = omega arith
+  opened-few (opening d r ∷ xs) = omega (arith, opened-few xs)
+  opened-few (closing d ∷ xs) = omega (arith, opened-few xs)
 
   -- The last record, by its place.
   pub end-at : (x : Record R) (xs : List (Record R)) → endLevel (at (x ∷ xs) (suc (length xs) - 1)) ≡ endOf x xs

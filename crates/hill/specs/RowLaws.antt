@@ -1,20 +1,17 @@
 -- Every way of cutting a log and of merging the pieces comes to the summary of the joined chunks. Assumes nothing.
 use mathlib.Core.Path.{_≡_, refl, sym, subst, _∙_}
 use mathlib.Core.Bool.{Bool, true, false, cond}
-use mathlib.Core.List.{List, [], _∷_, _++_, map, map-append, append-assoc, append-nil}
+use mathlib.Core.List.{List, [], _∷_, _++_, map, map-append, append-assoc}
 use Prim.Native.Nat.{ℕ, zero, suc, _+_, _/_, _≤_}
 use native.Mathlib.Omega.{arith}
 use lib.ListN.{length, take, drop, length-take, length-drop, take-append-drop}
 use Rattle.algebra.specs.Algebra.{Algebra, Laws}
 use Rattle.gate.specs.Outcome.{Outcome, refused, result}
-use Rattle.hill.specs.Log.{Record, logFault}
-use Rattle.hill.specs.Figure.{figureOf}
+use Rattle.hill.specs.Log.{Record}
 use Rattle.hill.specs.Summary.{Summary, blank, summaryOf}
 use Rattle.hill.specs.Merge.{mergeSummary}
-use Rattle.hill.specs.Finish.{outcome, finishOf}
 use Rattle.hill.specs.Row.{joined, halves, mergeRow, Call, answer, put, replay, answers, Proper, fitting, onResult}
 use Rattle.hill.specs.SummaryLaws.{mergeSummary-assoc, merge-blank, summaryOf-append}
-use Rattle.hill.specs.FinishLaws.{finish-log}
 
 -- Half with half comes to merging in order, for every associative merge with a unit.
 module _ {A : Type 0} (merge : A → A → A) (unit : A) where
@@ -39,12 +36,12 @@ module _ {A : Type 0} (merge : A → A → A) (unit : A) where
         (sym (inOrder-append (take h w) (drop h w)) ∙ rw (take-append-drop h w))
 
 module _ {S A : Type 0} (φ : S → A) where
-  map-take : (n : ℕ) (l : List S) → map φ (take n l) ≡ take n (map φ l)
+  pub map-take : (n : ℕ) (l : List S) → map φ (take n l) ≡ take n (map φ l)
   map-take zero l = refl
   map-take (suc n) [] = refl
   map-take (suc n) (x ∷ l) = rw (map-take n l)
 
-  map-drop : (n : ℕ) (l : List S) → map φ (drop n l) ≡ drop n (map φ l)
+  pub map-drop : (n : ℕ) (l : List S) → map φ (drop n l) ≡ drop n (map φ l)
   map-drop zero l = refl
   map-drop (suc n) [] = refl
   map-drop (suc n) (x ∷ l) = map-drop n l
@@ -119,48 +116,3 @@ module _ {R : Type 0} (𝒜 : Algebra R) (ℒ : Laws 𝒜) where
   -- The chunks' summaries merged are the summary of the joined chunks.
   pub mergeRow-summaries : (xs : List (List (Record R))) → mergeRow 𝒜 (map (summaryOf 𝒜) xs) ≡ summaryOf 𝒜 (joined xs)
   mergeRow-summaries xs = mergeRow-inOrder (map (summaryOf 𝒜) xs) ∙ inOrder-summaries xs
-
-  -- What a merge of summaries needs of its buffer it needs of the stretch.
-  module _ {B : Type 0} (fits : B → Summary Fig R → Bool) where
-    abbrev pub mergeCall : List (Summary Fig R) → B → Outcome (Summary Fig R)
-    mergeCall = fitting fits (mergeRow 𝒜)
-
-    abbrev pub stretchCall : List (List (Record R)) → B → Outcome (List (Record R))
-    stretchCall = fitting (λ b x. fits b (summaryOf 𝒜 x)) joined
-
-    call-same : (l : List (List (Record R))) (b : B) → mergeCall (map (summaryOf 𝒜) l) b ≡ onResult (summaryOf 𝒜) (stretchCall l b)
-    call-same l b = rw (mergeRow-summaries l) (go (fits b (summaryOf 𝒜 (joined l))))
-      where
-        go : (t : Bool) → cond t (result (summaryOf 𝒜 (joined l))) (refused 12) ≡ onResult (summaryOf 𝒜) (cond t (result (joined l)) (refused 12))
-        go true = refl
-        go false = refl
-
-    -- The claim about a log, its cut and a list of merges, each with a buffer: each summary of the row is that of its stretch, each merge answers
-    -- the summary of its joined stretches where that fits, the stretches joined are the log, and a row of one is finished with what the log says.
-    pub record RowClaim (cs : List (Call B)) (st : List (List (Record R))) : Type 0 where
-      pub pieces : replay mergeCall cs (map (summaryOf 𝒜) st) ≡ map (summaryOf 𝒜) (replay stretchCall cs st)
-      pub answered : answers mergeCall cs (map (summaryOf 𝒜) st) ≡ map (onResult (summaryOf 𝒜)) (answers stretchCall cs st)
-      pub kept : joined (replay stretchCall cs st) ≡ joined st
-      pub finished : (s : Summary Fig R) → replay mergeCall cs (map (summaryOf 𝒜) st) ≡ s ∷ [] → finishOf 𝒜 s ≡ outcome (logFault (joined st)) (figureOf 𝒜 (joined st))
-
-    only : (xs : List (List (Record R))) (s : Summary Fig R) → map (summaryOf 𝒜) xs ≡ s ∷ [] → s ≡ summaryOf 𝒜 (joined xs)
-    only [] s k = cc
-    only (x ∷ []) s k = rw (append-nil x) (cc)
-    only (x ∷ (y ∷ xs)) s k = cc
-
-    -- Every list of merges will do.
-    proper : (cs : List (Call B)) (row : List (Summary Fig R)) → Proper mergeCall (λ c r. Unit {0}) cs row
-    proper [] row = tt
-    proper (c ∷ cs) row = (tt, proper cs (put mergeCall (answer mergeCall c row) c row))
-
-    pub row-claim : (cs : List (Call B)) (st : List (List (Record R))) → RowClaim cs st
-    row-claim cs st =
-        let t = replay-same (summaryOf 𝒜) stretchCall mergeCall (λ c r. Unit {0}) (λ r. Unit {0})
-        (λ c st i k. record { same = call-same (take (c .many) (drop (c .place) st)) (c .lent); kept = tt }) cs st tt (proper cs (map (summaryOf 𝒜) st)) in
-        let j : joined (replay stretchCall cs st) ≡ joined st = replay-joined (λ b x. fits b (summaryOf 𝒜 x)) cs st in
-        record {
-          pieces = t .rows;
-          answered = t .told;
-          kept = j;
-          finished = λ s k. rw (only (replay stretchCall cs st) s (sym (t .rows) ∙ k), j) (finish-log 𝒜 ℒ (joined st));
-        }

@@ -53,6 +53,10 @@ pub count-pass : (n : ℕ) → count n ≡ pass → n ≤ 100000
 unfolding count
 count-pass n e = leb-true n 100000 (ask-pass 9 (leb n 100000) e)
 
+pub count-few : (n : ℕ) → n ≤ 100000 → count n ≡ pass
+unfolding count
+count-few n l = rw (le-leb n 100000 l)
+
 pub cut-few : (n : ℕ) → n ≤ 100000 → cut n ≡ n
 unfolding cut
 cut-few n l = omega arith

@@ -14,7 +14,7 @@ use Rattle.figure.specs.Mode.{modeOf, modeInUse}
 use Rattle.hill.specs.Summary.{Summary, blank}
 use Rattle.hill.specs.Merge.{mergeSummary}
 use Rattle.hill.specs.Row.{halves, mergeRow}
-use Rattle.hill.specs.RowLaws.{inOrder, halves-inOrder, mergeRow-inOrder}
+use Rattle.hill.specs.RowLaws.{inOrder, halves-inOrder, mergeRow-inOrder, map-take, map-drop}
 use Rattle.hill.specs.SummaryLaws.{merge-blank, mergeSummary-assoc}
 use Rattle.hill.specs.ValidLaws.{valid-mergeSummary}
 use Rattle.summary.specs.Layout.{SummaryIn, encode}
@@ -43,16 +43,6 @@ module _ {R : Type 0} (𝒜 : Algebra R) (ℒ : Laws 𝒜) where
       ap₂ (mergeSummary 𝒜) (enough (suc (length row)) (take h w) (simp length-take (omega arith))) (enough (suc (length row)) (drop h w) (simp length-drop (omega arith)))
 
 -- ---- lists of pieces
-
-map-take : {A B : Type 0} (f : A → B) (n : ℕ) (l : List A) → map f (take n l) ≡ take n (map f l)
-map-take f zero l = refl
-map-take f (suc n) [] = refl
-map-take f (suc n) (x ∷ l) = rw (map-take f n l)
-
-map-drop : {A B : Type 0} (f : A → B) (n : ℕ) (l : List A) → map f (drop n l) ≡ drop n (map f l)
-map-drop f zero l = refl
-map-drop f (suc n) [] = refl
-map-drop f (suc n) (x ∷ l) = map-drop f n l
 
 end-append : (p q : List (List ℕ)) → endToEnd (p ++ q) ≡ endToEnd p ++ endToEnd q
 end-append [] q = refl

@@ -6,10 +6,9 @@ use native.Mathlib.Nat.{add-assoc, add-zero}
 use native.Mathlib.Omega.{arith}
 use mathlib.Core.Bool.{Bool, true, false}
 use lib.Dec.{leb}
-use borrow.Author.Tests.{le-leb}
 use Rattle.algebra.specs.Algebra.{Algebra, Laws}
 use Rattle.hill.specs.Verdict.{Verdict, pass, refuse, lower, low, ask, between, count, ends}
-use Rattle.hill.specs.VerdictLaws.{low-pass, low-assoc, low-left, low-fst, low-snd, between-pass, between-high, ends-pass, refuse-pass, count-cut-r, count-absorb}
+use Rattle.hill.specs.VerdictLaws.{low-pass, low-assoc, low-left, low-fst, low-snd, between-pass, between-high, ends-pass, refuse-pass, count-cut-r, count-absorb, count-few}
 use Rattle.hill.specs.Summary.{Part, spoilt, whole, Summary, blank, part, rise, fall, middle, verdict, start, end, opened}
 use Rattle.hill.specs.Merge.{mergePart, mergeSummary}
 use Rattle.hill.specs.Finish.{outcome, finishOf}
@@ -23,8 +22,7 @@ use Rattle.plan_work.specs.Fair.{ValidRow, FairPart, FairRow}
 
 -- A part's own count tells nothing new.
 counted : (v : Verdict) (n : ℕ) → n ≤ 100000 → low v (count n) ≡ v
-unfolding count
-counted v n h = rw (le-leb n 100000 h, low-pass v)
+counted v n h = rw (count-few n h, low-pass v)
 
 module _ {R : Type 0} (𝒜 : Algebra R) where
   open Algebra 𝒜 using (Fig)

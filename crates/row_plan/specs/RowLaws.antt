@@ -12,14 +12,12 @@ use Rattle.hill.specs.Summary.{blank}
 use Rattle.summary.specs.Judge.{IsSummary, isBlank, isSpoilt, isHill, riseAt, fallAt, startAt, peakAt, endAt, openedAt, faultAt}
 use Rattle.summary.specs.Decode.{decode}
 use Rattle.summary.specs.Values.{lefts-length, rights-length, reading-blank, reading-spoilt, reading-hill}
-use Rattle.summary.specs.Accepted.{decoded}
 use Rattle.summary.specs.Layout.{SummaryIn}
 use Rattle.judge.specs.Judged.{headAt}
 use Rattle.judge.specs.Laws.{head-blank, head-spoilt, head-hill}
 use Rattle.join_plan.specs.Plan.{Levels, blank as noLevels, hill as levels, levelsOfSummary, planOfRow}
 use Rattle.join_plan.specs.Scan.{lineOf, passed, walk, linesTo, plan}
 use Rattle.plan_work.specs.Gate.{rowFault}
-use Rattle.plan_work.specs.Fair.{ValidRow}
 use Rattle.plan_work.specs.RowLevels.{plan-row}
 use Rattle.outcome.specs.Laws.{AllIn}
 use Rattle.outcome.specs.Through.{few-lines}
@@ -96,10 +94,6 @@ module _ (f g : ℕ → Levels) where
 -- ---- the pieces of a row
 
 module _ (m : ℕ) where
-  pub valid-row : (ps : List (List ℕ)) → AllIn m ps → ValidRow (modeOf m .algebra) (modeOf m .sizes) (map (decode m) ps)
-  valid-row [] a = tt
-  valid-row (p ∷ ps) a = (decoded m p (a .0), valid-row ps (a .1))
-
   pub each-in : (ps : List (List ℕ)) → AllIn m ps → (i : ℕ) → i < length ps → IsSummary (getD ps i [])
   each-in [] a i h = absurd (omega arith)
   each-in (p ∷ ps) a zero h = a .0 .is

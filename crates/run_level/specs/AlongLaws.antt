@@ -20,7 +20,8 @@ use Rattle.plan_work.specs.RunsExact.{line-spans}
 use Rattle.plan_work.specs.WorkSizes.{levels-light, load-fits}
 use Rattle.row_plan.specs.Arrays.{levelsIn, lineIn, linesIn, Kept}
 use Rattle.row_plan.specs.AsksLaws.{kept-count}
-use Rattle.row_plan.specs.RowLaws.{valid-row, decoded-at}
+use Rattle.outcome.specs.Through.{valid-row}
+use Rattle.row_plan.specs.RowLaws.{decoded-at}
 use Rattle.run_level.specs.declared.Place.{Place}
 use Rattle.run_level.specs.Levels.{pieceOf, Begun, placeIn, Reads, levelAt, levelFor}
 use Rattle.run_level.specs.StandsFor.{LineLevels, level-is}

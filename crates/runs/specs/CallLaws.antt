@@ -18,11 +18,10 @@ use Rattle.plan_work.specs.Runs.{runsOf}
 use Rattle.plan_work.specs.RunsExact.{runs-count}
 use Rattle.plan_work.specs.Gate.{rowFault}
 use Rattle.outcome.specs.Outcomes.{Summaries, firstMode, askRow, askLog, runsBytes, runsOutcome}
-use Rattle.outcome.specs.Through.{Found, ask-found, lines-125}
+use Rattle.outcome.specs.Through.{valid-row, Found, ask-found, lines-125}
 use Rattle.row_plan.specs.Arrays.{levelsIn, linesIn, Kept}
 use Rattle.row_plan.specs.Asks.{askAll, Through}
 use Rattle.row_plan.specs.CallLaws.{call-refused, call-wrote}
-use Rattle.row_plan.specs.RowLaws.{valid-row}
 use Rattle.row_plan.specs.Wrote.{Wrote}
 use Rattle.row_plan.specs.WroteLaws.{wrote-all}
 use Rattle.run_level.specs.Levels.{Begun}

@@ -4,7 +4,7 @@ use mathlib.Core.Bool.{true, false, not}
 use mathlib.Core.List.{List, [], _∷_}
 use Prim.Native.Nat.{ℕ, _-_, _≤_, _<_}
 use native.Mathlib.Omega.{arith}
-use Rattle.hill.specs.VerdictLaws.{low-pass, cut-few}
+use Rattle.hill.specs.VerdictLaws.{low-pass, cut-few, count-few}
 use Rattle.hill.specs.Log.{Record, peakOf, openedOf, faultOf}
 use Rattle.hill.specs.Summary.{Hill, Part, blank, part, spoilt, whole, judged, partOf}
 use Rattle.hill.specs.Building.{hillOf}
@@ -18,7 +18,7 @@ use Rattle.summary.specs.Layout.{encode}
 use Rattle.summary.specs.Outcomes.{summaryBytes}
 use Rattle.summarise.specs.declared.Tally.{Tally}
 use Rattle.fault.specs.Fault.{noFault, verdictOf}
-use Rattle.fault.specs.Laws.{found, count-few}
+use Rattle.fault.specs.Laws.{found}
 use Rattle.summarise.specs.Tallies.{Tells, Tallied}
 use Rattle.summarise.specs.TallyLaws.{begun, not-begun, not-both, joints-pass}
 use Rattle.summarise.specs.Scans.{Summed}

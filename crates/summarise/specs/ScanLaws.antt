@@ -6,7 +6,7 @@ use Prim.Native.Nat.{ℕ, _+_, _-_, _*_, _^_, _≤_, _<_}
 use native.Mathlib.Omega.{arith}
 use lib.Dec.{T, eqb}
 use lib.IntN.{ℤ}
-use lib.ListN.{length, take, drop}
+use lib.ListN.{length, length-map, take, drop}
 use Rattle.gate.specs.Outcome.{result}
 use Rattle.record.specs.Record.{readOf}
 use Rattle.record.specs.Laws.{sound}
@@ -17,7 +17,8 @@ use Rattle.hill.specs.Verdict.{pass}
 use Rattle.hill.specs.Log.{Record, opening, closing, depth, startLevel, endOf, peakOf, opens, openedOf, joints, faultOf}
 use Rattle.hill.specs.Summary.{Hill, whole, rise, fall, start, end, partOf}
 use Rattle.hill.specs.Building.{empty, step, hillOf, run-append}
-use Rattle.hill.specs.Growth.{opened-append}
+use Rattle.hill.specs.Growth.{opened-append, opened-few}
+use Rattle.hill.specs.VerdictLaws.{count-few}
 use Rattle.hill.specs.SummaryLaws.{partOf-built, levels}
 use Rattle.hill.specs.Valid.{Readable, AllReadable}
 use Rattle.hill.specs.ValidLaws.{readable-append}
@@ -25,13 +26,13 @@ use Rattle.figure.specs.FourModes.{Amounts, InRange}
 use Rattle.figure.specs.Mode.{Mode}
 use Rattle.figure.specs.Stored.{amounts, none}
 use Rattle.fault.specs.Fault.{noFault}
-use Rattle.fault.specs.Laws.{count-few}
 use Rattle.slopes.specs.declared.Counts.{Counts}
 use Rattle.slopes.specs.Arrays.{Arrays, Fig, StandsFor}
 use Rattle.slopes.specs.Actions.{Room, entry, cost}
 use Rattle.slopes.specs.Laws.{counts, able, restate, rise-is, fall-is, after-more, emptied, unit-bound}
 use Rattle.summary.specs.Values.{tells-range}
 use Rattle.summary.specs.Outcomes.{recordOf, chunkOf}
+use Rattle.summary.specs.OutcomeLaws.{chunk-append}
 use Rattle.summarise.specs.declared.Tally.{Tally}
 use Rattle.summarise.specs.Tallies.{Fresh, Tallied}
 use Rattle.summarise.specs.TallyLaws.{opened-is, met, faultless, joints-pass}
@@ -57,18 +58,6 @@ module _ {v w x v′ w′ x′ : ℤ} (ev : v ≡ v′) (ew : w ≡ w′) (ex : 
 pub taken : {M : Mode} {A′ : Arrays} {c′ : Counts} (h : Hill (Fig M) Amounts) {b : ℕ} (f : Fields) {v w x : ℤ} → v ≡ f .value → w ≡ f .floor → x ≡ f .ceiling
     → StandsFor M A′ c′ (step (M .algebra) h (entry (eqb (f .kind) 1) (f .depth) (amounts v w x))) b → StandsFor M A′ c′ (step (M .algebra) h (recordOf f)) b
 taken {M} h {b} f ev ew ex s = restate s b (ap (step (M .algebra) h) (same-entry ev ew ex (eqb (f .kind) 1) (f .depth) ∙ sym (record-entry f))) (omega arith)
-
-opens-few : (x : Record Amounts) → opens x ≤ 1
-opens-few (opening d r) = omega arith
-opens-few (closing d) = omega arith
-
-opened-few : (fs : List Fields) → openedOf (chunkOf fs) ≤ length fs
-opened-few [] = omega arith
-opened-few (f ∷ fs) = omega (arith, opens-few (recordOf f), opened-few fs)
-
-chunk-snoc : (fs : List Fields) (f : Fields) → chunkOf (fs ++ (f ∷ [])) ≡ chunkOf fs ++ (recordOf f ∷ [])
-chunk-snoc [] f = refl
-chunk-snoc (g ∷ fs) f = ap (λ (xs : List (Record Amounts)). recordOf g ∷ xs) (chunk-snoc fs f)
 
 module _ (M : Mode) where
   abbrev AllRead : List (Record Amounts) → Type 0
@@ -175,13 +164,13 @@ module _ (M : Mode) where
         pub again : {A′ : Arrays} {c′ : Counts} → Grown M (u .fault) f A c A′ c′ → Inv s (take (length rest - f .length) (drop (f .length) rest)) A′ c′ u
         again {A′} {c′} g =
             let xs = chunkOf (i .done) in
-            let e : chunkOf (i .done ++ (f ∷ [])) ≡ xs ++ (y ∷ []) = chunk-snoc (i .done) f ∙ ap (λ z. xs ++ (z ∷ [])) (record-entry f) in
+            let e : chunkOf (i .done ++ (f ∷ [])) ≡ xs ++ (y ∷ []) = chunk-append (i .done) (f ∷ []) ∙ ap (λ z. xs ++ (z ∷ [])) (record-entry f) in
             record {
               done = i .done ++ (f ∷ []);
               handed = handed.next (i .handed) f r;
               summed = rw e record {
                 readable = readable-append (M .algebra) (M .sizes) xs (y ∷ []) (i .summed .readable) (entry-readable (eqb (f .kind) 1) (f .depth) a in-range, tt);
-                few = rw (← e) (omega (arith, opened-few (i .done ++ (f ∷ [])), handed.next (i .handed) f r .few));
+                few = rw (← e) (omega (arith, opened-few (chunkOf (i .done ++ (f ∷ []))), length-map (i .done ++ (f ∷ [])) recordOf, handed.next (i .handed) f r .few));
                 tallied = v;
                 hill = λ z. restate (after-more (i .summed .hill (quiet z)) (λ h. step (M .algebra) h (recordOf f)) (cost M (eqb (f .kind) 1)) (g z))
                     (M .sizes .unit * openedOf (xs ++ (y ∷ [])))

@@ -3,8 +3,8 @@ use mathlib.Core.Path.{_≡_, refl}
 use mathlib.Core.Bool.{true, false}
 use mathlib.Core.List.{List, [], _∷_}
 use Prim.Native.Nat.{ℕ}
-use lib.ListN.{length, take, drop}
-use lib.IntN.{pos, negsuc}
+use lib.ListN.{take, drop}
+use lib.IntN.{pos}
 use Rattle.gate.specs.Outcome.{refused, result}
 use Rattle.number.specs.Bytes.{leAt, bytesOf}
 use Rattle.record.specs.Record.{within, inRange, accepted, whole, byShape, readOf, recordsIn, recordsOf}
@@ -13,7 +13,7 @@ use Rattle.figure.specs.FourModes.{isStamp}
 use Rattle.figure.specs.Mode.{modeOf, modeInUse}
 use Rattle.hill.specs.Verdict.{between, count, cut, ends}
 use Rattle.summary.specs.Layout.{encode}
-use Rattle.summary.specs.Judge.{leftAt, sumTo, nothingIn, counted}
+use Rattle.summary.specs.Judge.{sumTo, nothingIn, counted}
 use Rattle.summary.specs.Decode.{decode}
 use Rattle.summary.specs.Decide.{allTo, layoutFits, spoiltFits, levelsFit, openedFits, middleFits, recordsFit, valuesFit, hillFits, isSummary}
 use Rattle.summary.specs.Outcomes.{summaryBytes, mergeBytes, summariseOutcome, mergeOutcome, finishOutcome}
@@ -39,15 +39,6 @@ right-summary : summariseOutcome (drop 36 logD) 1 40 ≡ result rightD
 unfolding rightD leAt bytesOf within inRange accepted whole byShape readOf recordsIn recordsOf modeInUse modeOf between count cut ends encode summaryBytes summariseOutcome
 right-summary = refl
 
-lengths : (length leftD ≡ 64) × (length rightD ≡ 40)
-unfolding leftD rightD
-lengths = (refl, refl)
-
--- "left values 0, -3"
-left-values : (leftAt rightD 0 ≡ pos 0) × (leftAt rightD 1 ≡ negsuc 2)
-unfolding rightD leAt
-left-values = (refl, refl)
-
 accepted-D : (isSummary leftD ≡ true) × (isSummary rightD ≡ true)
 unfolding leftD rightD leAt within inRange modeInUse sumTo nothingIn counted isStamp allTo layoutFits spoiltFits levelsFit openedFits middleFits recordsFit valuesFit hillFits isSummary
 accepted-D = (refl, refl)
@@ -71,15 +62,3 @@ flat low = 24 ∷ 0 ∷ 18 ∷ 0 ∷ 2 ∷ 0 ∷ 3 ∷ 0 ∷ 3 ∷ 0 ∷ 3 ∷ 0
 edge-opened : (isSummary (flat 160) ≡ true) × (isSummary (flat 161) ≡ false)
 unfolding flat leAt within inRange modeInUse sumTo nothingIn counted isStamp allTo layoutFits spoiltFits levelsFit openedFits middleFits recordsFit valuesFit hillFits isSummary
 edge-opened = (refl, refl)
-
--- No bytes: blank, and finish refuses it.
-blank-1 : List ℕ
-blank-1 = 6 ∷ 0 ∷ 16 ∷ 0 ∷ 1 ∷ 0 ∷ []
-
-no-bytes : summariseOutcome [] 1 6 ≡ result blank-1
-unfolding blank-1 leAt bytesOf recordsIn recordsOf modeInUse modeOf encode summaryBytes summariseOutcome
-no-bytes = refl
-
-finish-blank : finishOutcome blank-1 ≡ refused 10
-unfolding blank-1 leAt modeInUse modeOf layoutFits isSummary decode finishOutcome
-finish-blank = refl

@@ -2,16 +2,14 @@
 use mathlib.Core.Path.{_≡_, refl, ap}
 use mathlib.Core.Logic.{_≢_}
 use mathlib.Core.Bool.{Bool, true, false, cond}
-use Prim.Native.Nat.{ℕ, zero, suc, _%_, _^_}
-use native.Mathlib.Nat.{mod-eq-of-lt, mod-lt}
+use Prim.Native.Nat.{ℕ, zero, suc}
 use native.Mathlib.Omega.{arith}
-use lib.Dec.{leb, lit<}
-use lib.IntN.{ℤ, pos, negsuc, natAbs, pos-ne-negsuc}
-use borrow.Author.Tests.{leb-true, le-leb}
-use Rattle.number.specs.Integer.{up}
+use lib.Dec.{leb}
+use lib.IntN.{ℤ, natAbs}
+use borrow.Author.Tests.{leb-true}
 use Rattle.figure.specs.FourModes.{limit, nothing, readHeld, storeHeld, isStamp}
 use Rattle.figure.specs.Bound.{sizeHeld}
-use Rattle.figure.specs.StoreLaws.{read-figure, held-stored}
+use Rattle.figure.specs.StoreLaws.{read-figure, held-stored, is-stamp, stamp-is}
 use Rattle.figure.specs.Mode.{Mode, modeOf, modeInUse}
 use Rattle.figure.specs.Stored.{IsStored, sizeOf, none}
 use Rattle.summary.specs.Judge.{same, nothingIn, counted}
@@ -37,18 +35,6 @@ size-held z = go (same z nothing) (tells-same z nothing)
     go : (t : Bool) → Tells (z ≡ nothing) t → sizeHeld (readHeld z) ≡ cond t 0 (natAbs z)
     go true s = ap (λ (x : ℤ). sizeHeld (readHeld x)) (s .from refl)
     go false s = ap sizeHeld (read-figure z (λ e. false-true (s .to e)))
-
-stamp-in : (z : ℤ) → isStamp z ≡ true → pos (up z % 2 ^ 32) ≡ z
-unfolding isStamp
-stamp-in (pos n) e = ap pos (mod-eq-of-lt (omega (arith, leb-true n 4294967295 (and-right (leb 0 n) (leb n 4294967295) e))))
-stamp-in (negsuc n) e = false-true e
-
-in-stamp : (z : ℤ) → pos (up z % 2 ^ 32) ≡ z → isStamp z ≡ true
-unfolding isStamp
-in-stamp (pos n) e =
-    let f : n % 2 ^ 32 ≡ n = ap up e in
-    rw (le-leb 0 n (omega arith)) (le-leb n 4294967295 (omega (arith, mod-lt n {m = 2 ^ 32} (lit< tt))))
-in-stamp (negsuc n) e = absurd (pos-ne-negsuc 0 n e)
 
 pub numbered : (m : ℕ) → modeInUse m ≡ true → Numbered m (modeOf m)
 unfolding modeOf modeInUse IsStored sizeOf none nothingIn counted storeHeld
@@ -90,7 +76,7 @@ numbered (suc (suc (suc (suc zero)))) u = record {
   any-stored = λ n. absurd (n refl);
   unit-one = λ _. refl;
   size-none = λ _ z. refl;
-  stamp-stored = λ _ z e. stamp-in z e;
-  stored-stamp = λ _ z e. in-stamp z e;
+  stamp-stored = λ _ z e. is-stamp z e;
+  stored-stamp = λ _ z e. stamp-is z e;
 }
 numbered (suc (suc (suc (suc (suc m))))) u = absurd (omega (arith, leb-true (suc (suc (suc (suc (suc m))))) 4 (and-right (leb 1 (suc (suc (suc (suc (suc m)))))) (leb (suc (suc (suc (suc (suc m))))) 4) u)))

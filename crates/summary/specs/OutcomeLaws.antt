@@ -107,7 +107,7 @@ finish-summarise log m cap fs w e h =
     let s = summarised log m cap fs w e h in
     ap finishOutcome (s .bytes) ∙ finish-chunk m (chunkOf fs) (s .mode-used) (chunk-readable m log fs e)
 
-chunk-append : (fs gs : List Fields) → chunkOf (fs ++ gs) ≡ chunkOf fs ++ chunkOf gs
+pub chunk-append : (fs gs : List Fields) → chunkOf (fs ++ gs) ≡ chunkOf fs ++ chunkOf gs
 chunk-append [] gs = refl
 chunk-append (f ∷ fs) gs = ap (λ (xs : List (Record Amounts)). recordOf f ∷ xs) (chunk-append fs gs)
 

@@ -22,7 +22,8 @@ use Rattle.plan_work.specs.Fair.{ValidRow}
 use Rattle.plan_work.specs.Runs.{peakOf, slopesOf, summaryAt}
 use Rattle.plan_work.specs.WorkSizes.{load, load-fits, middle-light}
 use Rattle.row_plan.specs.Notes.{noPeak, noteOf}
-use Rattle.row_plan.specs.RowLaws.{valid-row, each-in, decoded-at}
+use Rattle.outcome.specs.Through.{valid-row}
+use Rattle.row_plan.specs.RowLaws.{each-in, decoded-at}
 use Rattle.run_level.specs.Levels.{pieceOf, placeIn}
 use Rattle.run_level.specs.Lines.{placed}
 use Rattle.run_level.specs.StandsFor.{all-stored, mode-at}
