@@ -11,17 +11,17 @@ module _ {R : Type 0} (𝒜 : Algebra R) where
   open Algebra 𝒜 using (Fig, ι)
 
   -- The peak and the slopes of a summary; a blank has no slopes and holds nothing.
-  abbrev pub peakOf : Summary Fig R → ℕ
-  peakOf blank = 0
-  peakOf (part a) = peak 𝒜 a
+  abbrev pub peakOfSummary : Summary Fig R → ℕ
+  peakOfSummary blank = 0
+  peakOfSummary (part a) = peak 𝒜 a
 
   abbrev pub slopesOf : Summary Fig R → Hill Fig R
   slopesOf blank = hill [] ι []
   slopesOf (part a) = slopes 𝒜 a
 
   -- Of a hill over the peak p, the left value at level l: the first in the list stands at level p + 1.
-  abbrev pub leftAt : ℕ → Hill Fig R → ℕ → Fig
-  leftAt p (hill u m d) l = getD u (l - suc p) ι
+  abbrev pub leftValueAt : ℕ → Hill Fig R → ℕ → Fig
+  leftValueAt p (hill u m d) l = getD u (l - suc p) ι
 
   -- And its unclosed records from level l down: the first in the list stands at the end level, p + length d.
   abbrev pub openFrom : ℕ → Hill Fig R → ℕ → List (R × Fig)
@@ -36,7 +36,7 @@ module _ {R : Type 0} (𝒜 : Algebra R) where
   -- of depth d stands at level d + 1.
   unfoldable pub levelsDown : ℕ → Hill Fig R → ℕ → Hill Fig R → (lowest n : ℕ) → List (Level 𝒜)
   levelsDown p g q h lowest zero = []
-  levelsDown p g q h lowest (suc n) = levelOf (openFrom p g (suc (lowest + n))) (leftAt q h (suc (lowest + n))) ++ levelsDown p g q h lowest n
+  levelsDown p g q h lowest (suc n) = levelOf (openFrom p g (suc (lowest + n))) (leftValueAt q h (suc (lowest + n))) ++ levelsDown p g q h lowest n
 
   module _ (row : List (Summary Fig R)) where
     -- The summary k of a row (past its end: a blank).
@@ -46,7 +46,7 @@ module _ {R : Type 0} (𝒜 : Algebra R) where
     -- The levels that a line's run goes through, from its highest depth to its lowest.
     unfoldable pub runLevels : Line → List (Level 𝒜)
     runLevels e =
-        levelsDown (peakOf (summaryAt (e .i))) (slopesOf (summaryAt (e .i))) (peakOf (summaryAt (e .j))) (slopesOf (summaryAt (e .j)))
+        levelsDown (peakOfSummary (summaryAt (e .i))) (slopesOf (summaryAt (e .i))) (peakOfSummary (summaryAt (e .j))) (slopesOf (summaryAt (e .j)))
         (e .lowest) (suc (e .highest) - e .lowest)
 
 module _ {R : Type 0} {𝒜 : Algebra R} {Sound : R → Type 0} (C : Context 𝒜 Sound) where
