@@ -27,7 +27,8 @@ module _ {R : Type 0} (𝒜 : Algebra R) where
   abbrev pub openFrom : ℕ → Hill Fig R → ℕ → List (R × Fig)
   openFrom p (hill u m d) l = drop (p + length d - l) d
 
-  -- One level of a run: the first of these unclosed records, with its held figures so far before x and the value v after it.
+  -- One level of a run: the first of these unclosed records, with its held figures so far before x and the value v after it. A line of the plan has
+  -- such a record at each of its depths, so no level is left out: RunsExact.run-length.
   abbrev pub levelOf : List (R × Fig) → Fig → List (Level 𝒜)
   levelOf [] v = []
   levelOf (e ∷ d) v = record { carried = e .0; before = e .1; after = v } ∷ []
@@ -50,7 +51,8 @@ module _ {R : Type 0} (𝒜 : Algebra R) where
         (e .lowest) (suc (e .highest) - e .lowest)
 
 module _ {R : Type 0} {𝒜 : Algebra R} {Sound : R → Type 0} (C : Context 𝒜 Sound) where
-  -- The run of nested levels as a mode's numbers: there is one wherever there is a level.
+  -- The run of nested levels as a mode's numbers: there is one wherever there is a level. Each line of the plan has a level (RunsExact.run-length), and
+  -- so its run: RunsExact.runs-count.
   abbrev pub runOf : List (Level 𝒜) → List (C .K)
   runOf [] = []
   runOf (l ∷ ls) = run C l ls ∷ []
