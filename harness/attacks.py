@@ -123,6 +123,7 @@ INPUTS = {
     "figure/nothing_moved": runs(2),
     "figure/other_figure_dropped": runs(2),
     "figure/stamp_factor": call("day::figures", D),
+    "judge/end_for_peak": call("plan::plan", HEAD + TAIL),
     "judge/fault_10": call("summarise::finish", spoilt(1, 10, 0, 0, 1)),
     "judge/ground_passed": call("summarise::finish", hill(1, 2, 0, 1, 1, [0, 0], 0, [(0, 0, 0, 0)])),
     "judge/hill_100001": call("summarise::finish", hill(1, 0, 0, 0, 100_001, [], 0)),

@@ -12,7 +12,7 @@ use Rattle.slopes.specs.Arrays.{Arrays, StandsFor}
 use Rattle.join_plan.specs.Gate.{summaryFault}
 use Rattle.plan_work.specs.Runs.{slopesOf}
 use Rattle.merge.specs.declared.Merged.{Merged}
-use Rattle.merge.specs.Stretch.{SaysOf}
+use Rattle.merge.specs.Side.{SaysOf}
 
 -- Five arrays of 64 numbers.
 pub record Arrays64 (ls vs fs cs hs : List ℤ) : Type 0 where
@@ -25,7 +25,7 @@ pub record Arrays64 (ls vs fs cs hs : List ℤ) : Type 0 where
 -- What was merged is the accepted summary s of mode m: the numbers in hand are its, and, where it has no fault, the arrays stand for its hill.
 pub record Kept (m : ℕ) (A : Arrays) (a : Merged) (s : SummaryIn m) : Type 0 where
   pub accepted : Accepted m s
-  pub says : SaysOf m (a .stretch) s
+  pub says : SaysOf m (a .side) s
   pub stands : summaryFault (modeOf m .algebra) s ≡ pass → StandsFor (modeOf m) A (a .counts) (slopesOf (modeOf m .algebra) s) (modeOf m .sizes .unit * 100000)
 
 -- It is some such summary.

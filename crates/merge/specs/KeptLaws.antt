@@ -30,17 +30,17 @@ use Rattle.join_plan.specs.Gate.{summaryFault, fault-parts}
 use Rattle.plan_work.specs.Runs.{slopesOf}
 use Rattle.fault.specs.Fault.{noFault, verdictOf}
 use Rattle.fault.specs.Laws.{found, clear-is}
-use Rattle.merge.specs.declared.Part.{Part as Numbers}
-use Rattle.merge.specs.declared.Stretch.{Stretch}
-use Rattle.merge.specs.declared.Stretch.the-variants as stretch
+use Rattle.merge.specs.declared.Numbers.{Numbers}
+use Rattle.merge.specs.declared.Side.{Side}
+use Rattle.merge.specs.declared.Side.the-variants as side
 use Rattle.merge.specs.declared.Merged.{Merged}
-use Rattle.merge.specs.Stretch.{SaysPart}
+use Rattle.merge.specs.Side.{SaysPart}
 use Rattle.emit.specs.Emitted.{Writable}
 use Rattle.merge.specs.Asks.{Arrays64, Kept}
-use Rattle.merge.specs.SayLaws.{says-blank, decode-spoilt, decode-hill}
+use Rattle.merge.specs.SayLaws.{decode-blank, decode-spoilt, decode-hill}
 
-abbrev pub merged : (r : Stretch) (c : Counts) → Merged
-merged r c = record { stretch = r; counts = c }
+abbrev pub merged : (r : Side) (c : Counts) → Merged
+merged r c = record { side = r; counts = c }
 
 -- both slopes have room for the bytes of a hill
 record Rooms (b : List ℕ) (c : Counts) : Type 0 where
@@ -82,7 +82,7 @@ module _ (m : ℕ) where
 
   -- ---- nothing merged yet
 
-  pub kept-none : {ls vs fs cs hs : List ℤ} {z : ℤ} → Arrays64 ls vs fs cs hs → z ≡ none (modeOf m) → Kept m (arrays ls vs fs cs hs) (merged stretch.Blank (counts 0 0 z)) blank
+  pub kept-none : {ls vs fs cs hs : List ℤ} {z : ℤ} → Arrays64 ls vs fs cs hs → z ≡ none (modeOf m) → Kept m (arrays ls vs fs cs hs) (merged side.Blank (counts 0 0 z)) blank
   kept-none {ls} {vs} {fs} {cs} {hs} {z} h e = record {
     accepted = tt;
     says = refl;
@@ -101,7 +101,7 @@ module _ (m : ℕ) where
 
       module _ {p both : Numbers} (h : SaysPart m p (decode m b)) (g : SaysPart m both (mergeSummary 𝒜 s (decode m b))) where
         -- .. one that brings a fault, ..
-        pub kept-fault : {c : Counts} → both .fault < noFault → Kept m A (merged (stretch.Part both) c) (mergeSummary 𝒜 s (decode m b))
+        pub kept-fault : {c : Counts} → both .fault < noFault → Kept m A (merged (side.Part both) c) (mergeSummary 𝒜 s (decode m b))
         kept-fault e = record { accepted = both-accepted; says = g; stands = λ v. absurd (refuse-pass (sym (found (both .fault) e) ∙ sym (said-fault g) ∙ v)) }
 
         -- .. or a hill that meets what was merged before
@@ -116,7 +116,7 @@ module _ (m : ℕ) where
           is-hill = go (i .is)
             where
               go : IsSummary b → IsHill b
-              go (isBlank f) = let z : _≡_ {A = ℕ} 0 1 = cc (says-blank m b (f .kind-fits), h .is) in absurd (omega arith)
+              go (isBlank f) = let z : _≡_ {A = ℕ} 0 1 = cc (decode-blank m b (f .kind-fits), h .is) in absurd (omega arith)
               go (isSpoilt v) = absurd (refuse-pass (sym (ap (summaryFault 𝒜) (decode-spoilt m b (v .layout .kind-fits))) ∙ fault-parts 𝒜 s (decode m b) clear .1))
               go (isHill v) = v
 
@@ -156,7 +156,7 @@ module _ (m : ℕ) where
               }
 
           pub kept-loaded : {A′ : Arrays} {c′ : Counts} → StandsFor (modeOf m) A′ c′ (merge 𝒜 (hillOf (modeOf m) A (a .counts)) (new b)) (weightOf (modeOf m) (hillOf (modeOf m) A (a .counts)) + weightOf (modeOf m) (new b)) →
-              Kept m A′ (merged (stretch.Part both) c′) (mergeSummary 𝒜 s (decode m b))
+              Kept m A′ (merged (side.Part both) c′) (mergeSummary 𝒜 s (decode m b))
           kept-loaded r =
               let n : slopesOf 𝒜 (decode m b) ≡ (new b) = ap (slopesOf 𝒜) piece-is in
               let x : merge 𝒜 (hillOf (modeOf m) A (a .counts)) (new b) ≡ slopesOf 𝒜 (mergeSummary 𝒜 s (decode m b)) = ap₂ (merge 𝒜) (before .is) (sym n) ∙ sym (both-slopes s (decode m b) clear) in

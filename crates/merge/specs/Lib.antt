@@ -1,5 +1,5 @@
 -- What the functions of `merge` ask and leave; then the laws, one for each way through a function.
-pub mod Stretch
+pub mod Side
 pub mod Asks
 pub mod RowAsks
 pub mod SayLaws

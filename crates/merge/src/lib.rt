@@ -20,15 +20,17 @@ ghost use Rattle.slopes.specs.Arrays.{arrays};
 ghost use Rattle.emit.specs.Emitted.{Answers};
 ghost use Rattle.outcome.specs.Outcomes.{mergeRowOutcome};
 ghost use Rattle.fault.specs.Fault.{verdictOf};
-ghost use Rattle.merge.specs.Stretch.{SaysPart, SaysOf, FewOpened};
+ghost use Rattle.merge.specs.Side.{SaysPart, SaysOf, FewOpened};
 ghost use Rattle.merge.specs.Asks.{Arrays64, Kept, Keeps};
 ghost use Rattle.merge.specs.RowAsks.{Row, rowSummary, rowMerged, modeOfAll, modeAnswer};
 use gate::Written;
+use judge::Head;
 use judge::Judged;
 use slopes::Counts;
 
-// What a summary that is not blank says before its slopes. A spoilt one has no peak: 0 stands there.
-struct Part {
+// What a summary that is not blank says before its slopes, in one form for a spoilt one and a hill. `fault` is fault::NONE in a hill; a spoilt
+// one has no peak, and 0 stands there.
+struct Numbers {
     fault: u8,
     start: u16,
     peak: u16,
@@ -42,14 +44,16 @@ enum OneMode {
     Refused(u8),
 }
 
-enum Stretch {
+// One side of a merge. Blank: a chunk with no record, which adds nothing. Part: a spoilt summary or a hill. Those two are one case here, since
+// one rule joins them: levels and opened records are put together in the same way, and only then is it known whether there is a fault.
+enum Side {
     Blank,
-    Part(Part),
+    Part(Numbers),
 }
 
 // Pieces merged so far: what they say together before the slopes, and how much of five arrays their hill takes. `Kept` says what that means.
 struct Merged {
-    stretch: Stretch,
+    side: Side,
     counts: Counts,
 }
 
@@ -61,7 +65,7 @@ fn lower_level(a: u16, b: u16) -> u16
 }
 
 // "The lowest of these faults": the left's, the right's and those of the join.
-fn merge_fault(a: Part, b: Part) -> u8
+fn merge_fault(a: Numbers, b: Numbers) -> u8
     requires { ⌜ (a .opened ≤ 100001) × (b .opened ≤ 100001) ⌝ }
     ensures { λ r. ⌜ verdictOf r ≡ low (verdictOf (a .fault)) (low (verdictOf (b .fault)) (low (between (a .end) (b .start)) (count (a .opened + b .opened)))) ⌝ }
 {
@@ -79,47 +83,41 @@ fn cut_opened(opened: u32) -> u32
     if opened < 100_001 { opened } else { 100_001 }
 }
 
-// What accepted bytes say before the slopes.
-fn stretch_of(b: &[u8]) -> Stretch
+// What merging needs of an accepted summary, by its three cases.
+fn side_of(b: &[u8]) -> Side
     requires { ⌜ IsSummary (now b) ⌝ }
     ensures { λ r. ⌜ ((m : ℕ) → SaysOf m r (decode m (now (b .entry)))) ⌝ }
 {
-    let kind = number::read_u16(b, 2);
-    if kind == 16 {
-        return Stretch::Blank;
-    }
-    let third = number::read_u16(b, 6);
-    let fourth = number::read_u16(b, 8);
-    let end = number::read_u16(b, 10);
-    let opened = number::read_u32(b, 12);
-    if kind == 17 {
-        return Stretch::Part(Part {
-            fault: third as u8,
-            start: fourth,
+    let head = judge::head_of(b);
+    match head {
+        Head::Blank => Side::Blank,
+        Head::Spoilt(h) => Side::Part(Numbers {
+            fault: h.fault as u8,
+            start: h.start,
             peak: 0,
-            end,
-            opened,
-        });
+            end: h.end,
+            opened: h.opened,
+        }),
+        Head::Hill(h) => Side::Part(Numbers {
+            fault: fault::NONE,
+            start: h.start,
+            peak: h.peak,
+            end: h.end,
+            opened: h.opened,
+        }),
     }
-    Stretch::Part(Part {
-        fault: fault::NONE,
-        start: third,
-        peak: fourth,
-        end,
-        opened,
-    })
 }
 
-// A stretch and one that is not blank after it, as one.
-fn follow(before: Stretch, p: Part) -> Part
+// A side and one that is not blank after it, as one.
+fn follow(before: Side, p: Numbers) -> Numbers
     requires { ⌜ FewOpened before × (p .opened ≤ 100001) ⌝ }
     ensures { λ r. ⌜ ((m : ℕ) (s t : SummaryIn m) → SaysOf m before s → SaysPart m p t → SaysPart m r (mergeSummary (modeOf m .algebra) s t)) ⌝ }
 {
-    let Stretch::Part(q) = before else {
+    let Side::Part(q) = before else {
         return p;
     };
     let opened = q.opened + p.opened;
-    Part {
+    Numbers {
         fault: merge_fault(q, p),
         start: q.start,
         peak: lower_level(q.peak, p.peak),
@@ -145,21 +143,21 @@ fn add_piece(
         → Kept mode (arrays (now (left .exit)) (now (values .exit)) (now (floors .exit)) (now (ceilings .exit)) (now (held .exit))) r
         (mergeSummary (modeOf mode .algebra) s (decode mode (now (piece .entry))))) ⌝ }
 {
-    let Stretch::Part(p) = stretch_of(piece) else {
+    let Side::Part(p) = side_of(piece) else {
         return a;
     };
-    let before = a.stretch;
+    let before = a.side;
     let c = a.counts;
     let both = follow(before, p);
     if both.fault < fault::NONE {
         return Merged {
-            stretch: Stretch::Part(both),
+            side: Side::Part(both),
             counts: c,
         };
     }
     let loaded = codec::load(mode, piece, left, values, floors, ceilings, held, c);
     Merged {
-        stretch: Stretch::Part(both),
+        side: Side::Part(both),
         counts: loaded,
     }
 }
@@ -179,9 +177,9 @@ fn put_merged(
     ensures { λ r. ⌜ ((s : SummaryIn mode) → Kept mode (arrays (now (left .entry)) (now (values .entry)) (now (floors .entry)) (now (ceilings .entry)) (now (held .entry))) a s
         → Answers (written (length (now (out .entry))) (encode mode s)) (now (out .entry)) (now (out .exit)) r) ⌝ }
 {
-    let said = a.stretch;
+    let said = a.side;
     let c = a.counts;
-    let Stretch::Part(p) = said else {
+    let Side::Part(p) = said else {
         return emit::put_blank(mode, out);
     };
     let fault = p.fault;
@@ -207,7 +205,7 @@ fn none_merged(mode: u16) -> Merged
     ensures { λ r. ⌜ ((ls vs fs cs hs : List ℤ) → Arrays64 ls vs fs cs hs → Kept mode (arrays ls vs fs cs hs) r blank) ⌝ }
 {
     Merged {
-        stretch: Stretch::Blank,
+        side: Side::Blank,
         counts: Counts {
             nl: 0,
             n: 0,

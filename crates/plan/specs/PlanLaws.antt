@@ -34,8 +34,8 @@ pub plan-not : (row b : List ℕ) (n : ℕ) → askAll row ≡ refused n → (re
 unfolding planOutcome
 plan-not row b n e = call-refused planBytes row b n e
 
-pub plan-wrote : (row before after : List ℕ) (r : Outcome ℕ) (count m : ℕ) (kinds starts peaks ends openeds : List ℕ) → Through row count m kinds starts peaks ends openeds →
+pub plan-wrote : (row before after : List ℕ) (r : Outcome ℕ) (count m : ℕ) (states starts peaks ends openeds : List ℕ) → Through row count m states starts peaks ends openeds →
     Wrote (linesBytes (plan (levelsIn starts peaks ends) count)) r before after → (r ≡ lengthAnswered (planOutcome row (length before))) × (after ≡ bufferAfter (planOutcome row (length before)) before)
 unfolding planOutcome planBytes
-plan-wrote row before after r count m kinds starts peaks ends openeds t w =
-    call-wrote planBytes row before after r count m kinds starts peaks ends openeds t (subst (λ (l : List Line). Wrote (linesBytes l) r before after) (t .plan-is) w)
+plan-wrote row before after r count m states starts peaks ends openeds t w =
+    call-wrote planBytes row before after r count m states starts peaks ends openeds t (subst (λ (l : List Line). Wrote (linesBytes l) r before after) (t .plan-is) w)

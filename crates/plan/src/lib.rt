@@ -55,14 +55,14 @@ pub fn plan(row: &[u8], out: &mut [u8]) -> Written
     ensures answer { λ r. ⌜ writtenAnswer r ≡ lengthAnswered (planOutcome (now (row .entry)) (length (now (out .entry)))) ⌝ }
     ensures buffer { λ _. ⌜ now (out .exit) ≡ bufferAfter (planOutcome (now (row .entry)) (length (now (out .entry)))) (now (out .entry)) ⌝ }
 {
-    let mut kinds = [0u8; 64];
+    let mut states = [0u8; 64];
     let mut starts = [0u8; 64];
     let mut peaks = [0u8; 64];
     let mut ends = [0u8; 64];
     let mut opened = [0u32; 64];
     let asked = ask(
         row,
-        &mut kinds,
+        &mut states,
         &mut starts,
         &mut peaks,
         &mut ends,

@@ -26,18 +26,18 @@ abbrev pub summariesIn : ℕ → List (List ℕ) → Summaries
 summariesIn m ps = record { mode = m; row = map (decode m) ps }
 
 -- A row that is let through, of `count` pieces in mode m.
-pub record Through (row : List ℕ) (count m : ℕ) (kinds starts peaks ends openeds : List ℕ) : Type 0 where
+pub record Through (row : List ℕ) (count m : ℕ) (states starts peaks ends openeds : List ℕ) : Type 0 where
   pub asked : askAll row ≡ result (summariesIn m (rowPieces row))
   pub long : length (rowPieces row) ≡ count
   pub some : 2 ≤ count
   pub few : count ≤ 64
   pub all : AllIn m (rowPieces row)
   pub faultless : rowFault (map (decode m) (rowPieces row)) ≡ pass
-  pub whole : Whole kinds starts peaks ends openeds
-  pub noted : AllNoted (rowPieces row) kinds starts peaks ends openeds
+  pub whole : Whole states starts peaks ends openeds
+  pub noted : AllNoted (rowPieces row) states starts peaks ends openeds
   pub plan-is : plan (levelsIn starts peaks ends) count ≡ planOfRow (map (decode m) (rowPieces row))
   pub room : length (plan (levelsIn starts peaks ends) count) ≤ 128
 
-abbrev pub Says : Asked → List ℕ → (kinds starts peaks ends openeds : List ℕ) → Type 0
-Says (Row count m) row kinds starts peaks ends openeds = Through row count m kinds starts peaks ends openeds
-Says (Refused n) row kinds starts peaks ends openeds = askAll row ≡ refused n
+abbrev pub Says : Asked → List ℕ → (states starts peaks ends openeds : List ℕ) → Type 0
+Says (Row count m) row states starts peaks ends openeds = Through row count m states starts peaks ends openeds
+Says (Refused n) row states starts peaks ends openeds = askAll row ≡ refused n

@@ -46,7 +46,7 @@ module _ (row : List ℕ) (count : ℕ) (e : count ≡ min 65 (length (rowPieces
   pub not-5 : allSummaries (rowPieces row) ≡ false → askAll row ≡ refused 5
   not-5 g = ap (λ (o : Outcome Summaries). onward o askLog) (ask-5 (rowPieces row) in-number g)
 
-  module _ {m : ℕ} {same : Bool} {kinds starts peaks ends openeds : List ℕ} (j : AllJudged m same (rowPieces row) kinds starts peaks ends openeds) where
+  module _ {m : ℕ} {same : Bool} {states starts peaks ends openeds : List ℕ} (j : AllJudged m same (rowPieces row) states starts peaks ends openeds) where
     pub not-6 : same ≡ false → askAll row ≡ refused 6
     not-6 s = ap (λ (o : Outcome Summaries). onward o askLog) (ask-6 (rowPieces row) in-number (j .good) (j .same-mode ∙ s))
 
@@ -64,16 +64,16 @@ module _ (row : List ℕ) (count : ℕ) (e : count ≡ min 65 (length (rowPieces
       unfolding askLog
       log-asked v q = ap (λ (o : Outcome Summaries). onward o askLog) asked ∙ ap (λ (x : Verdict). outcome x (summariesIn m (rowPieces row))) q
 
-      fault-is : (f : ℕ) → verdictOf f ≡ faultOf (toldsFrom kinds starts ends openeds 0 count) → rowFault (map (decode m) (rowPieces row)) ≡ verdictOf f
-      fault-is f q = sym (row-fault m (rowPieces row) all-of kinds starts peaks ends openeds (j .noted) count count-is) ∙ sym q
+      fault-is : (f : ℕ) → verdictOf f ≡ faultOf (toldsFrom states starts ends openeds 0 count) → rowFault (map (decode m) (rowPieces row)) ≡ verdictOf f
+      fault-is f q = sym (row-fault m (rowPieces row) all-of states starts peaks ends openeds (j .noted) count count-is) ∙ sym q
 
-      pub faulty : (f : ℕ) → verdictOf f ≡ faultOf (toldsFrom kinds starts ends openeds 0 count) → f < noFault → askAll row ≡ refused f
+      pub faulty : (f : ℕ) → verdictOf f ≡ faultOf (toldsFrom states starts ends openeds 0 count) → f < noFault → askAll row ≡ refused f
       faulty f q h = log-asked (refuse f) (fault-is f q ∙ found f h)
 
-      pub through : (f : ℕ) → verdictOf f ≡ faultOf (toldsFrom kinds starts ends openeds 0 count) → noFault ≤ f → Through row count m kinds starts peaks ends openeds
+      pub through : (f : ℕ) → verdictOf f ≡ faultOf (toldsFrom states starts ends openeds 0 count) → noFault ≤ f → Through row count m states starts peaks ends openeds
       through f q h =
           let v : rowFault (map (decode m) (rowPieces row)) ≡ pass = fault-is f q ∙ clear f h in
-          let p : plan (levelsIn starts peaks ends) count ≡ planOfRow (map (decode m) (rowPieces row)) = row-plan m (rowPieces row) all-of kinds starts peaks ends openeds (j .noted) count count-is in
+          let p : plan (levelsIn starts peaks ends) count ≡ planOfRow (map (decode m) (rowPieces row)) = row-plan m (rowPieces row) all-of states starts peaks ends openeds (j .noted) count count-is in
           record {
             asked = log-asked pass v;
             long = count-is;
@@ -110,7 +110,7 @@ zero-within (suc n) (suc k) b = zero-within n k b
 
 pub zeros-whole : Whole (zeros 64) (zeros 64) (zeros 64) (zeros 64) (zeros 64)
 zeros-whole = record {
-  kinds-64 = refl;
+  states-64 = refl;
   starts-64 = refl;
   peaks-64 = refl;
   ends-64 = refl;

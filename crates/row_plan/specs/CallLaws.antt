@@ -21,8 +21,8 @@ module _ (bytes : Summaries → List ℕ) (row : List ℕ) where
   pub call-refused : (b : List ℕ) (n : ℕ) → askAll row ≡ refused n → (refused n ≡ lengthAnswered (called (length b))) × (b ≡ bufferAfter (called (length b)) b)
   call-refused b n e = let f = asked-first (length b) (refused n) e in (sym (ap lengthAnswered f), sym (ap (λ (o : Outcome (List ℕ)). bufferAfter o b) f))
 
-  pub call-wrote : (before after : List ℕ) (r : Outcome ℕ) (count m : ℕ) (kinds starts peaks ends openeds : List ℕ) → Through row count m kinds starts peaks ends openeds →
+  pub call-wrote : (before after : List ℕ) (r : Outcome ℕ) (count m : ℕ) (states starts peaks ends openeds : List ℕ) → Through row count m states starts peaks ends openeds →
       Wrote (bytes (summariesIn m (rowPieces row))) r before after → (r ≡ lengthAnswered (called (length before))) × (after ≡ bufferAfter (called (length before)) before)
-  call-wrote before after r count m kinds starts peaks ends openeds t w =
+  call-wrote before after r count m states starts peaks ends openeds t w =
       let f = asked-first (length before) _ (t .asked) in
       (w .answer ∙ sym (ap lengthAnswered f), w .buffer ∙ sym (ap (λ (o : Outcome (List ℕ)). bufferAfter o before) f))

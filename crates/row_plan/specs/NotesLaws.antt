@@ -52,10 +52,10 @@ note-start n b e i = rw e (go (headAt b) (summary-fits b i))
     go (Spoilt h) f = (f .start-high, f .end-high, f .opened-few)
     go (Hill h) f = (f .start-high, f .end-high, f .opened-few)
 
-module _ {kinds starts peaks ends openeds kinds′ starts′ peaks′ ends′ openeds′ : List ℕ} (n : Note) (k : ℕ) (s : Stored n k kinds starts peaks ends openeds kinds′ starts′ peaks′ ends′ openeds′) (w : Whole kinds starts peaks ends openeds) where
-  stored-whole : (n .start ≤ 64) × (n .end ≤ 64) × (n .opened ≤ 100_001) → Whole kinds′ starts′ peaks′ ends′ openeds′
+module _ {states starts peaks ends openeds states′ starts′ peaks′ ends′ openeds′ : List ℕ} (n : Note) (k : ℕ) (s : Stored n k states starts peaks ends openeds states′ starts′ peaks′ ends′ openeds′) (w : Whole states starts peaks ends openeds) where
+  stored-whole : (n .start ≤ 64) × (n .end ≤ 64) × (n .opened ≤ 100_001) → Whole states′ starts′ peaks′ ends′ openeds′
   stored-whole (a, b, c) = record {
-    kinds-64 = ap length (s .kind) ∙ length-set kinds k (n .kind) ∙ w .kinds-64;
+    states-64 = ap length (s .state) ∙ length-set states k (n .state) ∙ w .states-64;
     starts-64 = ap length (s .start) ∙ length-set starts k (n .start) ∙ w .starts-64;
     peaks-64 = ap length (s .peak) ∙ length-set peaks k (n .peak) ∙ w .peaks-64;
     ends-64 = ap length (s .end) ∙ length-set ends k (n .end) ∙ w .ends-64;
@@ -68,23 +68,23 @@ module _ {kinds starts peaks ends openeds kinds′ starts′ peaks′ ends′ op
   }
 
   -- a store at k changes no note below
-  stored-other : (i : ℕ) → i < k → noteIn kinds′ starts′ peaks′ ends′ openeds′ i ≡ noteIn kinds starts peaks ends openeds i
+  stored-other : (i : ℕ) → i < k → noteIn states′ starts′ peaks′ ends′ openeds′ i ≡ noteIn states starts peaks ends openeds i
   stored-other i h =
-      let a : getD kinds′ i 0 ≡ getD kinds i 0 = ap (λ (l : List ℕ). getD l i 0) (s .kind) ∙ getD-set-other kinds k i (n .kind) 0 (omega arith) in
+      let a : getD states′ i 0 ≡ getD states i 0 = ap (λ (l : List ℕ). getD l i 0) (s .state) ∙ getD-set-other states k i (n .state) 0 (omega arith) in
       let b : getD starts′ i 0 ≡ getD starts i 0 = ap (λ (l : List ℕ). getD l i 0) (s .start) ∙ getD-set-other starts k i (n .start) 0 (omega arith) in
       let c : getD peaks′ i 0 ≡ getD peaks i 0 = ap (λ (l : List ℕ). getD l i 0) (s .peak) ∙ getD-set-other peaks k i (n .peak) 0 (omega arith) in
       let d : getD ends′ i 0 ≡ getD ends i 0 = ap (λ (l : List ℕ). getD l i 0) (s .end) ∙ getD-set-other ends k i (n .end) 0 (omega arith) in
       let e : getD openeds′ i 0 ≡ getD openeds i 0 = ap (λ (l : List ℕ). getD l i 0) (s .opened) ∙ getD-set-other openeds k i (n .opened) 0 (omega arith) in
-      λ t. record { kind = a t; start = b t; peak = c t; end = d t; opened = e t }
+      λ t. record { state = a t; start = b t; peak = c t; end = d t; opened = e t }
 
-  stored-here : k < 64 → noteIn kinds′ starts′ peaks′ ends′ openeds′ k ≡ n
+  stored-here : k < 64 → noteIn states′ starts′ peaks′ ends′ openeds′ k ≡ n
   stored-here h =
-      let a : getD kinds′ k 0 ≡ n .kind = ap (λ (l : List ℕ). getD l k 0) (s .kind) ∙ getD-set-same kinds k (n .kind) 0 (omega (arith, w .kinds-64)) in
+      let a : getD states′ k 0 ≡ n .state = ap (λ (l : List ℕ). getD l k 0) (s .state) ∙ getD-set-same states k (n .state) 0 (omega (arith, w .states-64)) in
       let b : getD starts′ k 0 ≡ n .start = ap (λ (l : List ℕ). getD l k 0) (s .start) ∙ getD-set-same starts k (n .start) 0 (omega (arith, w .starts-64)) in
       let c : getD peaks′ k 0 ≡ n .peak = ap (λ (l : List ℕ). getD l k 0) (s .peak) ∙ getD-set-same peaks k (n .peak) 0 (omega (arith, w .peaks-64)) in
       let d : getD ends′ k 0 ≡ n .end = ap (λ (l : List ℕ). getD l k 0) (s .end) ∙ getD-set-same ends k (n .end) 0 (omega (arith, w .ends-64)) in
       let e : getD openeds′ k 0 ≡ n .opened = ap (λ (l : List ℕ). getD l k 0) (s .opened) ∙ getD-set-same openeds k (n .opened) 0 (omega (arith, w .openeds-64)) in
-      λ t. record { kind = a t; start = b t; peak = c t; end = d t; opened = e t }
+      λ t. record { state = a t; start = b t; peak = c t; end = d t; opened = e t }
 
 -- ---- the loop over the pieces
 
@@ -92,17 +92,17 @@ first-of : (ps : List (List ℕ)) → 0 < length ps → firstMode ps ≡ modeAt 
 first-of [] h = absurd (omega arith)
 first-of (p ∷ ps) h = refl
 
-pub record Judging (row : List ℕ) (count : ℕ) (kinds starts peaks ends openeds rest : List ℕ) (k mode : ℕ) (same : Bool) : Type 0 where
+pub record Judging (row : List ℕ) (count : ℕ) (states starts peaks ends openeds rest : List ℕ) (k mode : ℕ) (same : Bool) : Type 0 where
   pub near : k ≤ count
   pub left : rowPieces rest ≡ drop k (rowPieces row)
   pub good : allSummaries (rowPieces row) ≡ allSummaries (drop k (rowPieces row))
   pub mode-is : 0 < k → firstMode (rowPieces row) ≡ mode
   pub same-is : allOf (firstMode (rowPieces row)) (rowPieces row) ≡ (same && allOf (firstMode (rowPieces row)) (drop k (rowPieces row)))
-  pub whole : Whole kinds starts peaks ends openeds
-  pub noted : (i : ℕ) → i < k → noteIn kinds starts peaks ends openeds i ≡ noteOf (headAt (getD (rowPieces row) i []))
+  pub whole : Whole states starts peaks ends openeds
+  pub noted : (i : ℕ) → i < k → noteIn states starts peaks ends openeds i ≡ noteOf (headAt (getD (rowPieces row) i []))
 
-pub judging-start : (row : List ℕ) (count : ℕ) (kinds starts peaks ends openeds : List ℕ) → Whole kinds starts peaks ends openeds → Judging row count kinds starts peaks ends openeds row 0 0 true
-judging-start row count kinds starts peaks ends openeds w = record {
+pub judging-start : (row : List ℕ) (count : ℕ) (states starts peaks ends openeds : List ℕ) → Whole states starts peaks ends openeds → Judging row count states starts peaks ends openeds row 0 0 true
+judging-start row count states starts peaks ends openeds w = record {
   near = omega arith;
   left = refl;
   good = refl;
@@ -112,7 +112,7 @@ judging-start row count kinds starts peaks ends openeds w = record {
   noted = λ i h. absurd (omega arith);
 }
 
-module _ (row : List ℕ) (count : ℕ) (kinds starts peaks ends openeds rest : List ℕ) (k mode : ℕ) (same : Bool) (v : Judging row count kinds starts peaks ends openeds rest k mode same)
+module _ (row : List ℕ) (count : ℕ) (states starts peaks ends openeds rest : List ℕ) (k mode : ℕ) (same : Bool) (v : Judging row count states starts peaks ends openeds rest k mode same)
     (long : length (rowPieces row) ≡ count) (h : k < count) where
   abbrev ps : List (List ℕ)
   ps = rowPieces row
@@ -147,10 +147,10 @@ module _ (row : List ℕ) (count : ℕ) (kinds starts peaks ends openeds rest : 
       go zero z = first-of ps (omega arith) ∙ ap (λ (i : ℕ). modeAt (getD ps i [])) (sym z) ∙ q ∙ sym (e ∙ ap (λ (t : Bool). cond t m mode) (eq-eqb k 0 z))
       go (suc i) z = v .mode-is (omega arith) ∙ sym (e ∙ ap (λ (t : Bool). cond t m mode) (ne-eqb k 0 (omega arith)))
 
-  pub judging-next : (first m m′ : ℕ) (p : Piece) (n : Note) (kinds′ starts′ peaks′ ends′ openeds′ : List ℕ) → first ≡ firstLength rest → count ≤ 64 → Judges (take first rest) p → p .mode ≡ m → n ≡ noteOf (p .head) →
-      Stored n k kinds starts peaks ends openeds kinds′ starts′ peaks′ ends′ openeds′ → m′ ≡ cond (eqb k 0) m mode →
-      Judging row count kinds′ starts′ peaks′ ends′ openeds′ (take (length rest - first) (drop first rest)) (k + 1) m′ (same && eqb m′ m)
-  judging-next first m m′ p n kinds′ starts′ peaks′ ends′ openeds′ e few j em en s em′ =
+  pub judging-next : (first m m′ : ℕ) (p : Piece) (n : Note) (states′ starts′ peaks′ ends′ openeds′ : List ℕ) → first ≡ firstLength rest → count ≤ 64 → Judges (take first rest) p → p .mode ≡ m → n ≡ noteOf (p .head) →
+      Stored n k states starts peaks ends openeds states′ starts′ peaks′ ends′ openeds′ → m′ ≡ cond (eqb k 0) m mode →
+      Judging row count states′ starts′ peaks′ ends′ openeds′ (take (length rest - first) (drop first rest)) (k + 1) m′ (same && eqb m′ m)
+  judging-next first m m′ p n states′ starts′ peaks′ ends′ openeds′ e few j em en s em′ =
       let b : List ℕ = take first rest in
       let here : b ≡ getD ps k [] = this-piece first e in
       let mode-here : modeAt (getD ps k []) ≡ m = ap modeAt (sym here) ∙ ap (λ (x : Piece). x .mode) (sym (j .piece)) ∙ em in
@@ -165,13 +165,13 @@ module _ (row : List ℕ) (count : ℕ) (kinds starts peaks ends openeds rest : 
         same-is = v .same-is ∙ ap (λ (l : List (List ℕ)). same && allOf (firstMode ps) l) next-piece ∙ both same (eqb (firstMode ps) (modeAt (getD ps k []))) (allOf (firstMode ps) (drop (suc k) ps)) ∙
             ap (λ (t : Bool). (same && t) && allOf (firstMode ps) (drop (suc k) ps)) (ap (λ (x : ℕ). eqb x (modeAt (getD ps k []))) first-mode ∙ ap (eqb m′) mode-here) ∙ ap (λ (l : List (List ℕ)). (same && eqb m′ m) && allOf (firstMode ps) l) (sym one);
         whole = stored-whole n k s (v .whole) (note-start n b note-here (j .summary));
-        noted = λ i l. below-more (λ i. noteIn kinds′ starts′ peaks′ ends′ openeds′ i ≡ noteOf (headAt (getD ps i []))) k
+        noted = λ i l. below-more (λ i. noteIn states′ starts′ peaks′ ends′ openeds′ i ≡ noteOf (headAt (getD ps i []))) k
             (λ i l. stored-other n k s (v .whole) i l ∙ v .noted i l) (stored-here n k s (v .whole) (omega arith) ∙ note-here ∙ ap (λ (x : List ℕ). noteOf (headAt x)) here) i (omega arith);
       }
 
-pub judging-end : (row : List ℕ) (count : ℕ) (kinds starts peaks ends openeds rest : List ℕ) (k mode : ℕ) (same : Bool) → Judging row count kinds starts peaks ends openeds rest k mode same → length (rowPieces row) ≡ count → count ≤ k →
-    AllJudged mode same (rowPieces row) kinds starts peaks ends openeds
-judging-end row count kinds starts peaks ends openeds rest k mode same v long h =
+pub judging-end : (row : List ℕ) (count : ℕ) (states starts peaks ends openeds rest : List ℕ) (k mode : ℕ) (same : Bool) → Judging row count states starts peaks ends openeds rest k mode same → length (rowPieces row) ≡ count → count ≤ k →
+    AllJudged mode same (rowPieces row) states starts peaks ends openeds
+judging-end row count states starts peaks ends openeds rest k mode same v long h =
     let none : drop k (rowPieces row) ≡ [] = drop-of-length-le (rowPieces row) {i = k} (omega arith) in
     record {
       good = v .good ∙ ap allSummaries none;

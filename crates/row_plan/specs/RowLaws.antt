@@ -34,7 +34,7 @@ use Rattle.row_plan.specs.declared.pieces.Note.{Note}
 -- ---- one piece
 
 abbrev told : Note → Told
-told n = toldFrom (n .kind) (n .start) (n .end) (n .opened)
+told n = toldFrom (n .state) (n .start) (n .end) (n .opened)
 
 abbrev levelled : Note → Levels
 levelled n = levelsFrom (n .start) (n .peak) (n .end)
@@ -110,18 +110,18 @@ module _ (m : ℕ) where
   decoded-at (p ∷ ps) zero h = refl
   decoded-at (p ∷ ps) (suc i) h = decoded-at ps i (omega arith)
 
-  module _ (ps : List (List ℕ)) (a : AllIn m ps) (kinds starts peaks ends openeds : List ℕ) (noted : AllNoted ps kinds starts peaks ends openeds) where
+  module _ (ps : List (List ℕ)) (a : AllIn m ps) (states starts peaks ends openeds : List ℕ) (noted : AllNoted ps states starts peaks ends openeds) where
     abbrev row : List (SummaryIn m)
     row = map (decode m) ps
 
-    pub row-fault : (count : ℕ) → length ps ≡ count → faultOf (toldsFrom kinds starts ends openeds 0 count) ≡ rowFault row
+    pub row-fault : (count : ℕ) → length ps ≡ count → faultOf (toldsFrom states starts ends openeds 0 count) ≡ rowFault row
     row-fault count e =
-        ap faultOf (ap (toldsFrom kinds starts ends openeds 0) (sym e ∙ sym (length-map ps (decode m))) ∙ told-all kinds starts ends openeds row 0 each) ∙ fault-row row
+        ap faultOf (ap (toldsFrom states starts ends openeds 0) (sym e ∙ sym (length-map ps (decode m))) ∙ told-all states starts ends openeds row 0 each) ∙ fault-row row
       where
-        each : (i : ℕ) → i < length row → toldIn kinds starts ends openeds (0 + i) ≡ toldOf (getD row i blank)
+        each : (i : ℕ) → i < length row → toldIn states starts ends openeds (0 + i) ≡ toldOf (getD row i blank)
         each i h =
             let l : i < length ps = omega (arith, length-map ps (decode m)) in
-            ap (toldIn kinds starts ends openeds) (zero-add i) ∙ ap told (noted i l) ∙ told-piece m (getD ps i []) (each-in ps a i l) ∙ ap toldOf (sym (decoded-at ps i l))
+            ap (toldIn states starts ends openeds) (zero-add i) ∙ ap told (noted i l) ∙ told-piece m (getD ps i []) (each-in ps a i l) ∙ ap toldOf (sym (decoded-at ps i l))
 
     pub row-plan : (count : ℕ) → length ps ≡ count → plan (levelsIn starts peaks ends) count ≡ planOfRow row
     row-plan count e =

@@ -31,20 +31,26 @@ faultOf [] = refuse 10
 faultOf (nothing ∷ ts) = faultOf ts
 faultOf (tells w s e n ∷ ts) = afterSome s e w n ts
 
--- What is noted of a piece: kind 0 is a blank, 1 a hill, and any other the fault of a spoilt one.
+-- The state of a piece, as a byte: of a blank, of a hill, or the fault of a spoilt one.
+abbrev pub blankState : ℕ
+blankState = 0
+
+abbrev pub hillState : ℕ
+hillState = 1
+
 unfoldable pub ownFault : ℕ → ℕ
-ownFault kind = cond (eqb kind 1) noFault kind
+ownFault state = cond (eqb state hillState) noFault state
 
-unfoldable pub toldFrom : (kind start end opened : ℕ) → Told
-toldFrom kind start end opened = cond (eqb kind 0) nothing (tells (verdictOf (ownFault kind)) start end opened)
+unfoldable pub toldFrom : (state start end opened : ℕ) → Told
+toldFrom state start end opened = cond (eqb state blankState) nothing (tells (verdictOf (ownFault state)) start end opened)
 
-abbrev pub toldIn : (kinds starts ends openeds : List ℕ) → ℕ → Told
-toldIn kinds starts ends openeds k = toldFrom (getD kinds k 0) (getD starts k 0) (getD ends k 0) (getD openeds k 0)
+abbrev pub toldIn : (states starts ends openeds : List ℕ) → ℕ → Told
+toldIn states starts ends openeds k = toldFrom (getD states k 0) (getD starts k 0) (getD ends k 0) (getD openeds k 0)
 
 -- n pieces from the k-th on.
-unfoldable pub toldsFrom : (kinds starts ends openeds : List ℕ) → (k n : ℕ) → List Told
-toldsFrom kinds starts ends openeds k zero = []
-toldsFrom kinds starts ends openeds k (suc n) = toldIn kinds starts ends openeds k ∷ toldsFrom kinds starts ends openeds (suc k) n
+unfoldable pub toldsFrom : (states starts ends openeds : List ℕ) → (k n : ℕ) → List Told
+toldsFrom states starts ends openeds k zero = []
+toldsFrom states starts ends openeds k (suc n) = toldIn states starts ends openeds k ∷ toldsFrom states starts ends openeds (suc k) n
 
 pub record Few (openeds : List ℕ) : Type 0 where
   pub each : (k : ℕ) → getD openeds k 0 ≤ 100_001

@@ -21,55 +21,55 @@ use Rattle.row_plan.specs.Told.{Told, tells, toldOf, afterSome, faultOf,
 abbrev span : (seen : Bool) (first last fault opened : ℕ) → Span
 span seen first last fault opened = record { seen = seen; first = first; last = last; fault = fault; opened = opened }
 
-pub pass-blank : (s : Span) (kind start end o : ℕ) → kind ≡ 0 → Passed s (toldFrom kind start end o) o s
+pub pass-blank : (s : Span) (state start end o : ℕ) → state ≡ 0 → Passed s (toldFrom state start end o) o s
 unfolding toldFrom onwardFrom
-pass-blank s kind start end o e = record { is = λ ts. go (s .seen) ts; opened = omega arith }
+pass-blank s state start end o e = record { is = λ ts. go (s .seen) ts; opened = omega arith }
   where
     go : (b : Bool) (ts : List Told) → cond b (afterSome (s .first) (s .last) (verdictOf (s .fault)) (s .opened) ts) (faultOf ts)
-        ≡ cond b (afterSome (s .first) (s .last) (verdictOf (s .fault)) (s .opened) (toldFrom kind start end o ∷ ts)) (faultOf (toldFrom kind start end o ∷ ts))
+        ≡ cond b (afterSome (s .first) (s .last) (verdictOf (s .fault)) (s .opened) (toldFrom state start end o ∷ ts)) (faultOf (toldFrom state start end o ∷ ts))
     go true ts = rw e
     go false ts = rw e
 
 -- what a piece that is not blank tells
-told-part : (kind start end o own : ℕ) → ¬ (kind ≡ 0) → own ≡ ownFault kind → toldFrom kind start end o ≡ tells (verdictOf own) start end o
+told-part : (state start end o own : ℕ) → ¬ (state ≡ 0) → own ≡ ownFault state → toldFrom state start end o ≡ tells (verdictOf own) start end o
 unfolding toldFrom
-told-part kind start end o own h e = rw (ne-eqb kind 0 h, e)
+told-part state start end o own h e = rw (ne-eqb state 0 h, e)
 
-pub own-hill : (kind : ℕ) → kind ≡ 1 → noFault ≡ ownFault kind
+pub own-hill : (state : ℕ) → state ≡ 1 → noFault ≡ ownFault state
 unfolding ownFault
-own-hill kind e = rw e
+own-hill state e = rw e
 
-pub own-spoilt : (kind : ℕ) → ¬ (kind ≡ 1) → kind ≡ ownFault kind
+pub own-spoilt : (state : ℕ) → ¬ (state ≡ 1) → state ≡ ownFault state
 unfolding ownFault
-own-spoilt kind h = rw (ne-eqb kind 1 h)
+own-spoilt state h = rw (ne-eqb state 1 h)
 
-pub pass-first : (s : Span) (kind start end o own : ℕ) → s .seen ≡ false → ¬ (kind ≡ 0) → own ≡ ownFault kind → Passed s (toldFrom kind start end o) o (span true start end own o)
+pub pass-first : (s : Span) (state start end o own : ℕ) → s .seen ≡ false → ¬ (state ≡ 0) → own ≡ ownFault state → Passed s (toldFrom state start end o) o (span true start end own o)
 unfolding onwardFrom
-pass-first s kind start end o own z h e = rw (told-part kind start end o own h e) record { is = λ ts. rw z; opened = omega arith }
+pass-first s state start end o own z h e = rw (told-part state start end o own h e) record { is = λ ts. rw z; opened = omega arith }
 
-pub pass-next : (s : Span) (kind start end o own fault sum : ℕ) → s .seen ≡ true → ¬ (kind ≡ 0) → own ≡ ownFault kind → verdictOf fault ≡ low (verdictOf (s .fault)) (low (verdictOf own) (between (s .last) start)) →
-    sum ≡ s .opened + o → Passed s (toldFrom kind start end o) o (span true (s .first) end fault sum)
+pub pass-next : (s : Span) (state start end o own fault sum : ℕ) → s .seen ≡ true → ¬ (state ≡ 0) → own ≡ ownFault state → verdictOf fault ≡ low (verdictOf (s .fault)) (low (verdictOf own) (between (s .last) start)) →
+    sum ≡ s .opened + o → Passed s (toldFrom state start end o) o (span true (s .first) end fault sum)
 unfolding onwardFrom
-pass-next s kind start end o own fault sum z h e f g = rw (told-part kind start end o own h e) record { is = λ ts. rw (z, f, g); opened = omega arith }
+pass-next s state start end o own fault sum z h e f g = rw (told-part state start end o own h e) record { is = λ ts. rw (z, f, g); opened = omega arith }
 
 -- ---- all pieces
 
-pub told-next : (kinds starts ends openeds : List ℕ) (k n : ℕ) → toldsFrom kinds starts ends openeds k (suc n) ≡ toldIn kinds starts ends openeds k ∷ toldsFrom kinds starts ends openeds (suc k) n
+pub told-next : (states starts ends openeds : List ℕ) (k n : ℕ) → toldsFrom states starts ends openeds k (suc n) ≡ toldIn states starts ends openeds k ∷ toldsFrom states starts ends openeds (suc k) n
 unfolding toldsFrom
-told-next kinds starts ends openeds k n = refl
+told-next states starts ends openeds k n = refl
 
-pub told-end : (kinds starts ends openeds : List ℕ) (k : ℕ) → toldsFrom kinds starts ends openeds k 0 ≡ []
+pub told-end : (states starts ends openeds : List ℕ) (k : ℕ) → toldsFrom states starts ends openeds k 0 ≡ []
 unfolding toldsFrom
-told-end kinds starts ends openeds k = refl
+told-end states starts ends openeds k = refl
 
 -- what is noted of a row is what its summaries tell
-pub told-all : {Fig R : Type 0} (kinds starts ends openeds : List ℕ) (row : List (Summary Fig R)) (k : ℕ) →
-    ((i : ℕ) → i < length row → toldIn kinds starts ends openeds (k + i) ≡ toldOf (getD row i blank)) → toldsFrom kinds starts ends openeds k (length row) ≡ map toldOf row
+pub told-all : {Fig R : Type 0} (states starts ends openeds : List ℕ) (row : List (Summary Fig R)) (k : ℕ) →
+    ((i : ℕ) → i < length row → toldIn states starts ends openeds (k + i) ≡ toldOf (getD row i blank)) → toldsFrom states starts ends openeds k (length row) ≡ map toldOf row
 unfolding toldsFrom
-told-all kinds starts ends openeds [] k h = refl
-told-all kinds starts ends openeds (s ∷ row) k h =
-    ap₂ (λ t ts. t ∷ ts) (ap (toldIn kinds starts ends openeds) (sym (add-zero k)) ∙ h 0 (omega arith))
-    (told-all kinds starts ends openeds row (suc k) (λ i l. ap (toldIn kinds starts ends openeds) (omega arith) ∙ h (suc i) (omega arith)))
+told-all states starts ends openeds [] k h = refl
+told-all states starts ends openeds (s ∷ row) k h =
+    ap₂ (λ t ts. t ∷ ts) (ap (toldIn states starts ends openeds) (sym (add-zero k)) ∙ h 0 (omega arith))
+    (told-all states starts ends openeds row (suc k) (λ i l. ap (toldIn states starts ends openeds) (omega arith) ∙ h (suc i) (omega arith)))
 
 -- ---- the fault that the gate finds
 
@@ -94,27 +94,27 @@ module _ {Fig R : Type 0} where
 
 -- ---- the loop over a row's pieces
 
-pub record Spanning (kinds starts ends openeds : List ℕ) (count : ℕ) (s : Span) (k : ℕ) : Type 0 where
+pub record Spanning (states starts ends openeds : List ℕ) (count : ℕ) (s : Span) (k : ℕ) : Type 0 where
   pub near : k ≤ count
   pub light : s .opened ≤ 100_001 * k
-  pub all : onwardFrom s (toldsFrom kinds starts ends openeds k (count - k)) ≡ faultOf (toldsFrom kinds starts ends openeds 0 count)
+  pub all : onwardFrom s (toldsFrom states starts ends openeds k (count - k)) ≡ faultOf (toldsFrom states starts ends openeds 0 count)
 
-module _ (kinds starts ends openeds : List ℕ) (count : ℕ) where
-  pub span-start : Spanning kinds starts ends openeds count (span false 0 0 noFault 0) 0
+module _ (states starts ends openeds : List ℕ) (count : ℕ) where
+  pub span-start : Spanning states starts ends openeds count (span false 0 0 noFault 0) 0
   unfolding onwardFrom
-  span-start = record { near = omega arith; light = omega arith; all = ap (λ (n : ℕ). faultOf (toldsFrom kinds starts ends openeds 0 n)) (omega arith) }
+  span-start = record { near = omega arith; light = omega arith; all = ap (λ (n : ℕ). faultOf (toldsFrom states starts ends openeds 0 n)) (omega arith) }
 
-  pub span-next : (s r : Span) (k : ℕ) → Few openeds → Spanning kinds starts ends openeds count s k → k < count → Passed s (toldIn kinds starts ends openeds k) (getD openeds k 0) r → Spanning kinds starts ends openeds count r (k + 1)
+  pub span-next : (s r : Span) (k : ℕ) → Few openeds → Spanning states starts ends openeds count s k → k < count → Passed s (toldIn states starts ends openeds k) (getD openeds k 0) r → Spanning states starts ends openeds count r (k + 1)
   span-next s r k f v h p =
       let n : count - k ≡ suc (count - (k + 1)) = omega arith in
-      let t : toldsFrom kinds starts ends openeds k (count - k) ≡ toldIn kinds starts ends openeds k ∷ toldsFrom kinds starts ends openeds (k + 1) (count - (k + 1)) =
-      ap (toldsFrom kinds starts ends openeds k) n ∙ told-next kinds starts ends openeds k (count - (k + 1)) ∙ ap (λ (i : ℕ). toldIn kinds starts ends openeds k ∷ toldsFrom kinds starts ends openeds i (count - (k + 1))) (sym (add-one k)) in
-      record { near = omega arith; light = omega (arith, p .opened, f .each k, v .light); all = p .is (toldsFrom kinds starts ends openeds (k + 1) (count - (k + 1))) ∙ ap (onwardFrom s) (sym t) ∙ v .all }
+      let t : toldsFrom states starts ends openeds k (count - k) ≡ toldIn states starts ends openeds k ∷ toldsFrom states starts ends openeds (k + 1) (count - (k + 1)) =
+      ap (toldsFrom states starts ends openeds k) n ∙ told-next states starts ends openeds k (count - (k + 1)) ∙ ap (λ (i : ℕ). toldIn states starts ends openeds k ∷ toldsFrom states starts ends openeds i (count - (k + 1))) (sym (add-one k)) in
+      record { near = omega arith; light = omega (arith, p .opened, f .each k, v .light); all = p .is (toldsFrom states starts ends openeds (k + 1) (count - (k + 1))) ∙ ap (onwardFrom s) (sym t) ∙ v .all }
 
-  pub span-end : (s : Span) (k : ℕ) → Spanning kinds starts ends openeds count s k → count ≤ k → onwardFrom s [] ≡ faultOf (toldsFrom kinds starts ends openeds 0 count)
+  pub span-end : (s : Span) (k : ℕ) → Spanning states starts ends openeds count s k → count ≤ k → onwardFrom s [] ≡ faultOf (toldsFrom states starts ends openeds 0 count)
   span-end s k v h =
       let n : count - k ≡ 0 = omega arith in
-      ap (onwardFrom s) (sym (ap (toldsFrom kinds starts ends openeds k) n ∙ told-end kinds starts ends openeds k)) ∙ v .all
+      ap (onwardFrom s) (sym (ap (toldsFrom states starts ends openeds k) n ∙ told-end states starts ends openeds k)) ∙ v .all
 
 pub low-none : (s : Span) → s .seen ≡ false → verdictOf 10 ≡ onwardFrom s []
 unfolding onwardFrom verdictOf

@@ -14,14 +14,14 @@ pub enum Asked {
 
 pub fn ask(
     row: &[u8],
-    kinds: &mut [u8; 64],
+    states: &mut [u8; 64],
     starts: &mut [u8; 64],
     peaks: &mut [u8; 64],
     ends: &mut [u8; 64],
     opened: &mut [u32; 64],
 ) -> Asked
-    requires { ⌜ Whole (now kinds) (now starts) (now peaks) (now ends) (now opened) ⌝ }
-    ensures { λ r. ⌜ Says r (now (row .entry)) (now (kinds .exit)) (now (starts .exit)) (now (peaks .exit)) (now (ends .exit)) (now (opened .exit)) ⌝ }
+    requires { ⌜ Whole (now states) (now starts) (now peaks) (now ends) (now opened) ⌝ }
+    ensures { λ r. ⌜ Says r (now (row .entry)) (now (states .exit)) (now (starts .exit)) (now (peaks .exit)) (now (ends .exit)) (now (opened .exit)) ⌝ }
 {
     let count = row::count_pieces(row);
     if count < 2 {
@@ -30,14 +30,14 @@ pub fn ask(
     if 64 < count {
         return Asked::Refused(4);
     }
-    let pieces = judge_pieces(row, count, kinds, starts, peaks, ends, opened);
+    let pieces = judge_pieces(row, count, states, starts, peaks, ends, opened);
     let Pieces::Of(mode, same) = pieces else {
         return Asked::Refused(5);
     };
     if !same {
         return Asked::Refused(6);
     }
-    let fault = row_fault(&*kinds, &*starts, &*ends, &*opened, count);
+    let fault = row_fault(&*states, &*starts, &*ends, &*opened, count);
     if fault < fault::NONE {
         return Asked::Refused(fault);
     }

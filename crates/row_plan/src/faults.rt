@@ -5,6 +5,8 @@ ghost use Prim.Native.Nat.{_+_, _*_, _≤_, min};
 ghost use lib.ListN.{length, getD};
 ghost use Rattle.fault.specs.Fault.{verdictOf};
 ghost use Rattle.row_plan.specs.Told.{Told, toldFrom, toldsFrom, faultOf, onwardFrom, ownFault, Passed, Few};
+use super::BLANK;
+use super::HILL;
 
 // The pieces passed: whether one of them was not blank, and then where the first starts and the last ends, the lowest fault so far and the
 // records opened.
@@ -16,22 +18,22 @@ struct Span {
     opened: u32,
 }
 
-// The fault of a piece by its kind: 1 is a hill's, which has none.
-fn own_fault(kind: u8) -> u8
-    ensures { λ r. ⌜ r ≡ ownFault kind ⌝ }
+// The fault of a piece by its state, which is not BLANK: a hill has none.
+fn own_fault(state: u8) -> u8
+    ensures { λ r. ⌜ r ≡ ownFault state ⌝ }
 {
-    if kind == 1 { fault::NONE } else { kind }
+    if state == HILL { fault::NONE } else { state }
 }
 
-// One piece more: a kind of 0 is a blank, 1 a hill, and any other is the fault of a spoilt one.
-fn pass(s: Span, kind: u8, start: u8, end: u8, opened: u32) -> Span
+// One piece more; a blank changes nothing.
+fn pass(s: Span, state: u8, start: u8, end: u8, opened: u32) -> Span
     requires { ⌜ s .opened + opened ≤ 10_000_000 ⌝ }
-    ensures { λ r. ⌜ Passed s (toldFrom kind start end opened) opened r ⌝ }
+    ensures { λ r. ⌜ Passed s (toldFrom state start end opened) opened r ⌝ }
 {
-    if kind == 0 {
+    if state == BLANK {
         return s;
     }
-    let own = own_fault(kind);
+    let own = own_fault(state);
     let seen = s.seen;
     if !seen {
         return Span {
@@ -76,7 +78,7 @@ fn lowest(s: Span) -> u8
 
 // The lowest fault of a row.
 pub fn row_fault(
-    kinds: &[u8; 64],
+    states: &[u8; 64],
     starts: &[u8; 64],
     ends: &[u8; 64],
     opened: &[u32; 64],
@@ -84,7 +86,7 @@ pub fn row_fault(
 ) -> u8
     requires { ⌜ count ≤ 64 ⌝ }
     requires { ⌜ Few (now opened) ⌝ }
-    ensures { λ r. ⌜ verdictOf r ≡ faultOf (toldsFrom (now (kinds .entry)) (now (starts .entry)) (now (ends .entry)) (now (opened .entry)) 0 count) ⌝ }
+    ensures { λ r. ⌜ verdictOf r ≡ faultOf (toldsFrom (now (states .entry)) (now (starts .entry)) (now (ends .entry)) (now (opened .entry)) 0 count) ⌝ }
 {
     let mut s = Span {
         seen: false,
@@ -95,7 +97,7 @@ pub fn row_fault(
     };
     let mut k: usize = 0;
     while k < count {
-        s = pass(s, kinds[k], starts[k], ends[k], opened[k]);
+        s = pass(s, states[k], starts[k], ends[k], opened[k]);
         k += 1;
     }
     lowest(s)

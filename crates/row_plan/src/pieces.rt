@@ -6,15 +6,17 @@ ghost use lib.Dec.{eqb};
 ghost use lib.ListN.{length, set};
 ghost use Rattle.row.specs.Row.{rowPieces};
 ghost use Rattle.row_plan.specs.Notes.{Fits, SpoiltFits, HillFits, noteOf, Stored, Whole, Judged as JudgedAll};
+use super::BLANK;
+use super::HILL;
+use super::NO_PEAK;
 use judge::Head;
 use judge::HillHead;
 use judge::Judged;
 use judge::SpoiltHead;
 
-// What the plan and the questions read of a piece: a kind of 0 is a blank, 1 a hill, and any other is the fault of a spoilt one. A piece that
-// is no hill has a peak above all levels.
+// What the plan and the questions read of a piece. Its state is BLANK, HILL or the fault of a spoilt one; its peak is NO_PEAK unless it is a hill.
 struct Note {
-    kind: u8,
+    state: u8,
     start: u8,
     peak: u8,
     end: u8,
@@ -32,9 +34,9 @@ fn note_spoilt(s: SpoiltHead) -> Note
     ensures { λ r. ⌜ r ≡ noteOf (Head.Spoilt s) ⌝ }
 {
     Note {
-        kind: s.fault as u8,
+        state: s.fault as u8,
         start: s.start as u8,
-        peak: 255,
+        peak: NO_PEAK,
         end: s.end as u8,
         opened: s.opened,
     }
@@ -45,7 +47,7 @@ fn note_hill(h: HillHead) -> Note
     ensures { λ r. ⌜ r ≡ noteOf (Head.Hill h) ⌝ }
 {
     Note {
-        kind: 1,
+        state: HILL,
         start: h.start as u8,
         peak: h.peak as u8,
         end: h.end as u8,
@@ -59,9 +61,9 @@ fn note_of(head: Head) -> Note
 {
     match head {
         Head::Blank => Note {
-            kind: 0,
+            state: BLANK,
             start: 0,
-            peak: 255,
+            peak: NO_PEAK,
             end: 0,
             opened: 0,
         },
@@ -73,17 +75,17 @@ fn note_of(head: Head) -> Note
 fn store(
     note: Note,
     k: usize,
-    kinds: &mut [u8; 64],
+    states: &mut [u8; 64],
     starts: &mut [u8; 64],
     peaks: &mut [u8; 64],
     ends: &mut [u8; 64],
     opened: &mut [u32; 64],
 )
     requires { ⌜ k < 64 ⌝ }
-    ensures { λ _. ⌜ Stored note k (now (kinds .entry)) (now (starts .entry)) (now (peaks .entry)) (now (ends .entry)) (now (opened .entry))
-        (now (kinds .exit)) (now (starts .exit)) (now (peaks .exit)) (now (ends .exit)) (now (opened .exit)) ⌝ }
+    ensures { λ _. ⌜ Stored note k (now (states .entry)) (now (starts .entry)) (now (peaks .entry)) (now (ends .entry)) (now (opened .entry))
+        (now (states .exit)) (now (starts .exit)) (now (peaks .exit)) (now (ends .exit)) (now (opened .exit)) ⌝ }
 {
-    kinds[k] = note.kind;
+    states[k] = note.state;
     starts[k] = note.start;
     peaks[k] = note.peak;
     ends[k] = note.end;
@@ -101,15 +103,15 @@ fn first_mode(k: usize, mode: u16, m: u16) -> u16
 pub fn judge_pieces(
     row: &[u8],
     count: usize,
-    kinds: &mut [u8; 64],
+    states: &mut [u8; 64],
     starts: &mut [u8; 64],
     peaks: &mut [u8; 64],
     ends: &mut [u8; 64],
     opened: &mut [u32; 64],
 ) -> Pieces
     requires { ⌜ (length (rowPieces (now row)) ≡ count) × (count ≤ 64) ⌝ }
-    requires { ⌜ Whole (now kinds) (now starts) (now peaks) (now ends) (now opened) ⌝ }
-    ensures { λ r. ⌜ JudgedAll r (rowPieces (now (row .entry))) (now (kinds .exit)) (now (starts .exit)) (now (peaks .exit)) (now (ends .exit)) (now (opened .exit)) ⌝ }
+    requires { ⌜ Whole (now states) (now starts) (now peaks) (now ends) (now opened) ⌝ }
+    ensures { λ r. ⌜ JudgedAll r (rowPieces (now (row .entry))) (now (states .exit)) (now (starts .exit)) (now (peaks .exit)) (now (ends .exit)) (now (opened .exit)) ⌝ }
 {
     let mut rest = row;
     let mut k: usize = 0;
@@ -123,7 +125,7 @@ pub fn judge_pieces(
         };
         let m = piece.mode;
         let head = piece.head;
-        store(note_of(head), k, kinds, starts, peaks, ends, opened);
+        store(note_of(head), k, states, starts, peaks, ends, opened);
         mode = first_mode(k, mode, m);
         same = same & (mode == m);
         rest = &rest[first..];

@@ -20,9 +20,9 @@ rowIn m row = map (decode m) (rowPieces row)
 
 -- A row of `count` pieces in mode m that is let through, whatever else is noted of them.
 pub record LetThrough (row : List ℕ) (count m : ℕ) (starts peaks ends : List ℕ) : Type 0 where
-  pub kinds : List ℕ
+  pub states : List ℕ
   pub openeds : List ℕ
-  pub through : Through row count m kinds starts peaks ends openeds
+  pub through : Through row count m states starts peaks ends openeds
 
 -- Its pieces are noted.
 pub record Ready (row : List ℕ) (count m : ℕ) (ats starts peaks : List ℕ) : Type 0 where

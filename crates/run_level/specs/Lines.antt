@@ -19,7 +19,7 @@ use Rattle.run_level.specs.StandsFor.{LineLevels, line-levels}
 hill-head : (b : List ℕ) → IsHill b → headAt b ≡ Hill (hillHeadAt b)
 hill-head b v = head-hill b (λ e. omega (arith, v .layout .kind-fits)) (λ e. omega (arith, v .layout .kind-fits))
 
-module _ {row : List ℕ} {count m : ℕ} {kinds starts peaks ends openeds : List ℕ} (t : Through row count m kinds starts peaks ends openeds) {ats : List ℕ} (b : Begun row count ats) where
+module _ {row : List ℕ} {count m : ℕ} {states starts peaks ends openeds : List ℕ} (t : Through row count m states starts peaks ends openeds) {ats : List ℕ} (b : Begun row count ats) where
   -- The place of a hill.
   pub placed : (k : ℕ) → k < count → IsHill (pieceOf row k) → Placed row (placeIn ats starts peaks k)
   placed k h v =

@@ -55,10 +55,10 @@ pub runs-not : (row b : List ℕ) (n : ℕ) → askAll row ≡ refused n → (re
 unfolding runsOutcome
 runs-not row b n e = call-refused runsBytes row b n e
 
-pub runs-wrote : (row before after : List ℕ) (r : Outcome ℕ) (count m : ℕ) (kinds starts peaks ends openeds : List ℕ) → Through row count m kinds starts peaks ends openeds →
+pub runs-wrote : (row before after : List ℕ) (r : Outcome ℕ) (count m : ℕ) (states starts peaks ends openeds : List ℕ) → Through row count m states starts peaks ends openeds →
     Wrote (linesRuns row m (planOfRow (rowIn m row))) r before after → (r ≡ lengthAnswered (runsOutcome row (length before))) × (after ≡ bufferAfter (runsOutcome row (length before)) before)
 unfolding runsOutcome runsBytes
-runs-wrote row before after r count m kinds starts peaks ends openeds t w = call-wrote runsBytes row before after r count m kinds starts peaks ends openeds t w
+runs-wrote row before after r count m states starts peaks ends openeds t w = call-wrote runsBytes row before after r count m states starts peaks ends openeds t w
 
 -- ---- at most 125 runs
 

@@ -27,7 +27,7 @@ use record::Read;
 use slopes::Counts;
 
 // What a pass over records keeps beside their hill: whether there was one, the start level, the level reached, the lowest of faults 7 and 8, and the
-// opened records.
+// opened records. `begun` and `fault` stand for the case of the summary: a blank before the first record, spoilt once there is a fault, else a hill.
 struct Tally {
     begun: bool,
     start: u16,
@@ -36,6 +36,8 @@ struct Tally {
     opened: u32,
 }
 
+// What reading a chunk came to. Refused: a record is not readable, which is refusal 3. Done: all were read; what is kept of them, and how much of
+// the arrays their hill takes.
 enum Scan {
     Refused,
     Done(Tally, Counts),

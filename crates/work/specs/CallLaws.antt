@@ -20,7 +20,7 @@ pub work-refused : (row : List ℕ) (n : ℕ) → askAll row ≡ refused n → r
 unfolding workOutcome
 work-refused row n e = sym (after-all (askRow (rowPieces row)) (λ t. result (workAlong t)) ∙ ap (λ (o : Outcome Summaries). onward o (λ t. result (workAlong t))) e)
 
-pub work-through : {row : List ℕ} {count m : ℕ} {kinds starts peaks ends openeds : List ℕ} → Through row count m kinds starts peaks ends openeds →
+pub work-through : {row : List ℕ} {count m : ℕ} {states starts peaks ends openeds : List ℕ} → Through row count m states starts peaks ends openeds →
     (w : Work ℤ) → w ≡ workAlong (summariesIn m (rowPieces row)) → result w ≡ workOutcome row
 unfolding workOutcome
 work-through {row = row} t w e =

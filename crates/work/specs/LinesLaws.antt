@@ -26,6 +26,7 @@ use Rattle.plan_work.specs.Work.{Done, worked, oneMiddle, lastOutcome, workOf}
 use Rattle.plan_work.specs.WorkLaws.{work, worked-nil, worked-cons, worked-append}
 use Rattle.plan_work.specs.WorkSizes.{load, AllLight, LineLight, line-light}
 use Rattle.row_plan.specs.Arrays.{lineIn, linesIn}
+use Rattle.row_plan.specs.Notes.{noPeak}
 use Rattle.row_plan.specs.ScanLaws.{length-lines}
 use Rattle.row_plan.specs.RowLaws.{decoded-at}
 use Rattle.run_level.specs.declared.Place.{Place}
@@ -238,7 +239,7 @@ module _ {row : List ℕ} {count m : ℕ} {ats starts peaks : List ℕ} (t : Rea
     from-here = drop-cons S k blank (omega (arith, length-map (rowPieces row) (decode m), t .let-through .through .long))
 
     -- A hill.
-    pub seek-hill : (p : Place) (z y : ℤ) → p ≡ placeIn ats starts peaks k → y ≡ z → getD peaks k 0 ≤ 64 → z ≡ middleAt (pieceOf row (p .piece)) → Stores (modeOf m) y (oneMiddle (modeOf m .algebra) S)
+    pub seek-hill : (p : Place) (z y : ℤ) → p ≡ placeIn ats starts peaks k → y ≡ z → getD peaks k 0 < noPeak → z ≡ middleAt (pieceOf row (p .piece)) → Stores (modeOf m) y (oneMiddle (modeOf m .algebra) S)
     unfolding decode
     seek-hill p z y ep ey l e =
         let ez : z ≡ middleAt (pieceOf row k) = e ∙ ap (λ (x : Place). middleAt (pieceOf row (x .piece))) ep in

@@ -21,7 +21,7 @@ use Rattle.judge.specs.Laws.{head-blank, head-spoilt}
 use Rattle.plan_work.specs.Fair.{ValidRow}
 use Rattle.plan_work.specs.Runs.{peakOfSummary, slopesOf, summaryAt}
 use Rattle.plan_work.specs.WorkSizes.{load, load-fits, middle-light}
-use Rattle.row_plan.specs.Notes.{noteOf}
+use Rattle.row_plan.specs.Notes.{noPeak, noteOf}
 use Rattle.row_plan.specs.RowLaws.{valid-row, each-in, decoded-at}
 use Rattle.run_level.specs.Levels.{pieceOf, placeIn}
 use Rattle.run_level.specs.Lines.{placed}
@@ -78,17 +78,17 @@ module _ {row : List ℕ} {count m : ℕ} {ats starts peaks : List ℕ} (t : Rea
   unfolding decode
   hill-middle v = ap (λ (s : SummaryIn m). middle (slopesOf (modeOf m .algebra) s)) (decoded ∙ reading-hill (modeOf m .read) b (v .layout .kind-fits))
 
-  blank-peak : (v : kindAt b ≡ 16) → getD peaks k 0 ≡ 255
+  blank-peak : (v : kindAt b ≡ 16) → getD peaks k 0 ≡ noPeak
   blank-peak v = ap (λ x. x .peak) (t .let-through .through .noted k in-row ∙ ap noteOf (head-blank b v))
 
-  spoilt-peak : (v : kindAt b ≡ 17) → getD peaks k 0 ≡ 255
+  spoilt-peak : (v : kindAt b ≡ 17) → getD peaks k 0 ≡ noPeak
   spoilt-peak v = ap (λ x. x .peak) (t .let-through .through .noted k in-row ∙ ap noteOf (head-spoilt b v))
 
   hill-peak : (v : IsHill b) → getD peaks k 0 ≡ peakAt b
   hill-peak v = placed (t .let-through .through) (t .begun) k h v .peak-is
 
-  -- A peak that is a level is a hill's.
-  pub noted-hill : getD peaks k 0 ≤ 64 → IsHill b
+  -- A peak is a hill's.
+  pub noted-hill : getD peaks k 0 < noPeak → IsHill b
   noted-hill l = go is
     where
       go : IsSummary b → IsHill b
@@ -96,7 +96,7 @@ module _ {row : List ℕ} {count m : ℕ} {ats starts peaks : List ℕ} (t : Rea
       go (isSpoilt v) = absurd (omega (arith, spoilt-peak (v .layout .kind-fits)))
       go (isHill v) = v
 
-  pub noted-place : getD peaks k 0 ≤ 64 → IsPlaceOfHill row (placeIn ats starts peaks k)
+  pub noted-place : getD peaks k 0 < noPeak → IsPlaceOfHill row (placeIn ats starts peaks k)
   noted-place l = record { placed = placed (t .let-through .through) (t .begun) k h (noted-hill l); is = noted-hill l }
 
   -- Its middle value stands for a figure, and is light.

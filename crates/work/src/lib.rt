@@ -81,14 +81,14 @@ fn work_row(
 pub fn work(row: &[u8]) -> Worked
     ensures answer { λ r. ⌜ workedAnswer r ≡ workOutcome (now (row .entry)) ⌝ }
 {
-    let mut kinds = [0u8; 64];
+    let mut states = [0u8; 64];
     let mut starts = [0u8; 64];
     let mut peaks = [0u8; 64];
     let mut ends = [0u8; 64];
     let mut opened = [0u32; 64];
     let asked = ask(
         row,
-        &mut kinds,
+        &mut states,
         &mut starts,
         &mut peaks,
         &mut ends,

@@ -7,8 +7,8 @@ use Prim.Native.Nat.{ℕ}
 use mathlib.Core.List.{List}
 use Rattle.summary.specs.Decode.{decode}
 use Rattle.summary.specs.Accepted.{decoded}
-use Rattle.merge.specs.Stretch.{SaysPart}
-use Rattle.merge.specs.SayLaws.{blank-said, part-said, few-said, few-stretch}
+use Rattle.merge.specs.Side.{SaysPart}
+use Rattle.merge.specs.SayLaws.{blank-said, part-said, few-said, few-side}
 use Rattle.merge.specs.KeptLaws.{kept-blank, kept-fault, kept-loads, kept-loaded}
 
 -- the mode, the piece, and what it says where it is not blank
@@ -23,10 +23,10 @@ module _ (c : tie.After-p) where
   b = now (start .args .piece)
 
   says : SaysPart m (c .p .given .0 .0) (decode m b)
-  says = part-said m (decode m b) (c .before .before .stretch-of .result) (c .before .before .stretch-of .ensures m) (c .p .given .1)
+  says = part-said m (decode m b) (c .before .before .side-of .result) (c .before .before .side-of .ensures m) (c .p .given .1)
 
-stretch-of-requires : tie.Need-stretch-of-requires
-stretch-of-requires c κs = search needs
+side-of-requires : tie.Need-side-of-requires
+side-of-requires c κs = search needs
 
 enum-known-p : tie.Need-enum-known-p
 enum-known-p c = search needs
@@ -38,13 +38,13 @@ returns : tie.Need-returns
 returns c =
     let a = c .before .before .before .before in
     λ s k. kept-blank (a .args .mode) k
-    (blank-said (a .args .mode) (decode (a .args .mode) (now (a .args .piece))) (c .before .before .stretch-of .result) (c .before .before .stretch-of .ensures (a .args .mode)) (c .enum-told .given .1))
+    (blank-said (a .args .mode) (decode (a .args .mode) (now (a .args .piece))) (c .before .before .side-of .result) (c .before .before .side-of .ensures (a .args .mode)) (c .enum-told .given .1))
 
 follow-requires : tie.Need-follow-requires
 follow-requires c κs =
     let p = c .before .before in
     let k = start p .pre .1 .kept in
-    (few-stretch (m p) (start p .pre .1 .summary) (start p .args .a .stretch) (k .accepted) (k .says), few-said (decoded (m p) (b p) (start p .pre .0)) (says p))
+    (few-side (m p) (start p .pre .1 .summary) (start p .args .a .side) (k .accepted) (k .says), few-said (decoded (m p) (b p) (start p .pre .0)) (says p))
 
 returns-2 : tie.Need-returns-2
 returns-2 c =
@@ -67,7 +67,7 @@ pub add-piece-spec : {M : Type 1} → statement M
 add-piece-spec =
     tie.close
     (tie.spec
-    stretch-of-requires
+    side-of-requires
     enum-known-p
     enum-told
     returns

@@ -4,7 +4,7 @@ use Rattle.merge.proofs.follow.Statement.{statement}
 use Rattle.merge.proofs.follow.Tie as tie
 use mathlib.Core.Path.{subst}
 use native.Mathlib.Omega.{arith}
-use Rattle.merge.specs.Stretch.{FewOpened}
+use Rattle.merge.specs.Side.{FewOpened}
 use Rattle.merge.specs.SayLaws.{blank-said, part-said, after-blank, after-part}
 
 enum-known-before : tie.Need-enum-known-before

@@ -21,7 +21,7 @@ same-length : tie.Need-same-length
 same-length c = search needs
 
 returns : tie.Need-returns
-returns c = let a = c .before .before .before .before .before .before .before .before in let m = a .args .mode in λ s k. answer-same (ap (encode m) (sym (blank-said m s (a .args .a .stretch) (k .says) (c .before .before .before .before .enum-told .given .1)))) (c .before .before .put-blank .ensures)
+returns c = let a = c .before .before .before .before .before .before .before .before in let m = a .args .mode in λ s k. answer-same (ap (encode m) (sym (blank-said m s (a .args .a .side) (k .says) (c .before .before .before .before .enum-told .given .1)))) (c .before .before .put-blank .ensures)
 
 cast-put-spoilt : tie.Need-cast-put-spoilt
 cast-put-spoilt c = search needs
@@ -32,7 +32,7 @@ put-spoilt-requires c κs = search needs
 put-hill-requires : tie.Need-put-hill-requires
 put-hill-requires c κs =
     let a = c .before .before .before .before .before .before .before in
-    kept-writable (a .args .mode) (a .pre .kept) (part-said (a .args .mode) (a .pre .summary) (a .args .a .stretch) (a .pre .kept .says) (c .before .before .before .said .given .1)) (c .before .if1 .left)
+    kept-writable (a .args .mode) (a .pre .kept) (part-said (a .args .mode) (a .pre .summary) (a .args .a .side) (a .pre .kept .says) (c .before .before .before .said .given .1)) (c .before .if1 .left)
 
 same-length-2 : tie.Need-same-length-2
 same-length-2 c = search needs
@@ -40,7 +40,7 @@ same-length-2 c = search needs
 returns-2 : tie.Need-returns-2
 returns-2 c =
     let a = c .before .before .before .before .before .before .before .before .before .before in
-    λ s k. answer-same (spoilt-way (a .args .mode) k (part-said (a .args .mode) s (a .args .a .stretch) (k .says) (c .before .before .before .before .before .before .said .given .1)) (c .before .before .before .before .if1 .taken)) (c .before .before .put-spoilt .ensures)
+    λ s k. answer-same (spoilt-way (a .args .mode) k (part-said (a .args .mode) s (a .args .a .side) (k .says) (c .before .before .before .before .before .before .said .given .1)) (c .before .before .before .before .if1 .taken)) (c .before .before .put-spoilt .ensures)
 
 same-length-3 : tie.Need-same-length-3
 same-length-3 c = search needs
@@ -48,7 +48,7 @@ same-length-3 c = search needs
 returns-3 : tie.Need-returns-3
 returns-3 c =
     let a = c .before .before .before .before .before .before .before .before .before .before in
-    λ s k. answer-same (hill-way (a .args .mode) k (part-said (a .args .mode) s (a .args .a .stretch) (k .says) (c .before .before .before .before .before .before .said .given .1)) (c .before .before .before .before .if1 .left)) (c .before .before .put-hill .ensures)
+    λ s k. answer-same (hill-way (a .args .mode) k (part-said (a .args .mode) s (a .args .a .side) (k .says) (c .before .before .before .before .before .before .said .given .1)) (c .before .before .before .before .if1 .left)) (c .before .before .put-hill .ensures)
 
 pub put-merged-spec : {M : Type 1} → statement M
 put-merged-spec =

@@ -17,7 +17,7 @@ enum-known-asked-2 : tie.Need-enum-known-asked-2
 enum-known-asked-2 c = search needs
 
 write-runs-requires : tie.Need-write-runs-requires
-write-runs-requires c κs = record { kinds = _; openeds = _; through = rw (c .before .before .before .before .before .asked2 .given .1) at (c .before .before .before .before .before .before .before .ask .ensures) }
+write-runs-requires c κs = record { states = _; openeds = _; through = rw (c .before .before .before .before .before .asked2 .given .1) at (c .before .before .before .before .before .before .before .ask .ensures) }
 
 returns : tie.Need-returns
 returns c = let a = c .before .before .before .before .before .before .before .before .before .before .before .args in runs-not (now (a .row)) (now (a .out)) _ (rw (c .before .asked .given .1) at (c .before .before .before .ask .ensures))

@@ -20,7 +20,7 @@ enum-known-asked-2 c = search needs
 work-row-requires : tie.Need-work-row-requires
 work-row-requires c κs =
     let t = rw (c .before .before .before .before .asked2 .given .1) at (c .before .before .before .before .before .before .ask .ensures) in
-    record { kinds = _; openeds = _; through = t }
+    record { states = _; openeds = _; through = t }
 
 returns : tie.Need-returns
 returns c =

@@ -17,7 +17,7 @@ own-fault-requires : tie.Need-own-fault-requires
 own-fault-requires c κs = search needs
 
 returns-2 : tie.Need-returns-2
-returns-2 c = let a = c .before .before .before .args in pass-first (a .s) (a .kind) (a .start) (a .end) (a .opened) _ (not-true _ (c .if2 .taken)) (omega arith) (c .before .own-fault .ensures)
+returns-2 c = let a = c .before .before .before .args in pass-first (a .s) (a .state) (a .start) (a .end) (a .opened) _ (not-true _ (c .if2 .taken)) (omega arith) (c .before .own-fault .ensures)
 
 cast-joint : tie.Need-cast-joint
 cast-joint c = search needs
@@ -38,7 +38,7 @@ returns-3 : tie.Need-returns-3
 returns-3 c =
     let a = c .before .before .before .before .before .before .args in
     let own = c .before .before .before .before .own-fault in
-    pass-next (a .s) (a .kind) (a .start) (a .end) (a .opened) _ _ _ (not-false _ (c .before .before .before .if2 .left)) (omega arith) (own .ensures)
+    pass-next (a .s) (a .state) (a .start) (a .end) (a .opened) _ _ _ (not-false _ (c .before .before .before .if2 .left)) (omega arith) (own .ensures)
     (c .lower2 .ensures ∙ ap (low (verdictOf (a .s .fault))) (c .before .lower .ensures ∙ ap (low (verdictOf (own .result))) (c .before .before .joint .ensures)))
     refl
 

@@ -9,10 +9,10 @@ use Rattle.row_plan.proofs.faults.row_fault.Statement.{statement}
 use Rattle.row_plan.proofs.faults.row_fault.Tie as tie
 
 abbrev Inv-loop : tie.InvT-loop
-Inv-loop kinds starts ends opened count s₀ k₀ s k = Spanning kinds starts ends opened count s k
+Inv-loop states starts ends opened count s₀ k₀ s k = Spanning states starts ends opened count s k
 
 abbrev μ-loop : tie.MeasureT-loop
-μ-loop kinds starts ends opened count s₀ k₀ s k = count - k
+μ-loop states starts ends opened count s₀ k₀ s k = count - k
 
 loop-holds : tie.Need-loop-holds Inv-loop μ-loop
 loop-holds c = span-start _ _ _ _ _

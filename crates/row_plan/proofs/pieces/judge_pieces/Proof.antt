@@ -15,10 +15,10 @@ use Rattle.row_plan.proofs.pieces.judge_pieces.Statement.{statement}
 use Rattle.row_plan.proofs.pieces.judge_pieces.Tie as tie
 
 abbrev Inv-loop : tie.InvT-loop
-Inv-loop row count kinds₀ starts₀ peaks₀ ends₀ opened₀ rest₀ k₀ mode₀ same₀ kinds starts peaks ends opened rest k mode same = Judging row count kinds starts peaks ends opened rest k mode same
+Inv-loop row count states₀ starts₀ peaks₀ ends₀ opened₀ rest₀ k₀ mode₀ same₀ states starts peaks ends opened rest k mode same = Judging row count states starts peaks ends opened rest k mode same
 
 abbrev μ-loop : tie.MeasureT-loop
-μ-loop row count kinds₀ starts₀ peaks₀ ends₀ opened₀ rest₀ k₀ mode₀ same₀ kinds starts peaks ends opened rest k mode same = count - k
+μ-loop row count states₀ starts₀ peaks₀ ends₀ opened₀ rest₀ k₀ mode₀ same₀ states starts peaks ends opened rest k mode same = count - k
 
 loop-holds : tie.Need-loop-holds Inv-loop μ-loop
 loop-holds c = judging-start _ _ _ _ _ _ _ (c .before .pre .1)
@@ -42,7 +42,7 @@ returns : tie.Need-returns Inv-loop μ-loop
 returns c =
     let start = c .before .before .before .before .before .before .before .before in
     let l = c .before .before .before .before .before .before .loop in
-    judging-not (now (start .args .row)) (start .args .count) (l .kinds) (l .starts) (l .peaks) (l .ends) (l .opened) (now (l .rest)) (l .k) (l .mode) (l .same) (l .inv) (start .pre .0 .0) (c .before .before .before .before .before .loop-test .taken) (c .before .before .before .before .first-length .result) (c .before .before .before .before .first-length .ensures)
+    judging-not (now (start .args .row)) (start .args .count) (l .states) (l .starts) (l .peaks) (l .ends) (l .opened) (now (l .rest)) (l .k) (l .mode) (l .same) (l .inv) (start .pre .0 .0) (c .before .before .before .before .before .loop-test .taken) (c .before .before .before .before .first-length .result) (c .before .before .before .before .first-length .ensures)
     (judges-not _ (c .before .before .judge .result) (c .before .before .judge .ensures) (c .enum-told .given .1))
 
 note-of-requires : tie.Need-note-of-requires Inv-loop μ-loop
@@ -79,14 +79,14 @@ loop-again c =
     let p = c .before .before .before .before .before .before .before .before .before .before .judged .given .0 .0 in
     let j = judges _ (c .before .before .before .before .before .before .before .before .before .before .before .before .judge .result) (c .before .before .before .before .before .before .before .before .before .before .before .before .judge .ensures) p (c .before .before .before .before .before .before .before .before .before .before .judged .given .1) in
     let st = c .before .before .store in
-    judging-next (now (start .args .row)) (start .args .count) (l .kinds) (l .starts) (l .peaks) (l .ends) (l .opened) (now (l .rest)) (l .k) (l .mode) (l .same) (l .inv) (start .pre .0 .0) (c .before .before .before .before .before .before .before .before .before .before .before .before .before .before .before .loop-test .taken) (c .before .before .before .before .before .before .before .before .before .before .before .before .before .before .first-length .result) (p .mode) _ p (c .before .before .before .before .before .before .before .before .note-of .result) (st .last .1 .1 .0) (st .last .1 .1 .1 .0) (st .last .1 .1 .1 .1 .0) (st .last .1 .1 .1 .1 .1 .0) (st .last .1 .1 .1 .1 .1 .1 .0)
+    judging-next (now (start .args .row)) (start .args .count) (l .states) (l .starts) (l .peaks) (l .ends) (l .opened) (now (l .rest)) (l .k) (l .mode) (l .same) (l .inv) (start .pre .0 .0) (c .before .before .before .before .before .before .before .before .before .before .before .before .before .before .before .loop-test .taken) (c .before .before .before .before .before .before .before .before .before .before .before .before .before .before .first-length .result) (p .mode) _ p (c .before .before .before .before .before .before .before .before .note-of .result) (st .last .1 .1 .0) (st .last .1 .1 .1 .0) (st .last .1 .1 .1 .1 .0) (st .last .1 .1 .1 .1 .1 .0) (st .last .1 .1 .1 .1 .1 .1 .0)
     (c .before .before .before .before .before .before .before .before .before .before .before .before .before .before .first-length .ensures) (start .pre .0 .1) j refl (c .before .before .before .before .before .before .before .before .note-of .ensures) (st .ensures) (c .before .first-mode .ensures)
 
 returns-2 : tie.Need-returns-2 Inv-loop μ-loop
 returns-2 c =
     let start = c .before .before .before in
     let l = c .before .loop in
-    judging-end (now (start .args .row)) (start .args .count) (l .kinds) (l .starts) (l .peaks) (l .ends) (l .opened) (now (l .rest)) (l .k) (l .mode) (l .same) (l .inv) (start .pre .0 .0) (omega arith)
+    judging-end (now (start .args .row)) (start .args .count) (l .states) (l .starts) (l .peaks) (l .ends) (l .opened) (now (l .rest)) (l .k) (l .mode) (l .same) (l .inv) (start .pre .0 .0) (omega arith)
 
 pub judge-pieces-spec : {M : Type 1} → statement M
 judge-pieces-spec =
