@@ -14,7 +14,8 @@ joined [] = []
 joined (x ∷ xs) = x ++ joined xs
 
 module _ {A : Type 0} (merge : A → A → A) (unit : A) where
-  -- "Half with half and each half likewise, the left half having the odd one." The first argument bounds the depth of the halving.
+  -- "Half with half and each half likewise, the left half having the odd one." The first argument bounds the depth of the halving; no row is halved
+  -- as often as it is long, so with its length (mergeRow) no piece is left at the bound: RowLaws.halves-inOrder.
   abbrev pub halves : ℕ → List A → A
   halves zero row = unit
   halves (suc n) [] = unit

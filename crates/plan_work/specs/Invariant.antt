@@ -12,7 +12,7 @@ use Rattle.hill.specs.Summary.{Summary, middle}
 use Rattle.join_plan.specs.Plan.{Line}
 use Rattle.join_plan.specs.Scan.{walk, plan}
 use Rattle.join_plan.specs.PlanFacts.{walk-stop}
-use Rattle.plan_work.specs.Runs.{leftAt, openFrom}
+use Rattle.plan_work.specs.Runs.{leftValueAt, openFrom}
 use Rattle.plan_work.specs.Work.{Done, outcomesAt, given, worked, lastOutcome}
 use Rattle.plan_work.specs.WorkLaws.{gives, gives-all, gives-before, gives-other, outs-nil, outs-cons, work, worked-nil, worked-cons, worked-append}
 use Rattle.plan_work.specs.GateExact.{Begins}
@@ -108,7 +108,7 @@ module _ {R : Type 0} (𝒜 : Algebra R) (ℒ : Laws 𝒜) (comm : Commutative �
         ∙ sym (down-split joined lo (suc c) (level 𝒜 row j) ι (omega arith) hc)
       where
         left : ℕ → Fig
-        left l = leftAt 𝒜 (floor 𝒜 row j) (sides 𝒜 row j) l
+        left l = leftValueAt 𝒜 (floor 𝒜 row j) (sides 𝒜 row j) l
 
         alone : ℕ → Fig → Fig
         alone l z = held 𝒜 row i l (z ⊗ left l)

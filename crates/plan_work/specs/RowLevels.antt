@@ -19,7 +19,7 @@ use Rattle.join_plan.specs.Joins.{after, levelAt}
 use Rattle.join_plan.specs.Scan.{lineIf, lineOf, passed, walk, linesTo, plan, scanOf}
 use Rattle.join_plan.specs.PlanExact.{planOf-scan}
 use Rattle.join_plan.specs.PlanFacts.{walk-stop}
-use Rattle.plan_work.specs.Runs.{peakOf, slopesOf, summaryAt, runLevels}
+use Rattle.plan_work.specs.Runs.{peakOfSummary, slopesOf, summaryAt, runLevels}
 use Rattle.plan_work.specs.Work.{middlesAt}
 use Rattle.plan_work.specs.WorkLaws.{middles-start, middles-step}
 use Rattle.plan_work.specs.GateExact.{Chain, Begins}
@@ -158,7 +158,7 @@ module _ {R : Type 0} (𝒜 : Algebra R) (row : List (Summary (𝒜 .Fig) R)) wh
   plan-zero = refl
 
   -- A chunk that is not flat has a peak of its own.
-  floor-peak : (s : Summary Fig R) (l : ℕ) → (floorOf (levelsOfSummary s) l < l) ⊎ (floorOf (levelsOfSummary s) l < after (levelsOfSummary s) l) → peakOf 𝒜 s ≡ floorOf (levelsOfSummary s) l
+  floor-peak : (s : Summary Fig R) (l : ℕ) → (floorOf (levelsOfSummary s) l < l) ⊎ (floorOf (levelsOfSummary s) l < after (levelsOfSummary s) l) → peakOfSummary 𝒜 s ≡ floorOf (levelsOfSummary s) l
   floor-peak blank l (inl a) = absurd (omega arith)
   floor-peak blank l (inr a) = absurd (omega arith)
   floor-peak (part (spoilt f b e o)) l (inl a) = absurd (omega arith)
@@ -175,7 +175,7 @@ module _ {R : Type 0} (𝒜 : Algebra R) (row : List (Summary (𝒜 .Fig) R)) wh
   cond-same false true x = refl
   cond-same false false x = refl
 
-  middle-floor : (s : Summary Fig R) (b l : ℕ) → cond (eqb (peakOf 𝒜 s) l) (middle (slopesOf 𝒜 s)) ι ≡ cond (eqb (floorOf (levelsOfSummary s) b) l) (middle (slopesOf 𝒜 s)) ι
+  middle-floor : (s : Summary Fig R) (b l : ℕ) → cond (eqb (peakOfSummary 𝒜 s) l) (middle (slopesOf 𝒜 s)) ι ≡ cond (eqb (floorOf (levelsOfSummary s) b) l) (middle (slopesOf 𝒜 s)) ι
   middle-floor blank b l = cond-same (eqb 0 l) (eqb b l) ι
   middle-floor (part (spoilt f a e o)) b l = cond-same (eqb 0 l) (eqb b l) ι
   middle-floor (part (whole p o h)) b l = refl

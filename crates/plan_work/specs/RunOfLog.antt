@@ -27,7 +27,7 @@ use Rattle.join_plan.specs.PlanExact.{planOf-exact}
 use Rattle.join_plan.specs.ByRecords.{place}
 use Rattle.join_plan.specs.LogLevels.{WellFormedLog, log-well-formed, levelsOf, rowOfChunks, chunkFault, log-quiet, fault-summary, levels-of-log}
 use Rattle.join_plan.specs.LogJoins.{place-le, closed-high, joins-exact}
-use Rattle.plan_work.specs.Runs.{peakOf as peakOfSummary, slopesOf, leftAt, openFrom, levelOf, levelsDown, summaryAt, runLevels}
+use Rattle.plan_work.specs.Runs.{peakOfSummary, slopesOf, leftValueAt, openFrom, levelOf, levelsDown, summaryAt, runLevels}
 use Rattle.plan_work.specs.RunsExact.{RunOf}
 use Rattle.plan_work.specs.RunsByRecords.{Links, Apart}
 use Rattle.plan_work.specs.CutFigure.{Quiet, held-closes, held-late, linked-figure, apart-some}
@@ -112,8 +112,8 @@ module _ {R : Type 0} (𝒜 : Algebra R) where
         rw (add-suc k m, g (p + (k + m)) (omega arith) (omega arith) .1) (rights-drop k m (λ c a b. g c a (omega arith)))
 
   -- One level of a run, where the record of depth d is pending in a chunk that the next one closes.
-  level-read : (d m n : ℕ) (q : ℕ) (h : Hill Fig R) (xs : List (Record R)) (p : ℕ) (r : R) (s v : Fig) → p ≤ d → d < p + n → Singles xs p n → pending 𝒜 d xs ≡ (r, s) ∷ [] → leftAt 𝒜 q h (suc d) ≡ v →
-      levelOf 𝒜 (openFrom 𝒜 p (valuesOf 𝒜 p m n xs) (suc d)) (leftAt 𝒜 q h (suc d)) ≡ record { carried = r; before = s; after = v } ∷ []
+  level-read : (d m n : ℕ) (q : ℕ) (h : Hill Fig R) (xs : List (Record R)) (p : ℕ) (r : R) (s v : Fig) → p ≤ d → d < p + n → Singles xs p n → pending 𝒜 d xs ≡ (r, s) ∷ [] → leftValueAt 𝒜 q h (suc d) ≡ v →
+      levelOf 𝒜 (openFrom 𝒜 p (valuesOf 𝒜 p m n xs) (suc d)) (leftValueAt 𝒜 q h (suc d)) ≡ record { carried = r; before = s; after = v } ∷ []
   level-read d m n q h xs p r s v a b f e g =
       let k : ℕ = d - p in
       let i : suc k + (n - suc k) ≡ n = omega arith in
@@ -130,7 +130,7 @@ module _ {R : Type 0} (𝒜 : Algebra R) where
 
   -- The level at depth d of a line's run, from the summaries of its chunks.
   run-level : (xs ys : List (Record R)) (d : ℕ) (r : R) (s : Fig) → chunkFault xs ≡ pass → chunkFault ys ≡ pass → Opens (levelsOf xs) d → Closes (levelsOf ys) d → pending 𝒜 d xs ≡ (r, s) ∷ [] →
-      levelOf 𝒜 (openFrom 𝒜 (peakOfSummary 𝒜 (summaryOf 𝒜 xs)) (slopesOf 𝒜 (summaryOf 𝒜 xs)) (suc d)) (leftAt 𝒜 (peakOfSummary 𝒜 (summaryOf 𝒜 ys)) (slopesOf 𝒜 (summaryOf 𝒜 ys)) (suc d)) ≡
+      levelOf 𝒜 (openFrom 𝒜 (peakOfSummary 𝒜 (summaryOf 𝒜 xs)) (slopesOf 𝒜 (summaryOf 𝒜 xs)) (suc d)) (leftValueAt 𝒜 (peakOfSummary 𝒜 (summaryOf 𝒜 ys)) (slopesOf 𝒜 (summaryOf 𝒜 ys)) (suc d)) ≡
       record { carried = r; before = s; after = done 𝒜 (suc d) ys } ∷ []
   run-level [] ys d r s f g a b e = absurd a
   run-level (x ∷ xs) [] d r s f g a b e = absurd b
@@ -174,7 +174,7 @@ module _ {R : Type 0} (𝒜 : Algebra R) (ℒ : Laws 𝒜) (comm : Commutative �
     abbrev levelAt : ℕ → List (Level 𝒜)
     levelAt d =
         levelOf 𝒜 (openFrom 𝒜 (peakOfSummary 𝒜 (summaryAt 𝒜 row i)) (slopesOf 𝒜 (summaryAt 𝒜 row i)) (suc d))
-        (leftAt 𝒜 (peakOfSummary 𝒜 (summaryAt 𝒜 row j)) (slopesOf 𝒜 (summaryAt 𝒜 row j)) (suc d))
+        (leftValueAt 𝒜 (peakOfSummary 𝒜 (summaryAt 𝒜 row j)) (slopesOf 𝒜 (summaryAt 𝒜 row j)) (suc d))
 
     abbrev levels : (lowest n : ℕ) → List (Level 𝒜)
     levels lowest n =

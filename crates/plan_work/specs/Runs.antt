@@ -11,23 +11,24 @@ module _ {R : Type 0} (𝒜 : Algebra R) where
   open Algebra 𝒜 using (Fig, ι)
 
   -- The peak and the slopes of a summary; a blank has no slopes and holds nothing.
-  abbrev pub peakOf : Summary Fig R → ℕ
-  peakOf blank = 0
-  peakOf (part a) = peak 𝒜 a
+  abbrev pub peakOfSummary : Summary Fig R → ℕ
+  peakOfSummary blank = 0
+  peakOfSummary (part a) = peak 𝒜 a
 
   abbrev pub slopesOf : Summary Fig R → Hill Fig R
   slopesOf blank = hill [] ι []
   slopesOf (part a) = slopes 𝒜 a
 
   -- Of a hill over the peak p, the left value at level l: the first in the list stands at level p + 1.
-  abbrev pub leftAt : ℕ → Hill Fig R → ℕ → Fig
-  leftAt p (hill u m d) l = getD u (l - suc p) ι
+  abbrev pub leftValueAt : ℕ → Hill Fig R → ℕ → Fig
+  leftValueAt p (hill u m d) l = getD u (l - suc p) ι
 
   -- And its unclosed records from level l down: the first in the list stands at the end level, p + length d.
   abbrev pub openFrom : ℕ → Hill Fig R → ℕ → List (R × Fig)
   openFrom p (hill u m d) l = drop (p + length d - l) d
 
-  -- One level of a run: the first of these unclosed records, with its held figures so far before x and the value v after it.
+  -- One level of a run: the first of these unclosed records, with its held figures so far before x and the value v after it. A line of the plan has
+  -- such a record at each of its depths, so no level is left out: RunsExact.run-length.
   abbrev pub levelOf : List (R × Fig) → Fig → List (Level 𝒜)
   levelOf [] v = []
   levelOf (e ∷ d) v = record { carried = e .0; before = e .1; after = v } ∷ []
@@ -36,7 +37,7 @@ module _ {R : Type 0} (𝒜 : Algebra R) where
   -- of depth d stands at level d + 1.
   unfoldable pub levelsDown : ℕ → Hill Fig R → ℕ → Hill Fig R → (lowest n : ℕ) → List (Level 𝒜)
   levelsDown p g q h lowest zero = []
-  levelsDown p g q h lowest (suc n) = levelOf (openFrom p g (suc (lowest + n))) (leftAt q h (suc (lowest + n))) ++ levelsDown p g q h lowest n
+  levelsDown p g q h lowest (suc n) = levelOf (openFrom p g (suc (lowest + n))) (leftValueAt q h (suc (lowest + n))) ++ levelsDown p g q h lowest n
 
   module _ (row : List (Summary Fig R)) where
     -- The summary k of a row (past its end: a blank).
@@ -46,11 +47,12 @@ module _ {R : Type 0} (𝒜 : Algebra R) where
     -- The levels that a line's run goes through, from its highest depth to its lowest.
     unfoldable pub runLevels : Line → List (Level 𝒜)
     runLevels e =
-        levelsDown (peakOf (summaryAt (e .i))) (slopesOf (summaryAt (e .i))) (peakOf (summaryAt (e .j))) (slopesOf (summaryAt (e .j)))
+        levelsDown (peakOfSummary (summaryAt (e .i))) (slopesOf (summaryAt (e .i))) (peakOfSummary (summaryAt (e .j))) (slopesOf (summaryAt (e .j)))
         (e .lowest) (suc (e .highest) - e .lowest)
 
 module _ {R : Type 0} {𝒜 : Algebra R} {Sound : R → Type 0} (C : Context 𝒜 Sound) where
-  -- The run of nested levels as a mode's numbers: there is one wherever there is a level.
+  -- The run of nested levels as a mode's numbers: there is one wherever there is a level. Each line of the plan has a level (RunsExact.run-length), and
+  -- so its run: RunsExact.runs-count.
   abbrev pub runOf : List (Level 𝒜) → List (C .K)
   runOf [] = []
   runOf (l ∷ ls) = run C l ls ∷ []

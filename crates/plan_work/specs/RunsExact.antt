@@ -13,7 +13,7 @@ use Rattle.hill.specs.Valid.{AllFine, FineHill}
 use Rattle.join_plan.specs.Plan.{Levels, Line, rowOf, levelsOfSummary, planOfRow}
 use Rattle.join_plan.specs.Joins.{Opens, Closes, IsLine}
 use Rattle.join_plan.specs.PlanExact.{planOf-exact, planOf-range}
-use Rattle.plan_work.specs.Runs.{peakOf, slopesOf, leftAt, levelOf, levelsDown, summaryAt, runLevels, runOf, runsAlong, runsOf}
+use Rattle.plan_work.specs.Runs.{peakOfSummary, slopesOf, leftValueAt, levelOf, levelsDown, summaryAt, runLevels, runOf, runsAlong, runsOf}
 use Rattle.plan_work.specs.Fair.{ValidRow}
 
 module _ {R : Type 0} (𝒜 : Algebra R) where
@@ -29,25 +29,25 @@ module _ {R : Type 0} (𝒜 : Algebra R) where
   levels-length p g q h lo zero a b = refl
   levels-length p (hill u m d) q h lo (suc n) a b =
       let i : ℕ = p + length d - suc (lo + n) in
-      length-append (levelOf 𝒜 (drop i d) (leftAt 𝒜 q h (suc (lo + n)))) (levelsDown 𝒜 p (hill u m d) q h lo n)
-      ∙ rw (level-length (drop i d) (leftAt 𝒜 q h (suc (lo + n))) (rw (length-drop i d) (omega arith)), levels-length p (hill u m d) q h lo n a (omega arith)) (omega arith)
+      length-append (levelOf 𝒜 (drop i d) (leftValueAt 𝒜 q h (suc (lo + n)))) (levelsDown 𝒜 p (hill u m d) q h lo n)
+      ∙ rw (level-length (drop i d) (leftValueAt 𝒜 q h (suc (lo + n))) (rw (length-drop i d) (omega arith)), levels-length p (hill u m d) q h lo n a (omega arith)) (omega arith)
 
   -- Where a line of the plan lies: its depths are those of unclosed records of its first chunk, and of left values of its second.
   pub record Spans (row : List (Summary Fig R)) (e : Line) : Type 0 where
     pub before : e .i < e .j
     pub inside : e .j < length row
     pub some : e .lowest ≤ e .highest
-    pub open-from : peakOf 𝒜 (summaryAt 𝒜 row (e .i)) ≤ e .lowest
-    pub open-to : e .highest < peakOf 𝒜 (summaryAt 𝒜 row (e .i)) + fall (slopesOf 𝒜 (summaryAt 𝒜 row (e .i)))
-    pub close-from : peakOf 𝒜 (summaryAt 𝒜 row (e .j)) ≤ e .lowest
-    pub close-to : e .highest < peakOf 𝒜 (summaryAt 𝒜 row (e .j)) + rise (slopesOf 𝒜 (summaryAt 𝒜 row (e .j)))
+    pub open-from : peakOfSummary 𝒜 (summaryAt 𝒜 row (e .i)) ≤ e .lowest
+    pub open-to : e .highest < peakOfSummary 𝒜 (summaryAt 𝒜 row (e .i)) + fall (slopesOf 𝒜 (summaryAt 𝒜 row (e .i)))
+    pub close-from : peakOfSummary 𝒜 (summaryAt 𝒜 row (e .j)) ≤ e .lowest
+    pub close-to : e .highest < peakOfSummary 𝒜 (summaryAt 𝒜 row (e .j)) + rise (slopesOf 𝒜 (summaryAt 𝒜 row (e .j)))
 
-  depths-open : (s : Summary Fig R) (d : ℕ) → Opens (levelsOfSummary s) d → (peakOf 𝒜 s ≤ d) × (d < peakOf 𝒜 s + fall (slopesOf 𝒜 s))
+  depths-open : (s : Summary Fig R) (d : ℕ) → Opens (levelsOfSummary s) d → (peakOfSummary 𝒜 s ≤ d) × (d < peakOfSummary 𝒜 s + fall (slopesOf 𝒜 s))
   depths-open blank d x = absurd x
   depths-open (part (spoilt f s e o)) d x = absurd x
   depths-open (part (whole p o h)) d x = x
 
-  depths-closed : (s : Summary Fig R) (d : ℕ) → Closes (levelsOfSummary s) d → (peakOf 𝒜 s ≤ d) × (d < peakOf 𝒜 s + rise (slopesOf 𝒜 s))
+  depths-closed : (s : Summary Fig R) (d : ℕ) → Closes (levelsOfSummary s) d → (peakOfSummary 𝒜 s ≤ d) × (d < peakOfSummary 𝒜 s + rise (slopesOf 𝒜 s))
   depths-closed blank d x = absurd x
   depths-closed (part (spoilt f s e o)) d x = absurd x
   depths-closed (part (whole p o h)) d x = x
@@ -72,11 +72,11 @@ module _ {R : Type 0} (𝒜 : Algebra R) where
       some : e .lowest ≤ e .highest
       some = is .some
 
-      opens : (d : ℕ) → e .lowest ≤ d → d ≤ e .highest → (peakOf 𝒜 (summaryAt 𝒜 row (e .i)) ≤ d) × (d < peakOf 𝒜 (summaryAt 𝒜 row (e .i)) + fall (slopesOf 𝒜 (summaryAt 𝒜 row (e .i))))
+      opens : (d : ℕ) → e .lowest ≤ d → d ≤ e .highest → (peakOfSummary 𝒜 (summaryAt 𝒜 row (e .i)) ≤ d) × (d < peakOfSummary 𝒜 (summaryAt 𝒜 row (e .i)) + fall (slopesOf 𝒜 (summaryAt 𝒜 row (e .i))))
       opens d a b =
           depths-open (summaryAt 𝒜 row (e .i)) d (subst (λ (c : Levels). Opens c d) (List·getD-map levelsOfSummary row (e .i) blank) (is .depths d .1 (a, b) .0 .opens))
 
-      closes : (d : ℕ) → e .lowest ≤ d → d ≤ e .highest → (peakOf 𝒜 (summaryAt 𝒜 row (e .j)) ≤ d) × (d < peakOf 𝒜 (summaryAt 𝒜 row (e .j)) + rise (slopesOf 𝒜 (summaryAt 𝒜 row (e .j))))
+      closes : (d : ℕ) → e .lowest ≤ d → d ≤ e .highest → (peakOfSummary 𝒜 (summaryAt 𝒜 row (e .j)) ≤ d) × (d < peakOfSummary 𝒜 (summaryAt 𝒜 row (e .j)) + rise (slopesOf 𝒜 (summaryAt 𝒜 row (e .j))))
       closes d a b =
           depths-closed (summaryAt 𝒜 row (e .j)) d (subst (λ (c : Levels). Closes c d) (List·getD-map levelsOfSummary row (e .j) blank) (is .depths d .1 (a, b) .1))
 
@@ -86,7 +86,7 @@ module _ {R : Type 0} (𝒜 : Algebra R) where
   run-length row e m =
       let r : Spans row e = line-spans row e m in (
         r .some,
-        levels-length (peakOf 𝒜 (summaryAt 𝒜 row (e .i))) (slopesOf 𝒜 (summaryAt 𝒜 row (e .i))) (peakOf 𝒜 (summaryAt 𝒜 row (e .j))) (slopesOf 𝒜 (summaryAt 𝒜 row (e .j)))
+        levels-length (peakOfSummary 𝒜 (summaryAt 𝒜 row (e .i))) (slopesOf 𝒜 (summaryAt 𝒜 row (e .i))) (peakOfSummary 𝒜 (summaryAt 𝒜 row (e .j))) (slopesOf 𝒜 (summaryAt 𝒜 row (e .j)))
             (e .lowest) (suc (e .highest) - e .lowest) (r .open-from) (omega (arith, r .open-to, r .some)),
       )
 
@@ -112,13 +112,13 @@ module _ {R : Type 0} (𝒜 : Algebra R) where
     unfolding levelsDown
     levels-sound p g q h lo zero f = tt
     levels-sound p (hill u m d) q h lo (suc n) f =
-        level-sound (drop (p + length d - suc (lo + n)) d) (leftAt 𝒜 q h (suc (lo + n))) (levelsDown 𝒜 p (hill u m d) q h lo n) (drop-fine (p + length d - suc (lo + n)) d f)
+        level-sound (drop (p + length d - suc (lo + n)) d) (leftValueAt 𝒜 q h (suc (lo + n))) (levelsDown 𝒜 p (hill u m d) q h lo n) (drop-fine (p + length d - suc (lo + n)) d f)
         (levels-sound p (hill u m d) q h lo n f)
 
     pub run-sound : (row : List (Summary Fig R)) (e : Line) → ValidRow 𝒜 𝒮 row → AllSound Sound (runLevels 𝒜 row e)
     unfolding runLevels
     run-sound row e v =
-        levels-sound (peakOf 𝒜 (summaryAt 𝒜 row (e .i))) (slopesOf 𝒜 (summaryAt 𝒜 row (e .i))) (peakOf 𝒜 (summaryAt 𝒜 row (e .j))) (slopesOf 𝒜 (summaryAt 𝒜 row (e .j)))
+        levels-sound (peakOfSummary 𝒜 (summaryAt 𝒜 row (e .i))) (slopesOf 𝒜 (summaryAt 𝒜 row (e .i))) (peakOfSummary 𝒜 (summaryAt 𝒜 row (e .j))) (slopesOf 𝒜 (summaryAt 𝒜 row (e .j)))
         (e .lowest) (suc (e .highest) - e .lowest) (slopes-fine 𝒮 row (e .i) v)
 
 module _ {R : Type 0} {𝒜 : Algebra R} {Sound : R → Type 0} (C : Context 𝒜 Sound) where

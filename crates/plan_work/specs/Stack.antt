@@ -9,7 +9,7 @@ use Rattle.algebra.specs.Algebra.{Algebra, Laws}
 use Rattle.algebra.specs.Run.{Level, through, step}
 use Rattle.hill.specs.Summary.{Hill, hill, rights, rise, fall, middle}
 use Rattle.hill.specs.Building.{push, join, close, closes, merge, join-unit, join-join}
-use Rattle.plan_work.specs.Runs.{leftAt, openFrom, levelOf, levelsDown}
+use Rattle.plan_work.specs.Runs.{leftValueAt, openFrom, levelOf, levelsDown}
 use Rattle.plan_work.specs.Fold.{fold, fold-zero, fold-suc, fold-low, fold-cong}
 
 -- a list with more than n members, from the n-th on
@@ -30,11 +30,11 @@ module _ {R : Type 0} (𝒜 : Algebra R) where
 
   -- One level at which the records d of a stack are closed by a hill over the peak q.
   abbrev pub closing : ℕ → List (R × Fig) → ℕ → Hill Fig R → ℕ → Fig → Fig
-  closing s d q h l z = shut (drop (s - l) d) (z ⊗ leftAt 𝒜 q h l)
+  closing s d q h l z = shut (drop (s - l) d) (z ⊗ leftValueAt 𝒜 q h l)
 
   -- One level at which the unclosed records of the hill g, over the peak p, are closed by h, over q.
   abbrev pub own : ℕ → Hill Fig R → ℕ → Hill Fig R → ℕ → Fig → Fig
-  own p g q h l z = shut (openFrom 𝒜 p g l) (z ⊗ leftAt 𝒜 q h l)
+  own p g q h l z = shut (openFrom 𝒜 p g l) (z ⊗ leftValueAt 𝒜 q h l)
 
   -- The first of these records also holds w.
   abbrev pub lay : Fig → List (R × Fig) → List (R × Fig)
@@ -76,7 +76,7 @@ module _ {R : Type 0} (𝒜 : Algebra R) where
     unfolding through levelsDown
     through-levels p g q h lo zero x a b = sym (fold-zero (own p g q h) lo x)
     through-levels p (hill u m d) q h lo (suc n) x a b =
-        through-level (drop (p + length d - suc (lo + n)) d) (leftAt 𝒜 q h (suc (lo + n))) (levelsDown 𝒜 p (hill u m d) q h lo n) x
+        through-level (drop (p + length d - suc (lo + n)) d) (leftValueAt 𝒜 q h (suc (lo + n))) (levelsDown 𝒜 p (hill u m d) q h lo n) x
         (rw (length-drop (p + length d - suc (lo + n)) d) (omega arith))
         ∙ through-levels p (hill u m d) q h lo n (own p (hill u m d) q h (suc (lo + n)) x) a (omega arith)
         ∙ sym (fold-suc (own p (hill u m d) q h) lo n x)

@@ -8,7 +8,7 @@ use Rattle.algebra.specs.Algebra.{Algebra}
 use Rattle.algebra.specs.Run.{through}
 use Rattle.hill.specs.Summary.{Summary, blank, part, middle, slopes}
 use Rattle.join_plan.specs.Plan.{Line, joins, folded, planOfRow}
-use Rattle.plan_work.specs.Runs.{peakOf, slopesOf, runLevels}
+use Rattle.plan_work.specs.Runs.{peakOfSummary, slopesOf, runLevels}
 
 -- A line that has been worked, with its outcome.
 pub record Done (Fig : Type 0) : Type 0 where
@@ -28,7 +28,7 @@ module _ {R : Type 0} (𝒜 : Algebra R) where
   -- The middle values, combined, of those whose peak is l.
   unfoldable pub middlesAt : ℕ → List (Summary Fig R) → Fig
   middlesAt l [] = ι
-  middlesAt l (s ∷ row) = cond (eqb (peakOf 𝒜 s) l) (middle (slopesOf 𝒜 s)) ι ⊗ middlesAt l row
+  middlesAt l (s ∷ row) = cond (eqb (peakOfSummary 𝒜 s) l) (middle (slopesOf 𝒜 s)) ι ⊗ middlesAt l row
 
   -- The outcomes, combined, of the lines from i to j whose lowest is l: both ends lie within i to j, and either may be i or j.
   unfoldable pub outcomesAt : (i j l : ℕ) → List (Done Fig) → Fig

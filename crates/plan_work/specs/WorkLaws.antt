@@ -13,7 +13,7 @@ use Rattle.algebra.specs.Algebra.{Algebra, Laws}
 use Rattle.algebra.specs.Run.{through}
 use Rattle.hill.specs.Summary.{Hill, Summary, blank, middle}
 use Rattle.join_plan.specs.Plan.{Line}
-use Rattle.plan_work.specs.Runs.{peakOf, slopesOf, leftAt, openFrom, levelOf, levelsDown, summaryAt, runLevels}
+use Rattle.plan_work.specs.Runs.{peakOfSummary, slopesOf, leftValueAt, openFrom, levelOf, levelsDown, summaryAt, runLevels}
 use Rattle.plan_work.specs.Work.{Done, middlesAt, outcomesAt, strictlyBetween, given, worked}
 
 and-no : (t : Bool) → t && false ≡ false
@@ -68,7 +68,7 @@ module _ {R : Type 0} (𝒜 : Algebra R) where
 
   -- The level of depth `lowest` + n stands before those below it.
   pub levels-next : (p : ℕ) (g : Hill Fig R) (q : ℕ) (h : Hill Fig R) (lowest n : ℕ) →
-      levelsDown 𝒜 p g q h lowest (suc n) ≡ levelOf 𝒜 (openFrom 𝒜 p g (suc (lowest + n))) (leftAt 𝒜 q h (suc (lowest + n))) ++ levelsDown 𝒜 p g q h lowest n
+      levelsDown 𝒜 p g q h lowest (suc n) ≡ levelOf 𝒜 (openFrom 𝒜 p g (suc (lowest + n))) (leftValueAt 𝒜 q h (suc (lowest + n))) ++ levelsDown 𝒜 p g q h lowest n
   unfolding levelsDown
   levels-next p g q h lowest n = refl
 
@@ -80,13 +80,13 @@ module _ {R : Type 0} (𝒜 : Algebra R) where
   module _ (ℒ : Laws 𝒜) where
     open Laws ℒ using (assoc, unit-l, unit-r)
 
-    middles-last : (l : ℕ) (ss : List (Summary Fig R)) (s : Summary Fig R) → middlesAt 𝒜 l (ss ++ (s ∷ [])) ≡ middlesAt 𝒜 l ss ⊗ cond (eqb (peakOf 𝒜 s) l) (middle (slopesOf 𝒜 s)) ι
+    middles-last : (l : ℕ) (ss : List (Summary Fig R)) (s : Summary Fig R) → middlesAt 𝒜 l (ss ++ (s ∷ [])) ≡ middlesAt 𝒜 l ss ⊗ cond (eqb (peakOfSummary 𝒜 s) l) (middle (slopesOf 𝒜 s)) ι
     unfolding middlesAt
     middles-last l [] s = unit-r _ ∙ sym (unit-l _)
-    middles-last l (t ∷ ss) s = ap (λ (y : Fig). cond (eqb (peakOf 𝒜 t) l) (middle (slopesOf 𝒜 t)) ι ⊗ y) (middles-last l ss s) ∙ sym (assoc _ _ _)
+    middles-last l (t ∷ ss) s = ap (λ (y : Fig). cond (eqb (peakOfSummary 𝒜 t) l) (middle (slopesOf 𝒜 t)) ι ⊗ y) (middles-last l ss s) ∙ sym (assoc _ _ _)
 
     pub middles-step : (row : List (Summary Fig R)) (i k l : ℕ) → i < k → k < length row →
-        middlesAt 𝒜 l (strictlyBetween 𝒜 row i (suc k)) ≡ middlesAt 𝒜 l (strictlyBetween 𝒜 row i k) ⊗ cond (eqb (peakOf 𝒜 (summaryAt 𝒜 row k)) l) (middle (slopesOf 𝒜 (summaryAt 𝒜 row k))) ι
+        middlesAt 𝒜 l (strictlyBetween 𝒜 row i (suc k)) ≡ middlesAt 𝒜 l (strictlyBetween 𝒜 row i k) ⊗ cond (eqb (peakOfSummary 𝒜 (summaryAt 𝒜 row k)) l) (middle (slopesOf 𝒜 (summaryAt 𝒜 row k))) ι
     middles-step row i k l a b =
         rw (take-suc row k blank b, drop-append-le (suc i) (take k row) (summaryAt 𝒜 row k ∷ []) (rw (length-take-le k row (omega arith)) a))
         (middles-last l (drop (suc i) (take k row)) (summaryAt 𝒜 row k))

@@ -20,7 +20,7 @@ use Rattle.hill.specs.Valid.{weightUp, weightDown, weight, AllFine, FineHill}
 use Rattle.hill.specs.Building.{empty}
 use Rattle.hill.specs.ValidLaws.{weight-merge, fine-merge}
 use Rattle.join_plan.specs.Plan.{Line, planOfRow}
-use Rattle.plan_work.specs.Runs.{peakOf, slopesOf, leftAt, openFrom, levelOf, levelsDown, summaryAt, runLevels}
+use Rattle.plan_work.specs.Runs.{peakOfSummary, slopesOf, leftValueAt, openFrom, levelOf, levelsDown, summaryAt, runLevels}
 use Rattle.plan_work.specs.Work.{Done, middlesAt, outcomesAt, strictlyBetween, given, worked, oneMiddle}
 use Rattle.plan_work.specs.WorkLaws.{gives, outs-nil, outs-cons, work, worked-nil, worked-cons, worked-append, levels-none, levels-next}
 use Rattle.plan_work.specs.Gate.{partsOf, spoiltFault, joinFault, totalOpened, lastEnd, partsFault, rowFault}
@@ -111,14 +111,14 @@ module _ {R : Type 0} (𝒜 : Algebra R) {Fine : R → Type 0} (𝒮 : Sizes �
   -- For the loop over the depths of a line, at the depth lo + n.
   pub level-spent : (B p : ℕ) (g : Hill Fig R) (q : ℕ) (h : Hill Fig R) (lo n : ℕ) (e : R × Fig) (rest : List (R × Fig)) (x : Fig) → openFrom 𝒜 p g (suc (lo + n)) ≡ e ∷ rest →
       AllSound Fine (levelsDown 𝒜 p g q h lo (suc n)) → size x + costs 𝒮 (levelsDown 𝒜 p g q h lo (suc n)) ≤ B →
-      LevelSpent B e (leftAt 𝒜 q h (suc (lo + n))) (levelsDown 𝒜 p g q h lo (suc n)) (levelsDown 𝒜 p g q h lo n) x
+      LevelSpent B e (leftValueAt 𝒜 q h (suc (lo + n))) (levelsDown 𝒜 p g q h lo (suc n)) (levelsDown 𝒜 p g q h lo n) x
   unfolding through
   level-spent B p g q h lo n e rest x k s c =
       subst (λ (all : List (Level 𝒜)). LevelSpent B e v all ls x) (sym is)
       (record { fine = t .0; first = w .first; inside = w .inside; rest = w .rest; goes = refl; sound = t .1 })
     where
       v : Fig
-      v = leftAt 𝒜 q h (suc (lo + n))
+      v = leftValueAt 𝒜 q h (suc (lo + n))
 
       ls : List (Level 𝒜)
       ls = levelsDown 𝒜 p g q h lo n
@@ -209,7 +209,7 @@ module _ {R : Type 0} (𝒜 : Algebra R) {Fine : R → Type 0} (𝒮 : Sizes �
   unfolding middlesAt
   middles-weight l [] = omega (arith, size-ι)
   middles-weight l (s ∷ row) =
-      let t : Bool = eqb (peakOf 𝒜 s) l in
+      let t : Bool = eqb (peakOfSummary 𝒜 s) l in
       omega (arith, size-⊗ (cond t (middle (slopesOf 𝒜 s)) ι) (middlesAt 𝒜 l row), cond-size t (middle (slopesOf 𝒜 s)), middle-weight (slopesOf 𝒜 s), middles-weight l row)
 
   one-weight : (row : List (Summary Fig R)) → size (oneMiddle 𝒜 row) ≤ weights row
@@ -242,7 +242,7 @@ module _ {R : Type 0} (𝒜 : Algebra R) {Fine : R → Type 0} (𝒮 : Sizes �
     levels-light e s =
         omega (
           arith,
-          costs-light (peakOf 𝒜 (summaryAt 𝒜 row (e .i))) (slopesOf 𝒜 (summaryAt 𝒜 row (e .i))) (peakOf 𝒜 (summaryAt 𝒜 row (e .j))) (slopesOf 𝒜 (summaryAt 𝒜 row (e .j)))
+          costs-light (peakOfSummary 𝒜 (summaryAt 𝒜 row (e .i))) (slopesOf 𝒜 (summaryAt 𝒜 row (e .i))) (peakOfSummary 𝒜 (summaryAt 𝒜 row (e .j))) (slopesOf 𝒜 (summaryAt 𝒜 row (e .j)))
               (e .lowest) (suc (e .highest) - e .lowest) (s .close-from) (omega (arith, s .open-to, s .some)),
           hill-light (e .i),
           hill-light (e .j),

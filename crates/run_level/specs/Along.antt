@@ -8,7 +8,7 @@ use Rattle.figure.specs.Mode.{modeOf}
 use Rattle.summary.specs.Layout.{SummaryIn}
 use Rattle.summary.specs.Decode.{decode}
 use Rattle.join_plan.specs.Plan.{planOfRow}
-use Rattle.plan_work.specs.Runs.{peakOf, slopesOf, levelsDown}
+use Rattle.plan_work.specs.Runs.{peakOfSummary, slopesOf, levelsDown}
 use Rattle.row_plan.specs.Arrays.{linesIn}
 use Rattle.row_plan.specs.Asks.{Through}
 use Rattle.run_level.specs.declared.Place.{Place}
@@ -39,5 +39,5 @@ pub record Along (row : List ℕ) (count m : ℕ) (ats starts peaks is js lows h
 -- The n levels from the depth `low` on, the highest first, of the hills at two places.
 abbrev pub levelsOf : (row : List ℕ) (m : ℕ) (opener closer : Place) (low n : ℕ) → List (Level (modeOf m .algebra))
 levelsOf row m o c low n =
-    levelsDown (modeOf m .algebra) (peakOf (modeOf m .algebra) (decode m (pieceOf row (o .piece)))) (slopesOf (modeOf m .algebra) (decode m (pieceOf row (o .piece))))
-    (peakOf (modeOf m .algebra) (decode m (pieceOf row (c .piece)))) (slopesOf (modeOf m .algebra) (decode m (pieceOf row (c .piece)))) low n
+    levelsDown (modeOf m .algebra) (peakOfSummary (modeOf m .algebra) (decode m (pieceOf row (o .piece)))) (slopesOf (modeOf m .algebra) (decode m (pieceOf row (o .piece))))
+    (peakOfSummary (modeOf m .algebra) (decode m (pieceOf row (c .piece)))) (slopesOf (modeOf m .algebra) (decode m (pieceOf row (c .piece)))) low n

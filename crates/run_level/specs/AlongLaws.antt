@@ -14,7 +14,7 @@ use Rattle.summary.specs.Layout.{SummaryIn}
 use Rattle.summary.specs.Decode.{decode}
 use Rattle.join_plan.specs.Plan.{Line, planOfRow}
 use Rattle.join_plan.specs.Scan.{plan}
-use Rattle.plan_work.specs.Runs.{peakOf, slopesOf, levelsDown, summaryAt, runLevels}
+use Rattle.plan_work.specs.Runs.{peakOfSummary, slopesOf, levelsDown, summaryAt, runLevels}
 use Rattle.plan_work.specs.WorkLaws.{levels-next}
 use Rattle.plan_work.specs.RunsExact.{line-spans}
 use Rattle.plan_work.specs.WorkSizes.{levels-light, load-fits}
@@ -68,7 +68,7 @@ module _ {row : List ℕ} {count m : ℕ} {ats starts peaks is js lows highs : L
       let v = line-levels-of in
       let p : summaryAt (modeOf m .algebra) (rowIn m row) (e .i) ≡ decode m (pieceOf row (e .i)) = decoded-at m (rowPieces row) (e .i) (omega (arith, v .order, v .within)) in
       let q : summaryAt (modeOf m .algebra) (rowIn m row) (e .j) ≡ decode m (pieceOf row (e .j)) = decoded-at m (rowPieces row) (e .j) (v .within) in
-      ap₂ (λ (s t : SummaryIn m). levelsDown (modeOf m .algebra) (peakOf (modeOf m .algebra) s) (slopesOf (modeOf m .algebra) s) (peakOf (modeOf m .algebra) t) (slopesOf (modeOf m .algebra) t) (e .lowest) (suc (e .highest) - e .lowest)) p q
+      ap₂ (λ (s t : SummaryIn m). levelsDown (modeOf m .algebra) (peakOfSummary (modeOf m .algebra) s) (slopesOf (modeOf m .algebra) s) (peakOfSummary (modeOf m .algebra) t) (slopesOf (modeOf m .algebra) t) (e .lowest) (suc (e .highest) - e .lowest)) p q
 
   -- They add at most 2 * 10^14.
   pub line-costs : costs (modeOf m .sizes) (runLevels (modeOf m .algebra) (rowIn m row) e) ≤ 200_000_000_000_000

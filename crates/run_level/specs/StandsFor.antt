@@ -21,7 +21,7 @@ use Rattle.summary.specs.Hills.{AllStored, hill-stored}
 use Rattle.join_plan.specs.Plan.{Levels, Line, levelsOfSummary, planOfRow, rowOf}
 use Rattle.join_plan.specs.Joins.{Opens, Closes as ClosesDepth}
 use Rattle.join_plan.specs.PlanExact.{planOf-exact, planOf-range}
-use Rattle.plan_work.specs.Runs.{peakOf, slopesOf, openFrom, leftAt as leftOf, levelOf}
+use Rattle.plan_work.specs.Runs.{peakOfSummary, slopesOf, openFrom, leftValueAt, levelOf}
 use Rattle.outcome.specs.Laws.{AllIn}
 use Rattle.row_plan.specs.RowLaws.{each-in, decoded-at}
 use Rattle.run_level.specs.declared.RunLevel.{RunLevel}
@@ -49,7 +49,7 @@ module _ (m : ℕ) where
   abbrev 𝒜 : Algebra Amounts
   𝒜 = modeOf m .algebra
 
-  opens-from : (p : List ℕ) (d : ℕ) → LeavesOpen p d → openFrom 𝒜 (peakOf 𝒜 (decode m p)) (slopesOf 𝒜 (decode m p)) (suc d)
+  opens-from : (p : List ℕ) (d : ℕ) → LeavesOpen p d → openFrom 𝒜 (peakOfSummary 𝒜 (decode m p)) (slopesOf 𝒜 (decode m p)) (suc d)
       ≡ (amountsAt p (d - peakAt p), modeOf m .read (heldAt p (d - peakAt p))) ∷ rightsIn (modeOf m .read) p (d - peakAt p)
   unfolding decode
   opens-from p d o =
@@ -57,7 +57,7 @@ module _ (m : ℕ) where
       let e : peakAt p + length (rightsIn (modeOf m .read) p (fallAt p)) - suc d ≡ fallAt p - suc (d - peakAt p) = omega (arith, rights-length (modeOf m .read) p (fallAt p), o .low, o .high) in
       rw (reading-hill (modeOf m .read) p (o .is .layout .kind-fits), e) (rights-from (modeOf m .read) p (fallAt p) (d - peakAt p) k)
 
-  left-of : (q : List ℕ) (d : ℕ) → Closes q d → leftOf 𝒜 (peakOf 𝒜 (decode m q)) (slopesOf 𝒜 (decode m q)) (suc d) ≡ modeOf m .read (leftAt q (startAt q - suc d))
+  left-of : (q : List ℕ) (d : ℕ) → Closes q d → leftValueAt 𝒜 (peakOfSummary 𝒜 (decode m q)) (slopesOf 𝒜 (decode m q)) (suc d) ≡ modeOf m .read (leftAt q (startAt q - suc d))
   unfolding decode
   left-of q d c =
       let k : suc d - suc (peakAt q) < riseAt q = omega (arith, c .low, c .high) in
@@ -67,7 +67,7 @@ module _ (m : ℕ) where
 
   -- THE LEVEL of depth d that a run goes through is the one in the bytes.
   pub level-is : (p q : List ℕ) (d : ℕ) → LeavesOpen p d → Closes q d →
-      levelOf 𝒜 (openFrom 𝒜 (peakOf 𝒜 (decode m p)) (slopesOf 𝒜 (decode m p)) (suc d)) (leftOf 𝒜 (peakOf 𝒜 (decode m q)) (slopesOf 𝒜 (decode m q)) (suc d)) ≡ levelFor m (levelAt p q d) ∷ []
+      levelOf 𝒜 (openFrom 𝒜 (peakOfSummary 𝒜 (decode m p)) (slopesOf 𝒜 (decode m p)) (suc d)) (leftValueAt 𝒜 (peakOfSummary 𝒜 (decode m q)) (slopesOf 𝒜 (decode m q)) (suc d)) ≡ levelFor m (levelAt p q d) ∷ []
   unfolding levelAt
   level-is p q d o c = ap₂ (levelOf 𝒜) (opens-from p d o) (left-of q d c)
 

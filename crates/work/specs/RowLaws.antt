@@ -19,7 +19,7 @@ use Rattle.summary.specs.Decode.{decode}
 use Rattle.summary.specs.Values.{reading-blank, reading-spoilt, reading-hill}
 use Rattle.judge.specs.Laws.{head-blank, head-spoilt}
 use Rattle.plan_work.specs.Fair.{ValidRow}
-use Rattle.plan_work.specs.Runs.{peakOf, slopesOf, summaryAt}
+use Rattle.plan_work.specs.Runs.{peakOfSummary, slopesOf, summaryAt}
 use Rattle.plan_work.specs.WorkSizes.{load, load-fits, middle-light}
 use Rattle.row_plan.specs.Notes.{noPeak, noteOf}
 use Rattle.outcome.specs.Through.{valid-row}
@@ -67,7 +67,7 @@ module _ {row : List ℕ} {count m : ℕ} {ats starts peaks : List ℕ} (t : Rea
 
   -- What the piece gives to the middle values at a level.
   abbrev atLevel : SummaryIn m → ℕ → modeOf m .algebra .Fig
-  atLevel s level = cond (eqb (peakOf (modeOf m .algebra) s) level) (middle (slopesOf (modeOf m .algebra) s)) (modeOf m .algebra .ι)
+  atLevel s level = cond (eqb (peakOfSummary (modeOf m .algebra) s) level) (middle (slopesOf (modeOf m .algebra) s)) (modeOf m .algebra .ι)
 
   abbrev noted : ℕ → modeOf m .algebra .Fig
   noted level = middleIf row m (placeIn ats starts peaks k) level
