@@ -1,5 +1,6 @@
 //! Speed of the proved library beside a plain recursion in Rust, on the same logs in the same run. Buffers are allocated once and
-//! not cleared between calls. Run with `cargo run --release -p bench`.
+//! not cleared between calls. Run with `cargo run --release -p bench`,
+//! and for the calls on rows alone with `cargo run --release -p bench -- rows`.
 
 mod recursion;
 mod rows;
@@ -48,6 +49,13 @@ fn line(name: &str, bytes: usize, records: usize, library: f64, plain: f64) {
 }
 
 fn main() {
+    if std::env::args().nth(1).as_deref() != Some("rows") {
+        chunks();
+    }
+    rows::bench();
+}
+
+fn chunks() {
     println!("{:<22} {:>9} {:>9} {:>9} {:>7}", "", "MB/s", "ns/rec", "plain", "ratio");
     let mut out = vec![0u8; 2048];
     for (name, shape) in [("flat", Shape::Flat), ("bushy", Shape::Bushy), ("deep", Shape::Deep)] {
@@ -74,5 +82,4 @@ fn main() {
         });
         line(&format!("day {name}"), chunk.len(), records, library, plain);
     }
-    rows::bench();
 }

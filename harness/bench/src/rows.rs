@@ -1,4 +1,4 @@
-//! Merging and the plan. Merging is timed beside summarising one full chunk: 64 full hills are to take less.
+//! Merging, the plan, the runs and the work. Merging is timed beside summarising one full chunk: 64 full hills are to take less.
 
 use crate::{full_chunk, seconds};
 use reference::gen::forged::{self, Levels};
@@ -47,17 +47,35 @@ fn merging(mode: Mode, out: &mut [u8]) {
     println!("merge {:<16} {:>9.2} {:>9.2} {:>9.2} {:>7.2}", mode.number(), two * 1e6, all * 1e6, one * 1e6, one / all);
 }
 
+/// The calls on a row of 64 chunks of a deep log, beside merging the same row.
+fn along_the_plan(mode: Mode, out: &mut [u8]) {
+    let row = deep_row(mode);
+    let lines = tulghimo::raw::plan(&row, out) / 12;
+    let mut totals = [0i64; 3];
+    assert!(lines > 0 && tulghimo::raw::runs(&row, out) == 30 * lines && tulghimo::raw::work(&row, &mut totals) == 0);
+    let plan = seconds(200, || {
+        black_box(tulghimo::raw::plan(black_box(&row), out));
+    });
+    let runs = seconds(200, || {
+        black_box(tulghimo::raw::runs(black_box(&row), out));
+    });
+    let work = seconds(200, || {
+        black_box(tulghimo::raw::work(black_box(&row), &mut totals));
+    });
+    let merge = seconds(200, || {
+        black_box(tulghimo::raw::merge_row(black_box(&row), out));
+    });
+    println!("row {:<18} {:>9} {:>9.2} {:>9.2} {:>7.2} {:>7.2}", mode.number(), lines, plan * 1e6, runs * 1e6, work * 1e6, merge * 1e6);
+}
+
 pub fn bench() {
-    let mut out = vec![0u8; 2048];
+    let mut out = vec![0u8; 4096];
     println!("\n{:<22} {:>9} {:>9} {:>9} {:>7}", "full hills, in us", "two", "64", "a chunk", "ratio");
     for mode in Mode::ALL {
         merging(mode, &mut out);
     }
-    let row = deep_row(Mode::Net);
-    let length = tulghimo::raw::plan(&row, &mut out);
-    assert!(length > 0);
-    let plan = seconds(200, || {
-        black_box(tulghimo::raw::plan(black_box(&row), &mut out));
-    });
-    println!("\nplan of 64 chunks of a deep log: {} lines in {:.2} us, {:.2} us a chunk", length / 12, plan * 1e6, plan * 1e6 / 64.0);
+    println!("\n{:<22} {:>9} {:>9} {:>9} {:>7} {:>7}", "64 chunks, in us", "lines", "plan", "runs", "work", "merge");
+    for mode in Mode::ALL {
+        along_the_plan(mode, &mut out);
+    }
 }
