@@ -1,6 +1,7 @@
 //! Question 5 by way of finish: each clause at its edge and past it, in each mode, the proved library against the reference.
 
 use compare::agree::finish;
+use reference::gen::raw::Hill;
 
 const LEAST: i64 = i64::MIN;
 const GRAMS: i64 = 1_000_000_000;
@@ -8,55 +9,6 @@ const GRAMS: i64 = 1_000_000_000;
 /// Finish must answer alike. Gives whether the bytes are taken.
 fn agree(bytes: &[u8]) -> bool {
     finish(bytes) != [-5]
-}
-
-/// A hill, field by field, whether accepted or not.
-#[derive(Clone)]
-struct Hill {
-    mode: u16,
-    start: u16,
-    peak: u16,
-    end: u16,
-    opened: u32,
-    left: Vec<i64>,
-    middle: i64,
-    right: Vec<(i32, i32, i32, i64)>,
-}
-
-impl Hill {
-    /// A hill of these levels that holds nothing anywhere, with records of 0 grams.
-    fn empty(mode: u16, start: u16, peak: u16, end: u16, opened: u32) -> Hill {
-        let none = if mode == 2 { LEAST } else { 0 };
-        Hill {
-            mode,
-            start,
-            peak,
-            end,
-            opened,
-            left: vec![none; usize::from(start.saturating_sub(peak))],
-            middle: none,
-            right: vec![(0, 0, 0, none); usize::from(end.saturating_sub(peak))],
-        }
-    }
-
-    fn bytes(&self) -> Vec<u8> {
-        let length = 24 + 8 * self.left.len() + 20 * self.right.len();
-        let mut out = Vec::new();
-        for word in [length as u16, 18, self.mode, self.start, self.peak, self.end] {
-            out.extend(word.to_le_bytes());
-        }
-        out.extend(self.opened.to_le_bytes());
-        for value in self.left.iter().chain([&self.middle]) {
-            out.extend(value.to_le_bytes());
-        }
-        for (value, floor, ceiling, held) in &self.right {
-            for number in [value, floor, ceiling] {
-                out.extend(number.to_le_bytes());
-            }
-            out.extend(held.to_le_bytes());
-        }
-        out
-    }
 }
 
 #[test]

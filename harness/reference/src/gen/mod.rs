@@ -1,9 +1,10 @@
-//! Seeded inputs for tests: logs, cuts, merge lists, damaged bytes, and summaries
-//! that no chunk makes.
+//! Inputs for tests: seeded logs, cuts, merge lists, damaged bytes and summaries
+//! that no chunk makes; and bytes put together field by field.
 
 pub mod damage;
 pub mod forged;
 pub mod logs;
+pub mod raw;
 
 /// A small random generator (splitmix64): the same seed gives the same numbers.
 #[derive(Clone, Debug)]

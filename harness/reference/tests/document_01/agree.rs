@@ -1,6 +1,6 @@
 //! The parts of the reference agree with each other, on random logs and cuts.
 
-use crate::raw::spoilt;
+use reference::gen::raw::spoilt;
 use reference::calls;
 use reference::gen::logs::{all_shapes, any_log, cut, encode_mixed, of_shape, open, with_fault};
 use reference::gen::logs::{flat, Values, VALUES};

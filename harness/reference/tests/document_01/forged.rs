@@ -1,6 +1,6 @@
 //! Accepted summaries that no chunk makes: "All accepted bytes merge so".
 
-use crate::raw::{nothing, words, Hill};
+use reference::gen::raw::{nothing, words, Hill};
 use crate::rewrite::is_merge;
 use reference::calls;
 use reference::gen::damage::{damage, noise};

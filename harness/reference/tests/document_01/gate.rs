@@ -1,6 +1,6 @@
 //! "The questions at the gate": which call puts which, and in which order.
 
-use crate::raw::{blank, close, log_d, nothing, open, short, spoilt, Hill};
+use reference::gen::raw::{blank, close, log_d, nothing, open, short, spoilt, Hill};
 use reference::calls::{day, finish, merge, merge_row, plan, read, runs, summarise, work};
 
 /// A hill that begins or ends elsewhere than at level 0: "open 0".

@@ -8,7 +8,6 @@ mod forged;
 mod gate;
 mod paper;
 mod question_5;
-mod raw;
 mod records;
 mod rewrite;
 mod rows;

@@ -1,7 +1,7 @@
 //! Every worked figure of document 01, "Along the edges", and the four slips drawn
 //! on paper.
 
-use crate::raw::{blank, close, log_d, nothing, open, short, spoilt, words, Hill};
+use reference::gen::raw::{blank, close, log_d, nothing, open, short, spoilt, words, Hill};
 use reference::calls::{
     day, day_text, finish, merge, merge_row, plan, read, runs, summarise, work,
 };

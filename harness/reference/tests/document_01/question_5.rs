@@ -1,7 +1,7 @@
 //! Question 5, clause by clause: what stands at an edge and what is past it, in each
 //! mode.
 
-use crate::raw::{blank, nothing, spoilt, words, Hill};
+use reference::gen::raw::{blank, nothing, spoilt, words, Hill};
 use reference::layout::{decode, encode, is_summary};
 
 const GRAMS: i64 = 1_000_000_000;
@@ -27,21 +27,6 @@ fn hill(mode: u16) -> Hill {
         left: vec![1, 2],
         middle: 3,
         right: vec![(4, 5, 6, 7)],
-    }
-}
-
-/// A hill of these levels that holds nothing anywhere, with records of 0 grams.
-fn empty(mode: u16, start: u16, peak: u16, end: u16, opened: u32) -> Hill {
-    let none = nothing(mode);
-    Hill {
-        mode,
-        start,
-        peak,
-        end,
-        opened,
-        left: vec![none; usize::from(start.saturating_sub(peak))],
-        middle: none,
-        right: vec![(0, 0, 0, none); usize::from(end.saturating_sub(peak))],
     }
 }
 
@@ -143,10 +128,10 @@ fn hill_levels() {
             (7, 1, 2, true),
         ];
         for (start, peak, end, expected) in cases {
-            let bytes = empty(mode, start, peak, end, 100).bytes();
+            let bytes = Hill::empty(mode, start, peak, end, 100).bytes();
             assert_eq!(accepted(&bytes), expected, "{mode}: {start} {peak} {end}");
         }
-        assert_eq!(empty(mode, 64, 1, 64, 100).bytes().len(), 1788);
+        assert_eq!(Hill::empty(mode, 64, 1, 64, 100).bytes().len(), 1788);
     }
 }
 
@@ -170,7 +155,7 @@ fn records_meet_the_ranges() {
         // The first or the last of three unclosed records is tried.
         for place in [0, 2] {
             let with = |value: i32, floor: i32, ceiling: i32| {
-                let mut hill = empty(mode, 2, 2, 5, 9);
+                let mut hill = Hill::empty(mode, 2, 2, 5, 9);
                 let held = hill.right[place].3;
                 hill.right[place] = (value, floor, ceiling, held);
                 accepted(&hill.bytes())
@@ -205,17 +190,17 @@ fn opened_of_a_hill() {
                 (100_001, false),
                 (u32::MAX, false),
             ] {
-                let bytes = empty(mode, level, level, level, opened).bytes();
+                let bytes = Hill::empty(mode, level, level, level, opened).bytes();
                 assert_eq!(accepted(&bytes), expected, "{mode}: {level} {opened}");
             }
         }
         // Closes alone open nothing.
-        assert!(accepted(&empty(mode, 3, 1, 1, 0).bytes()));
+        assert!(accepted(&Hill::empty(mode, 3, 1, 1, 0).bytes()));
         // Opened is at least the unclosed records: 10^9 × unclosed in modes 1 to 3.
-        assert!(accepted(&empty(mode, 1, 1, 4, 3).bytes()));
-        assert!(!accepted(&empty(mode, 1, 1, 4, 2).bytes()));
-        assert!(accepted(&empty(mode, 0, 0, 64, 64).bytes()));
-        assert!(!accepted(&empty(mode, 0, 0, 64, 63).bytes()));
+        assert!(accepted(&Hill::empty(mode, 1, 1, 4, 3).bytes()));
+        assert!(!accepted(&Hill::empty(mode, 1, 1, 4, 2).bytes()));
+        assert!(accepted(&Hill::empty(mode, 0, 0, 64, 64).bytes()));
+        assert!(!accepted(&Hill::empty(mode, 0, 0, 64, 63).bytes()));
     }
 }
 
@@ -223,7 +208,7 @@ fn opened_of_a_hill() {
 fn the_middle_at_peak_0() {
     for mode in 1..=4 {
         let with = |start: u16, peak: u16, end: u16, middle: i64| {
-            let mut hill = empty(mode, start, peak, end, 100);
+            let mut hill = Hill::empty(mode, start, peak, end, 100);
             hill.middle = middle;
             accepted(&hill.bytes())
         };
@@ -247,7 +232,7 @@ fn values_in_modes_1_to_3() {
     for mode in 1..=3 {
         // Six opened, two unclosed: 4 × 10^9 are left for five values.
         let with = |values: [i64; 5]| {
-            let mut hill = empty(mode, 3, 1, 3, 6);
+            let mut hill = Hill::empty(mode, 3, 1, 3, 6);
             hill.left = values[..2].to_vec();
             hill.middle = values[2];
             hill.right[0].3 = values[3];
@@ -281,7 +266,7 @@ fn values_in_modes_1_to_3() {
 #[test]
 fn values_at_the_greatest_bound() {
     for mode in 1..=3 {
-        let mut hill = empty(mode, 0, 0, 0, 100_000);
+        let mut hill = Hill::empty(mode, 0, 0, 0, 100_000);
         for (middle, expected) in [
             (100_000 * GRAMS, true),
             (100_000 * GRAMS + 1, false),
@@ -306,7 +291,7 @@ fn values_in_mode_4() {
             (i64::MIN, false),
             (i64::MAX, false),
         ] {
-            let mut hill = empty(4, 3, 1, 3, 2);
+            let mut hill = Hill::empty(4, 3, 1, 3, 2);
             match place {
                 0 | 1 => hill.left[place] = value,
                 2 => hill.middle = value,
@@ -316,7 +301,7 @@ fn values_in_mode_4() {
         }
     }
     // Stamps say nothing of how many were opened: closes alone, with values.
-    let mut hill = empty(4, 3, 1, 1, 0);
+    let mut hill = Hill::empty(4, 3, 1, 1, 0);
     hill.left = vec![4_294_967_295, 1];
     hill.middle = 5;
     assert!(accepted(&hill.bytes()));

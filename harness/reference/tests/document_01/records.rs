@@ -1,6 +1,6 @@
 //! "Records": what is readable, levels, faults, who closes and holds whom.
 
-use crate::raw::{close, open, short, words};
+use reference::gen::raw::{close, open, short, words};
 use reference::calls::{day, read, summarise};
 use reference::log::{closer, fault, held};
 use reference::record::{encode_close, encode_full, encode_short, records_of, Open, Record};

@@ -1,7 +1,7 @@
 //! A row: how it is cut into pieces, how it is merged half with half, and demand 3's
 //! row under lists of merges.
 
-use crate::raw::{blank, spoilt};
+use reference::gen::raw::{blank, spoilt};
 use reference::calls::{finish, summarise, work};
 use reference::gen::forged::neighbours;
 use reference::gen::logs::{any_log, cut, encode_mixed, merge_list, with_fault};

@@ -55,6 +55,21 @@ pub struct Hill {
 }
 
 impl Hill {
+    /// A hill of these levels that holds nothing anywhere, with records of 0 grams.
+    pub fn empty(mode: u16, start: u16, peak: u16, end: u16, opened: u32) -> Hill {
+        let none = nothing(mode);
+        Hill {
+            mode,
+            start,
+            peak,
+            end,
+            opened,
+            left: vec![none; usize::from(start.saturating_sub(peak))],
+            middle: none,
+            right: vec![(0, 0, 0, none); usize::from(end.saturating_sub(peak))],
+        }
+    }
+
     pub fn bytes(&self) -> Vec<u8> {
         let mut body = words(&[18, self.mode, self.start, self.peak, self.end]);
         body.extend(self.opened.to_le_bytes());
