@@ -1,8 +1,6 @@
 -- What the functions of `merge` ask and leave. Definitions only.
 use mathlib.Core.Path.{_≡_}
-use mathlib.Core.List.{List}
 use Prim.Native.Nat.{ℕ, _*_}
-use lib.IntN.{ℤ}
 use lib.ListN.{length}
 use Rattle.figure.specs.Mode.{modeOf}
 use Rattle.hill.specs.Verdict.{pass}
@@ -15,15 +13,16 @@ use Rattle.merge.specs.declared.Merged.{Merged}
 use Rattle.merge.specs.Side.{SaysOf}
 
 -- Five arrays of 64 numbers.
-pub record Arrays64 (ls vs fs cs hs : List ℤ) : Type 0 where
-  pub left : length ls ≡ 64
-  pub values : length vs ≡ 64
-  pub floors : length fs ≡ 64
-  pub ceilings : length cs ≡ 64
-  pub held : length hs ≡ 64
+pub record Arrays64 (A : Arrays) : Type 0 where
+  pub left : length (A .left) ≡ 64
+  pub values : length (A .values) ≡ 64
+  pub floors : length (A .floors) ≡ 64
+  pub ceilings : length (A .ceilings) ≡ 64
+  pub held : length (A .held) ≡ 64
 
 -- What was merged is the accepted summary s of mode m: the numbers in hand are its, and, where it has no fault, the arrays stand for its hill.
 pub record Kept (m : ℕ) (A : Arrays) (a : Merged) (s : SummaryIn m) : Type 0 where
+  pub whole : Arrays64 A
   pub accepted : Accepted m s
   pub says : SaysOf m (a .side) s
   pub stands : summaryFault (modeOf m .algebra) s ≡ pass → StandsFor (modeOf m) A (a .counts) (slopesOf (modeOf m .algebra) s) (modeOf m .sizes .unit * 100000)

@@ -3,7 +3,8 @@ use mathlib.Core.Path.{_≡_, refl, ap, ap₂, sym, subst, _∙_}
 use mathlib.Core.List.{List}
 use Prim.Native.Nat.{ℕ, _+_, _*_, _-_, _^_, _≤_, _<_}
 use native.Mathlib.Omega.{arith}
-use lib.IntN.{ℤ}
+use lib.IntN.{ℤ, pos}
+use lib.ListN.{replicate}
 use Rattle.algebra.specs.Algebra.{Algebra}
 use Rattle.figure.specs.FourModes.{Amounts}
 use Rattle.figure.specs.Mode.{modeOf}
@@ -14,7 +15,7 @@ use Rattle.hill.specs.Summary.{Hill, Part, blank, part, spoilt, whole, rise, fa
 use Rattle.hill.specs.Building.{merge, merge-empty, empty-merge}
 use Rattle.hill.specs.Merge.{mergeSummary}
 use Rattle.hill.specs.MergeLaws.{mergeHills-merge}
-use Rattle.hill.specs.SummaryLaws.{merge-blank, mergeSummary-assoc, verdict-merge}
+use Rattle.hill.specs.SummaryLaws.{merge-blank, verdict-merge}
 use Rattle.hill.specs.ValidLaws.{valid-mergeSummary, hill-weight}
 use Rattle.summary.specs.Judge.{peakAt, openedAt, riseAt, fallAt, IsHill, IsSummary, isBlank, isSpoilt, isHill}
 use Rattle.summary.specs.Layout.{encode, SummaryIn}
@@ -38,6 +39,13 @@ use Rattle.merge.specs.Side.{SaysPart}
 use Rattle.emit.specs.Emitted.{Writable}
 use Rattle.merge.specs.Asks.{Arrays64, Kept}
 use Rattle.merge.specs.SayLaws.{decode-blank, decode-spoilt, decode-hill}
+
+-- arrays that were never written
+abbrev pub zeros : List ℤ
+zeros = replicate 64 (pos 0)
+
+pub whole-zeros : Arrays64 (arrays zeros zeros zeros zeros zeros)
+whole-zeros = record { left = refl; values = refl; floors = refl; ceilings = refl; held = refl }
 
 abbrev pub merged : (r : Side) (c : Counts) → Merged
 merged r c = record { side = r; counts = c }
@@ -82,8 +90,9 @@ module _ (m : ℕ) where
 
   -- ---- nothing merged yet
 
-  pub kept-none : {ls vs fs cs hs : List ℤ} {z : ℤ} → Arrays64 ls vs fs cs hs → z ≡ none (modeOf m) → Kept m (arrays ls vs fs cs hs) (merged side.Blank (counts 0 0 z)) blank
+  pub kept-none : {ls vs fs cs hs : List ℤ} {z : ℤ} → Arrays64 (arrays ls vs fs cs hs) → z ≡ none (modeOf m) → Kept m (arrays ls vs fs cs hs) (merged side.Blank (counts 0 0 z)) blank
   kept-none {ls} {vs} {fs} {cs} {hs} {z} h e = record {
+    whole = h;
     accepted = tt;
     says = refl;
     stands = λ v. restate (emptied (modeOf m) (arrays ls vs fs cs hs) z (record { left = h .left; values = h .values; floors = h .floors; ceilings = h .ceilings; held = h .held; nl≤ = omega arith; n≤ = omega arith }) e) most refl (omega arith);
@@ -102,7 +111,7 @@ module _ (m : ℕ) where
       module _ {p both : Numbers} (h : SaysPart m p (decode m b)) (g : SaysPart m both (mergeSummary 𝒜 s (decode m b))) where
         -- .. one that brings a fault, ..
         pub kept-fault : {c : Counts} → both .fault < noFault → Kept m A (merged (side.Part both) c) (mergeSummary 𝒜 s (decode m b))
-        kept-fault e = record { accepted = both-accepted; says = g; stands = λ v. absurd (refuse-pass (sym (found (both .fault) e) ∙ sym (said-fault g) ∙ v)) }
+        kept-fault e = record { whole = k .whole; accepted = both-accepted; says = g; stands = λ v. absurd (refuse-pass (sym (found (both .fault) e) ∙ sym (said-fault g) ∙ v)) }
 
         -- .. or a hill that meets what was merged before
         module _ (e : noFault ≤ both .fault) where
@@ -161,6 +170,7 @@ module _ (m : ℕ) where
               let n : slopesOf 𝒜 (decode m b) ≡ (new b) = ap (slopesOf 𝒜) piece-is in
               let x : merge 𝒜 (hillOf (modeOf m) A (a .counts)) (new b) ≡ slopesOf 𝒜 (mergeSummary 𝒜 s (decode m b)) = ap₂ (merge 𝒜) (before .is) (sym n) ∙ sym (both-slopes s (decode m b) clear) in
               record {
+                whole = record { left = r .sound .left; values = r .sound .values; floors = r .sound .floors; ceilings = r .sound .ceilings; held = r .sound .held };
                 accepted = both-accepted;
                 says = g;
                 stands = λ v. record { sound = r .sound; stored = r .stored; is = r .is ∙ x; fine = subst (Fine (modeOf m)) x (r .fine); light = light (mergeSummary 𝒜 s (decode m b)) both-accepted };
@@ -194,15 +204,6 @@ module _ (m : ℕ) where
           go : (t : Part (𝒜 .Fig) Amounts) → Accepted m (part t) → verdict t ≡ pass → (verdict t ≡ pass → p .peak ≡ peak 𝒜 t) → p .peak ≤ 64
           go (spoilt f b e o) w v x = absurd (refuse-pass v)
           go (whole q o u) w v x = omega (arith, w .start-high, x v)
-
-  pub kept-same : {A : Arrays} {a : Merged} (s : SummaryIn m) {x y : SummaryIn m} → x ≡ y → Kept m A a (mergeSummary 𝒜 s x) → Kept m A a (mergeSummary 𝒜 s y)
-  kept-same {A} {a} s e k = subst (λ (t : SummaryIn m). Kept m A a (mergeSummary 𝒜 s t)) e k
-
-  -- ---- one half, then the other
-
-  pub kept-halves : {A B C : Arrays} {a b c : Merged} {x y z : SummaryIn m} → ((s : SummaryIn m) → Kept m A a s → Kept m B b (mergeSummary 𝒜 s x)) → ((s : SummaryIn m) → Kept m B b s → Kept m C c (mergeSummary 𝒜 s y)) →
-      mergeSummary 𝒜 x y ≡ z → (s : SummaryIn m) → Kept m A a s → Kept m C c (mergeSummary 𝒜 s z)
-  kept-halves {C = C} {c = c} {x = x} {y = y} f g e s k = subst (Kept m C c) (mergeSummary-assoc 𝒜 (modeOf m .laws) s x y ∙ ap (mergeSummary 𝒜 s) e) (g (mergeSummary 𝒜 s x) (f s k))
 
   -- ---- two pieces, as bytes
 

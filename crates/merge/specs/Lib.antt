@@ -4,6 +4,6 @@ pub mod Asks
 pub mod RowAsks
 pub mod SayLaws
 pub mod KeptLaws
-pub mod CopyLaws
+pub mod FrontLaws
 pub mod CallLaws
 pub mod RowLaws

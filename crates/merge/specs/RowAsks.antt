@@ -2,9 +2,8 @@
 use mathlib.Core.Path.{_≡_}
 use mathlib.Core.Bool.{Bool, _&&_}
 use mathlib.Core.List.{List, map}
-use Prim.Native.Nat.{ℕ, _≤_}
+use Prim.Native.Nat.{ℕ, _*_, _^_, _≤_}
 use lib.ListN.{length, take}
-use lib.Seq.{paste}
 use Rattle.gate.specs.Outcome.{Outcome, refused, result, question}
 use Rattle.row.specs.Row.{rowPieces}
 use Rattle.figure.specs.Mode.{modeOf}
@@ -30,17 +29,18 @@ rowSummary m row = mergeRow (modeOf m .algebra) (map (decode m) (rowPieces row))
 abbrev pub rowMerged : ℕ → List ℕ → List ℕ
 rowMerged m row = encode m (rowSummary m row)
 
+-- There is room for the right halves that wait while the left ones are merged: a summary for each time that a row of so many pieces is halved, but
+-- for the last, where the right half is one piece.
+pub record Room (count room : ℕ) : Type 0 where
+  pub times : ℕ
+  pub halved : count ≤ 2 * 2 ^ times
+  pub enough : 1788 * times ≤ room
+
 -- The first n bytes of o are w.
 pub record Front (w o : List ℕ) (n : ℕ) : Type 0 where
   pub is : take n o ≡ w
   pub count : n ≡ length (take n o)
   pub inside : n ≤ length o
-
--- The first i of the bytes b stand at the front of the buffer, which was o and is long enough.
-pub record Copied (b o o′ : List ℕ) (i : ℕ) : Type 0 where
-  pub so-far : o′ ≡ paste o 0 b i
-  pub within : i ≤ length b
-  pub fits : length b ≤ length o
 
 -- Questions 5 and 6 of a row's pieces, and their mode.
 unfoldable pub modeOfAll : List (List ℕ) → Outcome ℕ

@@ -2,7 +2,7 @@
 use mathlib.Core.Path.{_≡_, refl, ap, ap₂, sym, subst, _∙_}
 use mathlib.Core.Bool.{true}
 use mathlib.Core.List.{List, [], _∷_, _++_, map, append-assoc, append-nil}
-use Prim.Native.Nat.{ℕ, zero, suc, _+_, _-_, _/_, _≤_, _<_}
+use Prim.Native.Nat.{ℕ, zero, suc, _+_, _-_, _*_, _/_, _^_, _≤_, _<_}
 use native.Mathlib.Omega.{arith}
 use lib.ListN.{length, take, drop, length-take, length-drop, take-append-drop, length-append, length-map}
 use lib.Seq.{take-at, drop-at}
@@ -19,12 +19,9 @@ use Rattle.hill.specs.SummaryLaws.{merge-blank, mergeSummary-assoc}
 use Rattle.hill.specs.ValidLaws.{valid-mergeSummary}
 use Rattle.summary.specs.Layout.{SummaryIn, encode}
 use Rattle.summary.specs.Decode.{decode}
-use Rattle.summary.specs.Fields.{AllBytes}
-use Rattle.summary.specs.Accepted.{Accepted, IsSummaryIn, mode-used, encoded, encode-decode, decoded, encode-fits}
-use Rattle.summary.specs.Outcomes.{mergeBytes}
-use Rattle.summary.specs.MergeBytes.{merge-encoded}
+use Rattle.summary.specs.Accepted.{Accepted, IsSummaryIn, mode-used, encoded, decode-encode, decoded, encode-fits}
 use Rattle.outcome.specs.Laws.{AllIn, pieces-all}
-use Rattle.merge.specs.RowAsks.{rowSummary, rowMerged, Row}
+use Rattle.merge.specs.RowAsks.{rowSummary, Row, Room}
 
 -- ---- half with half
 
@@ -74,26 +71,40 @@ module _ (m : ℕ) where
   in-use [] a l = absurd (omega arith)
   in-use (p ∷ ps) a l = mode-used m p (a .0)
 
--- ---- one piece
+-- the row is one summary of mode m, and s is what it says
+pub record OnePiece (m : ℕ) (row : List ℕ) (s : SummaryIn m) : Type 0 where
+  pub is : IsSummaryIn m row
+  pub says : s ≡ decode m row
+
+-- ---- the row as a whole, and a row of one piece
 
 module _ {m : ℕ} {row : List ℕ} {count : ℕ} (h : Row m row count) where
-  pub merged-is : IsSummaryIn m (rowMerged m row)
-  unfolding rowSummary
-  merged-is = encoded m (in-use m (rowPieces row) (h .all) (omega (arith, h .some, h .count-is))) (mergeRow (modeOf m .algebra) (these m (rowPieces row))) (row-accepted m (rowPieces row) (h .all))
+  used : modeInUse m ≡ true
+  used = in-use m (rowPieces row) (h .all) (omega (arith, h .some, h .count-is))
 
-  pub merged-fits : length (rowMerged m row) ≤ 1788
+  accepted : Accepted m (rowSummary m row)
   unfolding rowSummary
-  merged-fits = encode-fits m (mergeRow (modeOf m .algebra) (these m (rowPieces row))) (row-accepted m (rowPieces row) (h .all))
+  accepted = row-accepted m (rowPieces row) (h .all)
 
-  pub one-piece : AllBytes row → count < 2 → rowMerged m row ≡ row
+  -- the bytes of what its pieces merge to
+  pub summary-is : IsSummaryIn m (encode m (rowSummary m row))
+  summary-is = encoded m used (rowSummary m row) accepted
+
+  pub summary-fits : length (encode m (rowSummary m row)) ≤ 1788
+  summary-fits = encode-fits m (rowSummary m row) accepted
+
+  pub summary-says : decode m (encode m (rowSummary m row)) ≡ rowSummary m row
+  summary-says = decode-encode m used (rowSummary m row) accepted
+
+  pub one-piece : count < 2 → OnePiece m row (rowSummary m row)
   unfolding rowSummary
-  one-piece b l = go (rowPieces row) (h .all) (pieces-joined row) (omega (arith, h .some, h .count-is))
+  one-piece l = go (rowPieces row) (h .all) (pieces-joined row) (omega (arith, h .some, h .count-is))
     where
-      go : (ps : List (List ℕ)) → AllIn m ps → endToEnd ps ≡ row → length ps ≡ 1 → encode m (mergeRow (modeOf m .algebra) (these m ps)) ≡ row
+      go : (ps : List (List ℕ)) → AllIn m ps → endToEnd ps ≡ row → length ps ≡ 1 → OnePiece m row (mergeRow (modeOf m .algebra) (these m ps))
       go [] a e n = absurd (omega arith)
       go (p ∷ []) a e n =
           let s : p ≡ row = sym (append-nil p) ∙ e in
-          encode-decode m p (subst AllBytes (sym s) b) (a .0) ∙ s
+          record { is = subst (IsSummaryIn m) s (a .0); says = ap (decode m) s }
       go (p ∷ (q ∷ ps)) a e n = absurd (omega arith)
 
   -- ---- the halves: the row is cut where the first (count + 1) / 2 pieces end
@@ -139,16 +150,35 @@ module _ {m : ℕ} {row : List ℕ} {count : ℕ} (h : Row m row count) where
     pub rest-row : Row m (take (length row - at) (drop at row)) (count - k)
     rest-row = rw (part-rest at row) right-row
 
-    pub halves-merged : mergeBytes m (rowMerged m (take at row)) (rowMerged m (take (length row - at) (drop at row))) ≡ rowMerged m row
+    pub halves-merged : mergeSummary (modeOf m .algebra) (rowSummary m (take at row)) (rowSummary m (take (length row - at) (drop at row))) ≡ rowSummary m row
     unfolding rowSummary
     halves-merged =
-        let u = in-use m ps (h .all) (omega (arith, h .some, h .count-is)) in
-        let x = in-take m k ps (h .all) in
-        let y = in-drop m k ps (h .all) in
         let n : (length (these m ps) + 1) / 2 ≡ k = rw (length-map ps (decode m)) (ap (λ (c : ℕ). (c + 1) / 2) (sym (h .count-is)) ∙ sym ek) in
-        rw (part-rest at row, left-pieces, right-pieces)
-        (merge-encoded m (mergeRow (modeOf m .algebra) (these m (take k ps))) (mergeRow (modeOf m .algebra) (these m (drop k ps))) u (row-accepted m (take k ps) x) (row-accepted m (drop k ps) y)
-        ∙ ap (encode m)
-        (rw (map-take (decode m) k ps, map-drop (decode m) k ps)
+        rw (part-rest at row, left-pieces, right-pieces, map-take (decode m) k ps, map-drop (decode m) k ps)
         (subst (λ (i : ℕ). mergeSummary (modeOf m .algebra) (mergeRow (modeOf m .algebra) (take i (these m ps))) (mergeRow (modeOf m .algebra) (drop i (these m ps))) ≡ mergeRow (modeOf m .algebra) (these m ps)) n
-        (sym (by-halves (modeOf m .algebra) (modeOf m .laws) (these m ps) (omega (arith, length-map ps (decode m), h .count-is)))))))
+        (sym (by-halves (modeOf m .algebra) (modeOf m .laws) (these m ps) (omega (arith, length-map ps (decode m), h .count-is)))))
+
+    -- what the left half says, and bytes that say what the right one does
+    pub halves-added : (b : List ℕ) → decode m b ≡ rowSummary m (take (length row - at) (drop at row)) → mergeSummary (modeOf m .algebra) (rowSummary m (take at row)) (decode m b) ≡ rowSummary m row
+    halves-added b e = ap (mergeSummary (modeOf m .algebra) (rowSummary m (take at row))) e ∙ halves-merged
+
+-- ---- room for the halves that wait
+
+module _ {count room : ℕ} (r : Room count room) where
+  pub fewer-wait : {k : ℕ} → k ≤ count → Room k room
+  fewer-wait l = record { times = r .times; halved = omega (arith, r .halved); enough = r .enough }
+
+  module _ (l : 4 ≤ count) where
+    pub one-waits : 1788 ≤ room
+    one-waits = go (r .times) (r .halved) (r .enough)
+      where
+        go : (t : ℕ) → count ≤ 2 * 2 ^ t → 1788 * t ≤ room → 1788 ≤ room
+        go zero h e = absurd (omega arith)
+        go (suc t) h e = omega arith
+
+    pub others-wait : {n : ℕ} → n ≤ 1788 → Room ((count + 1) / 2) (room - n)
+    others-wait {n} ln = go (r .times) (r .halved) (r .enough)
+      where
+        go : (t : ℕ) → count ≤ 2 * 2 ^ t → 1788 * t ≤ room → Room ((count + 1) / 2) (room - n)
+        go zero h e = absurd (omega arith)
+        go (suc t) h e = record { times = t; halved = omega arith; enough = omega arith }

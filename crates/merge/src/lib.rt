@@ -22,7 +22,7 @@ ghost use Rattle.outcome.specs.Outcomes.{mergeRowOutcome};
 ghost use Rattle.fault.specs.Fault.{verdictOf};
 ghost use Rattle.merge.specs.Side.{SaysPart, SaysOf, FewOpened};
 ghost use Rattle.merge.specs.Asks.{Arrays64, Kept, Keeps};
-ghost use Rattle.merge.specs.RowAsks.{Row, rowSummary, rowMerged, modeOfAll, modeAnswer};
+ghost use Rattle.merge.specs.RowAsks.{Front, Row, Room, rowSummary, rowMerged, modeOfAll, modeAnswer};
 use gate::Written;
 use judge::Head;
 use judge::Judged;
@@ -202,7 +202,7 @@ fn put_merged(
 
 // Nothing merged yet.
 fn none_merged(mode: u16) -> Merged
-    ensures { λ r. ⌜ ((ls vs fs cs hs : List ℤ) → Arrays64 ls vs fs cs hs → Kept mode (arrays ls vs fs cs hs) r blank) ⌝ }
+    ensures { λ r. ⌜ ((ls vs fs cs hs : List ℤ) → Arrays64 (arrays ls vs fs cs hs) → Kept mode (arrays ls vs fs cs hs) r blank) ⌝ }
 {
     Merged {
         side: Side::Blank,
@@ -248,10 +248,10 @@ fn join(mode: u16, left: &[u8], right: &[u8], out: &mut [u8]) -> Written
     put_merged(mode, &lefts, &values, &floors, &ceilings, &held, b, out)
 }
 
-// MERGE: questions 5, 6 and 12.
+// Merging two summaries: questions 5, 6 and 12.
 pub fn merge(left: &[u8], right: &[u8], out: &mut [u8]) -> Written
-    ensures { λ r. ⌜ writtenAnswer r ≡ lengthAnswered (mergeOutcome (now (left .entry)) (now (right .entry)) (length (now (out .entry)))) ⌝ }
-    ensures { λ _. ⌜ now (out .exit) ≡ bufferAfter (mergeOutcome (now (left .entry)) (now (right .entry)) (length (now (out .entry)))) (now (out .entry)) ⌝ }
+    ensures answer { λ r. ⌜ writtenAnswer r ≡ lengthAnswered (mergeOutcome (now (left .entry)) (now (right .entry)) (length (now (out .entry)))) ⌝ }
+    ensures buffer { λ _. ⌜ now (out .exit) ≡ bufferAfter (mergeOutcome (now (left .entry)) (now (right .entry)) (length (now (out .entry)))) (now (out .entry)) ⌝ }
 {
     let Judged::Summary(a) = judge::judge(left) else {
         return Written::Refused(5);
@@ -294,46 +294,141 @@ fn mode_of_all(pieces: &[u8]) -> OneMode
     OneMode::Refused(6)
 }
 
-// A summary's own bytes.
-fn copy(b: &[u8], out: &mut [u8]) -> Written
-    ensures { λ r. ⌜ Answers (written (length (now (out .entry))) (now (b .entry))) (now (out .entry)) (now (out .exit)) r ⌝ }
+// What was merged is put aside as a summary's bytes, and how many they are. There is room for any summary, so question 12 has no part here.
+fn put_aside(
+    mode: u16,
+    left: &[i64; 64],
+    values: &[i32; 64],
+    floors: &[i32; 64],
+    ceilings: &[i32; 64],
+    held: &[i64; 64],
+    a: Merged,
+    aside: &mut [u8],
+) -> usize
+    requires { ⌜ Keeps mode (arrays (now left) (now values) (now floors) (now ceilings) (now held)) a ⌝ }
+    requires { ⌜ 1788 ≤ length (now aside) ⌝ }
+    ensures { λ r. ⌜ ((s : SummaryIn mode) → Kept mode (arrays (now (left .entry)) (now (values .entry)) (now (floors .entry)) (now (ceilings .entry)) (now (held .entry))) a s
+        → Front (encode mode s) (now (aside .exit)) r) ⌝ }
 {
-    if out.len() < b.len() {
-        return Written::Refused(12);
-    }
-    let mut i: usize = 0;
-    while i < b.len() {
-        out[i] = b[i];
-        i += 1;
-    }
-    Written::Bytes(i)
+    let Written::Bytes(n) = put_merged(mode, left, values, floors, ceilings, held, a, aside) else {
+        return 0;
+    };
+    n
 }
 
-// Accepted pieces of one mode: half with half and each half likewise, the left half having the odd one.
-fn merge_pieces(mode: u16, pieces: &[u8], count: usize, out: &mut [u8]) -> Written
+// Accepted pieces of one mode: half with half and each half likewise, the left half having the odd one. Of the two halves the right one is merged
+// first and put aside, unless it is one piece; the left one stays in the arrays, and the right one is added to it.
+fn merge_pieces(
+    mode: u16,
+    pieces: &[u8],
+    count: usize,
+    aside: &mut [u8],
+    left: &mut [i64; 64],
+    values: &mut [i32; 64],
+    floors: &mut [i32; 64],
+    ceilings: &mut [i32; 64],
+    held: &mut [i64; 64],
+) -> Merged
+    requires { ⌜ Row mode (now pieces) count ⌝ }
+    requires { ⌜ Room count (length (now aside)) ⌝ }
+    requires { ⌜ Arrays64 (arrays (now left) (now values) (now floors) (now ceilings) (now held)) ⌝ }
+    ensures { λ r. ⌜ Kept mode (arrays (now (left .exit)) (now (values .exit)) (now (floors .exit)) (now (ceilings .exit)) (now (held .exit))) r (rowSummary mode (now (pieces .entry))) ⌝ }
+{
+    if count < 2 {
+        return add_piece(
+            mode,
+            pieces,
+            left,
+            values,
+            floors,
+            ceilings,
+            held,
+            none_merged(mode),
+        );
+    }
+    let half = (count + 1) / 2;
+    let rest = count - half;
+    let at = row::end_of(pieces, half);
+    let front = &pieces[..at];
+    let back = &pieces[at..];
+    if rest < 2 {
+        let a = merge_pieces(
+            mode,
+            front,
+            half,
+            aside,
+            left,
+            values,
+            floors,
+            ceilings,
+            held,
+        );
+        return add_piece(mode, back, left, values, floors, ceilings, held, a);
+    }
+    let r = merge_pieces(
+        mode,
+        back,
+        rest,
+        aside,
+        left,
+        values,
+        floors,
+        ceilings,
+        held,
+    );
+    let n = put_aside(
+        mode,
+        &*left,
+        &*values,
+        &*floors,
+        &*ceilings,
+        &*held,
+        r,
+        aside,
+    );
+    let a = merge_pieces(
+        mode,
+        front,
+        half,
+        &mut aside[n..],
+        left,
+        values,
+        floors,
+        ceilings,
+        held,
+    );
+    add_piece(mode, &aside[..n], left, values, floors, ceilings, held, a)
+}
+
+// Accepted pieces of one mode, at least one, as one summary.
+fn merge_accepted(mode: u16, pieces: &[u8], count: usize, out: &mut [u8]) -> Written
     requires { ⌜ Row mode (now pieces) count ⌝ }
     ensures { λ r. ⌜ Answers (written (length (now (out .entry))) (rowMerged mode (now (pieces .entry)))) (now (out .entry)) (now (out .exit)) r ⌝ }
 {
-    if count < 2 {
-        return copy(pieces, out);
-    }
-    let half = (count + 1) / 2;
-    let at = row::end_of(pieces, half);
-    let mut left = [0u8; 1788];
-    let Written::Bytes(n) = merge_pieces(mode, &pieces[..at], half, &mut left) else {
-        return Written::Refused(12);
-    };
-    let mut right = [0u8; 1788];
-    let Written::Bytes(k) = merge_pieces(mode, &pieces[at..], count - half, &mut right) else {
-        return Written::Refused(12);
-    };
-    join(mode, &left[..n], &right[..k], out)
+    let mut left = [0i64; 64];
+    let mut values = [0i32; 64];
+    let mut floors = [0i32; 64];
+    let mut ceilings = [0i32; 64];
+    let mut held = [0i64; 64];
+    let mut aside = [0u8; 8940];
+    let a = merge_pieces(
+        mode,
+        pieces,
+        count,
+        &mut aside,
+        &mut left,
+        &mut values,
+        &mut floors,
+        &mut ceilings,
+        &mut held,
+    );
+    put_merged(mode, &left, &values, &floors, &ceilings, &held, a, out)
 }
 
-// MERGING A ROW: questions 4, 5, 6 and 12.
+// Merging a row: questions 4, 5, 6 and 12.
 pub fn merge_row(pieces: &[u8], out: &mut [u8]) -> Written
-    ensures { λ r. ⌜ writtenAnswer r ≡ lengthAnswered (mergeRowOutcome (now (pieces .entry)) (length (now (out .entry)))) ⌝ }
-    ensures { λ _. ⌜ now (out .exit) ≡ bufferAfter (mergeRowOutcome (now (pieces .entry)) (length (now (out .entry)))) (now (out .entry)) ⌝ }
+    ensures answer { λ r. ⌜ writtenAnswer r ≡ lengthAnswered (mergeRowOutcome (now (pieces .entry)) (length (now (out .entry)))) ⌝ }
+    ensures buffer { λ _. ⌜ now (out .exit) ≡ bufferAfter (mergeRowOutcome (now (pieces .entry)) (length (now (out .entry)))) (now (out .entry)) ⌝ }
 {
     let count = row::count_pieces(pieces);
     if count < 2 {
@@ -344,7 +439,7 @@ pub fn merge_row(pieces: &[u8], out: &mut [u8]) -> Written
     }
     let asked = mode_of_all(pieces);
     match asked {
-        OneMode::Mode(mode) => merge_pieces(mode, pieces, count, out),
+        OneMode::Mode(mode) => merge_accepted(mode, pieces, count, out),
         OneMode::Refused(n) => Written::Refused(n),
     }
 }

@@ -28,7 +28,7 @@ use Rattle.row.specs.Row.{rowPieces}
 use Rattle.outcome.specs.Outcomes.{Summaries, askRow, askLog, planBytes, runsBytes, mergeRowOutcome, planOutcome, runsOutcome}
 use Rattle.outcome.specs.Through.{plan-1500}
 use Rattle.merge.specs.RowAsks.{rowMerged, modeOfAll}
-use Rattle.merge.specs.RowLaws.{merged-fits}
+use Rattle.merge.specs.RowLaws.{summary-fits}
 use Rattle.merge.specs.CallLaws.{few-4, many-4, row-refused, is-row, row-is}
 use Rattle.runs.specs.CallLaws.{runs-3750}
 use Rattle.tulghimo.specs.Interface.{Short}
@@ -83,7 +83,7 @@ short-row row cap = dite (decLt n 2) (λ h. short-refused _ (few-4 row cap refl 
 
     go : 2 ≤ n → n ≤ 64 → (o : Outcome ℕ) → modeOfAll (rowPieces row) ≡ o → Short (lengthAnswered (mergeRowOutcome row cap))
     go a b (refused k) e = short-refused _ (row-refused row cap refl a b (sym e))
-    go a b (result m) e = subst (λ (o : Outcome (List ℕ)). Short (lengthAnswered o)) (sym (row-is row cap refl a b (sym e))) (fits cap (rowMerged m row) (merged-fits (is-row row cap refl a b (sym e))))
+    go a b (result m) e = subst (λ (o : Outcome (List ℕ)). Short (lengthAnswered o)) (sym (row-is row cap refl a b (sym e))) (fits cap (rowMerged m row) (summary-fits (is-row row cap refl a b (sym e))))
 
 -- A call on a row that writes short bytes for the rows that are let through is short.
 short-along : (bytes : Summaries → List ℕ) (ps : List (List ℕ)) (cap : ℕ) → ((s t : Summaries) → askRow ps ≡ result s → askLog s ≡ result t → length (bytes t) ≤ 3750) →

@@ -1,6 +1,6 @@
--- `merge::merge_pieces` meets its contract: one piece is copied; else the halves, each merged into an array of its own, are joined. The measure is the
--- number of pieces. Assumes nothing.
-use mathlib.Core.Path.{_≡_, refl, sym, ap₂, subst, _∙_}
+-- `merge::merge_pieces` meets its contract: one piece is taken as it stands; else the right half, put aside unless it is one piece, is added to the
+-- left one. The measure is the number of pieces. Assumes nothing.
+use mathlib.Core.Path.{_≡_, refl, sym, ap, subst, _∙_}
 use mathlib.Core.List.{List}
 use Prim.Native.Nat.{ℕ, _+_, _-_, _/_, _≤_, _<_}
 use native.Mathlib.Omega.{arith}
@@ -8,41 +8,42 @@ use borrow.Author.Needs.{needs}
 use borrow.Fn.Kinds.{In}
 use borrow.Fn.PlainCycle.{Measures, is, falls, and}
 use denote.Ref.{now}
-use lib.ListN.{length, take, drop, length-take, replicate}
+use lib.ListN.{length, take, drop, length-take}
+use Rattle.figure.specs.Mode.{modeOf}
+use Rattle.hill.specs.Summary.{blank}
+use Rattle.hill.specs.Merge.{mergeSummary}
+use Rattle.summary.specs.Layout.{encode}
+use Rattle.summary.specs.Decode.{decode}
 use Rattle.summary.specs.Accepted.{IsSummaryIn}
-use Rattle.summary.specs.Outcomes.{mergeBytes}
-use Rattle.merge.specs.RowAsks.{Front, Row, rowMerged}
-use Rattle.emit.specs.Laws.{answer-same}
-use Rattle.merge.specs.CopyLaws.{front, never-refused}
-use Rattle.merge.specs.RowLaws.{merged-is, merged-fits, one-piece, inside, left-row, rest-row, halves-merged}
+use Rattle.merge.specs.Asks.{Kept}
+use Rattle.merge.specs.RowAsks.{Front, Row, Room, rowSummary}
+use Rattle.merge.specs.FrontLaws.{front-stays, part-length, whole-length}
+use Rattle.merge.specs.RowLaws.{one-piece, summary-is, summary-fits, summary-says, inside, left-row, rest-row, halves-added, fewer-wait, one-waits, others-wait}
 use Rattle.merge.proofs.merge_pieces.Reads as merge-pieces
 use Rattle.merge.proofs.merge_pieces.Kinds as kinds
 use Rattle.merge.proofs.+merge_pieces.Lts-merge_pieces as lts
-use Rattle.merge.proofs.copy.Reads as copy-reads
-use Rattle.merge.proofs.join.Reads as join-reads
+use Rattle.merge.proofs.add_piece.Reads as add-piece-reads
+use Rattle.merge.proofs.none_merged.Reads as none-merged-reads
+use Rattle.merge.proofs.put_aside.Reads as put-aside-reads
 use Rattle.row.proofs.end_of.Reads as end-of-reads
 use Rattle.merge.proofs.+merge_pieces.{statement}
 use Rattle.merge.proofs.+merge_pieces.Tie.{close}
 
--- an array that was never written
-abbrev empty : List ℕ
-empty = replicate 1788 0
-
 -- the number of pieces, and what a call of the function itself shows: it has fewer
-abbrev measure : Measures 2 kinds.ps ℕ
+abbrev measure : Measures 7 kinds.ps ℕ
 measure κs a = a .1 .1 .0
 
-abbrev this : ℕ → In 2 kinds.ps
-this t = and 2 kinds.ps (is 2 kinds.ps measure t) merge-pieces.Pre
+abbrev this : ℕ → In 7 kinds.ps
+this t = and 7 kinds.ps (is 7 kinds.ps measure t) merge-pieces.Pre
 
-abbrev below : ℕ → In 2 kinds.ps
-below t = and 2 kinds.ps (falls 2 kinds.ps _<_ measure t) merge-pieces.Pre
+abbrev below : ℕ → In 7 kinds.ps
+below t = and 7 kinds.ps (falls 7 kinds.ps _<_ measure t) merge-pieces.Pre
 
 -- what each callee asks and leaves
 abbrev callees : ℕ → lts.Claims
-callees t = (copy-reads.Asked, copy-reads.Learnt, end-of-reads.Asked, end-of-reads.Learnt, below t, merge-pieces.Post, join-reads.Asked, join-reads.Learnt)
+callees t = (none-merged-reads.Asked, none-merged-reads.Learnt, add-piece-reads.Asked, add-piece-reads.Learnt, end-of-reads.Asked, end-of-reads.Learnt, below t, merge-pieces.Post, put-aside-reads.Asked, put-aside-reads.Learnt)
 
--- ---- once it is known where the first half ends
+-- ---- a row that is cut in two
 
 abbrev Cut : ℕ → Type 0
 Cut t = lts.After-end-of (callees t) (this t) merge-pieces.Post
@@ -50,6 +51,9 @@ Cut t = lts.After-end-of (callees t) (this t) merge-pieces.Post
 module _ (t : ℕ) (c : Cut t) where
   abbrev start : lts.Start (callees t) (this t) merge-pieces.Post
   start = c .before .before .before .before
+
+  abbrev m : ℕ
+  m = start .args .mode
 
   abbrev row : List ℕ
   row = now (start .args .pieces)
@@ -67,71 +71,107 @@ module _ (t : ℕ) (c : Cut t) where
   right = take (length row - at) (drop at row)
 
   inside-row : at ≤ length row
-  inside-row = inside (start .pre .1) (c .before .if1 .left) refl (c .end-of .ensures)
+  inside-row = inside (start .pre .1 .0) (c .before .if1 .left) refl (c .end-of .ensures)
 
-  left-half : Row (start .args .mode) left half
-  left-half = left-row (start .pre .1) (c .before .if1 .left) refl (c .end-of .ensures)
+  left-half : Row m left half
+  left-half = left-row (start .pre .1 .0) (c .before .if1 .left) refl (c .end-of .ensures)
 
-  right-half : Row (start .args .mode) right (start .args .count - half)
-  right-half = rest-row (start .pre .1) (c .before .if1 .left) refl (c .end-of .ensures)
+  right-half : Row m right (start .args .count - half)
+  right-half = rest-row (start .pre .1 .0) (c .before .if1 .left) refl (c .end-of .ensures)
 
--- ---- each half, merged, stands at the front of its array
+  both : (b : List ℕ) → decode m b ≡ rowSummary m right → mergeSummary (modeOf m .algebra) (rowSummary m left) (decode m b) ≡ rowSummary m row
+  both = halves-added (start .pre .1 .0) (c .before .if1 .left) refl (c .end-of .ensures)
+
+-- ---- what was lent for the halves that wait keeps its length
 
 module _ (t : ℕ) where
-  abbrev cut-of : lts.After-n (callees t) (this t) merge-pieces.Post → Cut t
-  cut-of c = c .before .before .before .before .before .before
+  len-right : (c : lts.After-merge-pieces2 (callees t) (this t) merge-pieces.Post) → length (c .merge-pieces2 .last .1 .1 .1 .0) ≡ length (now (c .before .before .before .before .before .before .before .before .before .before .before .before .before .before .args .aside))
+  len-right c = search needs
 
-  left-front : (c : lts.After-n (callees t) (this t) merge-pieces.Post) →
-      Front (rowMerged (start t (cut-of c) .args .mode) (left t (cut-of c))) (c .before .before .before .merge-pieces .last .1 .1 .1 .0) (c .n .given .0 .0)
-  left-front c =
-      front (rowMerged (start t (cut-of c) .args .mode) (left t (cut-of c))) empty (c .before .before .before .merge-pieces .ensures) (merged-fits (left-half t (cut-of c))) (c .n .given .1)
+  len-aside : (c : lts.After-put-aside (callees t) (this t) merge-pieces.Post) → length (c .put-aside .last .1 .1 .1 .1 .1 .1 .1 .0) ≡ length (c .before .before .before .before .before .before .before .before .before .merge-pieces2 .last .1 .1 .1 .0)
+  len-aside c = search needs
 
-  abbrev right-cut : lts.After-k (callees t) (this t) merge-pieces.Post → Cut t
-  right-cut c = cut-of (c .before .before .before .before .before .before .before)
+  len-left : (c : lts.After-merge-pieces3 (callees t) (this t) merge-pieces.Post) → length (c .merge-pieces3 .last .1 .1 .1 .0) ≡ length (c .before .before .before .before .before .before .before .before .before .put-aside .last .1 .1 .1 .1 .1 .1 .1 .0) - c .before .before .before .before .before .before .before .before .before .put-aside .result
+  len-left c = search needs
 
-  right-front : (c : lts.After-k (callees t) (this t) merge-pieces.Post) →
-      Front (rowMerged (start t (right-cut c) .args .mode) (right t (right-cut c))) (c .before .before .before .merge-pieces2 .last .1 .1 .1 .0) (c .k .given .0 .0)
-  right-front c =
-      front (rowMerged (start t (right-cut c) .args .mode) (right t (right-cut c))) empty (c .before .before .before .merge-pieces2 .ensures) (merged-fits (right-half t (right-cut c))) (c .k .given .1)
+  -- the right half's bytes stand at the front of it
+  right-front : (c : lts.After-put-aside (callees t) (this t) merge-pieces.Post) → let e = c .before .before .before .before .before .before .before .before .before .before .before .before .before .before .before .before .before .before .before in
+      Front (encode (m t e) (rowSummary (m t e) (right t e))) (c .put-aside .last .1 .1 .1 .1 .1 .1 .1 .0) (c .put-aside .result)
+  right-front c = let e = c .before .before .before .before .before .before .before .before .before .before .before .before .before .before .before .before .before .before .before in c .put-aside .ensures (rowSummary (m t e) (right t e)) (c .before .before .before .before .before .before .before .before .before .merge-pieces2 .ensures)
+
+  -- and behind them there is room for the left half's
+  room-left : (c : lts.After-put-aside (callees t) (this t) merge-pieces.Post) → let o = c .put-aside .last .1 .1 .1 .1 .1 .1 .1 .0 in
+      Room (half t (c .before .before .before .before .before .before .before .before .before .before .before .before .before .before .before .before .before .before .before)) (length (take (length o - c .put-aside .result) (drop (c .put-aside .result) o)))
+  room-left c =
+      let e = c .before .before .before .before .before .before .before .before .before .before .before .before .before .before .before .before .before .before .before in
+      let n = c .put-aside .result in
+      let f = right-front c in
+      let l : n ≤ 1788 = omega (arith, f .count, ap length (f .is), summary-fits (right-half t e)) in
+      rw (part-length n (c .put-aside .last .1 .1 .1 .1 .1 .1 .1 .0), len-aside c, len-right (c .before .before .before .before .before .before .before .before .before))
+      (others-wait (start t e .pre .1 .1 .0) (omega (arith, c .before .before .before .before .before .before .before .before .before .before .before .before .before .before .before .before .if2 .left)) l)
 
 -- ---- the needs
 
 module _ (t : ℕ) where
-  copy-requires : lts.Need-copy-requires (callees t) (this t) merge-pieces.Post
-  copy-requires c κs = search needs
+  none-merged-requires : lts.Need-none-merged-requires (callees t) (this t) merge-pieces.Post
+  none-merged-requires c κs = search needs
 
-  same-length : lts.Need-same-length (callees t) (this t) merge-pieces.Post
-  same-length c = search needs
+  add-piece-requires : lts.Need-add-piece-requires (callees t) (this t) merge-pieces.Post
+  add-piece-requires c κs = let a = c .before .before .before .before .before .before .before .before .before in
+      (one-piece (a .pre .1 .0) (c .before .before .before .before .before .before .if1 .taken) .is, record { summary = blank; kept = c .none-merged .ensures _ _ _ _ _ (a .pre .1 .1 .1) })
 
   returns : lts.Need-returns (callees t) (this t) merge-pieces.Post
-  returns c = answer-same (sym (one-piece (c .before .before .before .before .before .before .before .pre .1) (λ i. c .before .before .before .before .before .before .shared-slice-known .given i .fits) (c .before .before .before .before .if1 .taken))) (c .before .before .copy .ensures)
+  returns c = let a = c .before .before .before .before .before .before .before .before .before .before in
+      subst (Kept (a .args .mode) _ (c .add-piece .result)) (sym (one-piece (a .pre .1 .0) (c .before .before .before .before .before .before .before .if1 .taken) .says))
+      (c .add-piece .ensures blank (c .before .none-merged .ensures _ _ _ _ _ (a .pre .1 .1 .1)))
 
   add-half : lts.Need-add-half (callees t) (this t) merge-pieces.Post
-  add-half c = let h = c .before .before .before .pre .1 .few in omega arith
+  add-half c = let h = c .before .before .before .pre .1 .0 .few in omega arith
+
+  sub-rest : lts.Need-sub-rest (callees t) (this t) merge-pieces.Post
+  sub-rest c = let h = c .before .before .before .pre .1 .0 .some in omega arith
 
   end-of-requires : lts.Need-end-of-requires (callees t) (this t) merge-pieces.Post
   end-of-requires c κs = search needs
 
-  slice-aggregate-merge-pieces : lts.Need-slice-aggregate-merge-pieces (callees t) (this t) merge-pieces.Post
-  slice-aggregate-merge-pieces c = simp length-take (omega (arith, inside-row t (c .before)))
+  slice-aggregate-front : lts.Need-slice-aggregate-front (callees t) (this t) merge-pieces.Post
+  slice-aggregate-front c = simp length-take (omega (arith, inside-row t (c .before)))
 
-  slice-aggregate-merge-pieces-2 : lts.Need-slice-aggregate-merge-pieces-2 (callees t) (this t) merge-pieces.Post
-  slice-aggregate-merge-pieces-2 c = search needs
+  sub-back : lts.Need-sub-back (callees t) (this t) merge-pieces.Post
+  sub-back c = inside-row t (c .before)
+
+  part-back-start : lts.Need-part-back-start (callees t) (this t) merge-pieces.Post
+  part-back-start c = sub-back c
+
+  part-back-end : lts.Need-part-back-end (callees t) (this t) merge-pieces.Post
+  part-back-end c = search needs
 
   merge-pieces-requires : lts.Need-merge-pieces-requires (callees t) (this t) merge-pieces.Post
-  merge-pieces-requires c κs = let e = c .before .before .before .before .before .before .pre .0 in (omega arith, left-half t (c .before .before))
+  merge-pieces-requires c κs = let a = c .before .before .before .before .before .before .before .before .before .before .before .before .before in
+      (omega (arith, a .pre .0, c .before .before .before .before .before .before .before .before .before .before .if1 .left), (left-half t (c .before .before .before .before .before .before .before .before .before), (fewer-wait (a .pre .1 .1 .0) (omega (arith, c .before .before .before .before .before .before .before .before .before .before .if1 .left)), a .pre .1 .1 .1)))
 
-  enum-known-n : lts.Need-enum-known-n (callees t) (this t) merge-pieces.Post
-  enum-known-n c = search needs
+  add-piece-requires-2 : lts.Need-add-piece-requires-2 (callees t) (this t) merge-pieces.Post
+  add-piece-requires-2 c κs = let e = c .before .before .before .before .before .before .before .before .before .before .before .before .before .before .before .before .before in
+      (one-piece (right-half t e) (c .before .before .before .before .before .before .before .before .before .before .before .before .before .before .if2 .taken) .is, record { summary = rowSummary (m t e) (left t e); kept = c .before .before .before .before .before .before .before .merge-pieces .ensures })
 
-  enum-told : lts.Need-enum-told (callees t) (this t) merge-pieces.Post
-  enum-told c = search needs
+  same-length : lts.Need-same-length (callees t) (this t) merge-pieces.Post
+  same-length c = search needs
 
   returns-2 : lts.Need-returns-2 (callees t) (this t) merge-pieces.Post
-  returns-2 c = absurd (never-refused (rowMerged (start t (c .before .before .before .before .before .before) .args .mode) (left t (c .before .before .before .before .before .before))) empty (c .before .before .before .merge-pieces .ensures) (merged-fits (left-half t (c .before .before .before .before .before .before))) (c .enum-told .given .1))
+  returns-2 c = let e = c .before .before .before .before .before .before .before .before .before .before .before .before .before .before .before .before .before .before in
+      subst (Kept (m t e) _ (c .add-piece2 .result)) (both t e (right t e) (sym (one-piece (right-half t e) (c .before .before .before .before .before .before .before .before .before .before .before .before .before .before .before .if2 .taken) .says)))
+      (c .add-piece2 .ensures (rowSummary (m t e) (left t e)) (c .before .before .before .before .before .before .before .before .merge-pieces .ensures))
+
+  merge-pieces-requires-2 : lts.Need-merge-pieces-requires-2 (callees t) (this t) merge-pieces.Post
+  merge-pieces-requires-2 c κs = let a = c .before .before .before .before .before .before .before .before .before .before .before .before .before in
+      (omega (arith, a .pre .0, c .before .before .before .before .before .before .before .before .before .before .if1 .left), (right-half t (c .before .before .before .before .before .before .before .before .before), (fewer-wait (a .pre .1 .1 .0) (omega arith), a .pre .1 .1 .1)))
+
+  put-aside-requires : lts.Need-put-aside-requires (callees t) (this t) merge-pieces.Post
+  put-aside-requires c κs = let e = c .before .before .before .before .before .before .before .before .before .before .before .before .before .before .before .before .before .before in
+      (record { summary = rowSummary (m t e) (right t e); kept = c .before .before .before .before .before .before .before .before .merge-pieces2 .ensures }, omega (arith, len-right t (c .before .before .before .before .before .before .before .before), one-waits (c .before .before .before .before .before .before .before .before .before .before .before .before .before .before .before .before .before .before .before .before .before .before .pre .1 .1 .0) (omega (arith, c .before .before .before .before .before .before .before .before .before .before .before .before .before .before .before .if2 .left))))
 
   sub-merge-pieces : lts.Need-sub-merge-pieces (callees t) (this t) merge-pieces.Post
-  sub-merge-pieces c = inside-row t (c .before .before .before .before .before .before .before)
+  sub-merge-pieces c = right-front t (c .before .before) .inside
 
   part-merge-pieces-start : lts.Need-part-merge-pieces-start (callees t) (this t) merge-pieces.Post
   part-merge-pieces-start c = sub-merge-pieces c
@@ -139,79 +179,53 @@ module _ (t : ℕ) where
   part-merge-pieces-end : lts.Need-part-merge-pieces-end (callees t) (this t) merge-pieces.Post
   part-merge-pieces-end c = search needs
 
-  sub-merge-pieces-2 : lts.Need-sub-merge-pieces-2 (callees t) (this t) merge-pieces.Post
-  sub-merge-pieces-2 c = let h = c .before .before .before .before .before .before .before .before .before .before .before .before .pre .1 .some in omega arith
+  merge-pieces-requires-3 : lts.Need-merge-pieces-requires-3 (callees t) (this t) merge-pieces.Post
+  merge-pieces-requires-3 c κs = let a = c .before .before .before .before .before .before .before .before .before .before .before .before .before .before .before .before .before .before .before .before .before .before .before .before .before .before .before .before .before .before .before in
+      (omega (arith, a .pre .0, c .before .before .before .before .before .before .before .before .before .before .before .before .before .before .before .before .before .before .before .before .before .before .before .before .before .before .before .before .if1 .left), (left-half t (c .before .before .before .before .before .before .before .before .before .before .before .before .before .before .before .before .before .before .before .before .before .before .before .before .before .before .before), (room-left t (c .before .before .before .before .before .before .before .before), c .before .before .before .before .before .before .before .before .before .before .before .before .before .before .before .before .before .merge-pieces2 .ensures .whole)))
 
-  slice-aggregate-merge-pieces-3 : lts.Need-slice-aggregate-merge-pieces-3 (callees t) (this t) merge-pieces.Post
-  slice-aggregate-merge-pieces-3 c = search needs
+  slice-reshare-prefix-add-piece : lts.Need-slice-reshare-prefix-add-piece (callees t) (this t) merge-pieces.Post
+  slice-reshare-prefix-add-piece c = front-stays (right-front t (c .before .before .before .before .before .before .before .before .before .before .before)) _ .inside
 
-  merge-pieces-requires-2 : lts.Need-merge-pieces-requires-2 (callees t) (this t) merge-pieces.Post
-  merge-pieces-requires-2 c κs = let e = c .before .before .before .before .before .before .before .before .before .before .before .before .before .pre .0 in (omega arith, right-half t (c .before .before .before .before .before .before .before .before .before))
+  slice-aggregate-add-piece : lts.Need-slice-aggregate-add-piece (callees t) (this t) merge-pieces.Post
+  slice-aggregate-add-piece c = front-stays (right-front t (c .before .before .before .before .before .before .before .before .before .before .before .before)) _ .count
 
-  enum-known-k : lts.Need-enum-known-k (callees t) (this t) merge-pieces.Post
-  enum-known-k c = search needs
-
-  enum-told-2 : lts.Need-enum-told-2 (callees t) (this t) merge-pieces.Post
-  enum-told-2 c = search needs
-
-  returns-3 : lts.Need-returns-3 (callees t) (this t) merge-pieces.Post
-  returns-3 c = absurd (never-refused (rowMerged (start t (c .before .before .before .before .before .before .before .before .before .before .before .before .before) .args .mode) (right t (c .before .before .before .before .before .before .before .before .before .before .before .before .before))) empty (c .before .before .before .merge-pieces2 .ensures) (merged-fits (right-half t (c .before .before .before .before .before .before .before .before .before .before .before .before .before))) (c .enum-told2 .given .1))
-
-  array-share-prefix-left : lts.Need-array-share-prefix-left (callees t) (this t) merge-pieces.Post
-  array-share-prefix-left c = left-front t (c .before .before .before .before .before .before .before .before) .inside
-
-  slice-aggregate-join : lts.Need-slice-aggregate-join (callees t) (this t) merge-pieces.Post
-  slice-aggregate-join c = left-front t (c .before .before .before .before .before .before .before .before .before) .count
-
-  array-share-prefix-right : lts.Need-array-share-prefix-right (callees t) (this t) merge-pieces.Post
-  array-share-prefix-right c = right-front t (c .before .before) .inside
-
-  slice-aggregate-join-2 : lts.Need-slice-aggregate-join-2 (callees t) (this t) merge-pieces.Post
-  slice-aggregate-join-2 c = right-front t (c .before .before .before) .count
-
-  join-requires : lts.Need-join-requires (callees t) (this t) merge-pieces.Post
-  join-requires c κs =
-      let l = left-front t (c .before .before .before .before .before .before .before .before .before .before .before) in
-      let r = right-front t (c .before .before .before .before) in
-      let m = c .before .before .before .before .before .before .before .before .before .before .before .before .before .before .before .before .before .before .before .before .before .args .mode in
-      (subst (IsSummaryIn m) (sym (l .is)) (merged-is (left-half t (c .before .before .before .before .before .before .before .before .before .before .before .before .before .before .before .before .before))), subst (IsSummaryIn m) (sym (r .is)) (merged-is (right-half t (c .before .before .before .before .before .before .before .before .before .before .before .before .before .before .before .before .before))))
+  add-piece-requires-3 : lts.Need-add-piece-requires-3 (callees t) (this t) merge-pieces.Post
+  add-piece-requires-3 c κs = let e = c .before .before .before .before .before .before .before .before .before .before .before .before .before .before .before .before .before .before .before .before .before .before .before .before .before .before .before .before .before .before .before .before .before .before .before .before in
+      (subst (IsSummaryIn (m t e)) (sym (front-stays (right-front t (c .before .before .before .before .before .before .before .before .before .before .before .before .before .before .before .before .before)) _ .is)) (summary-is (right-half t e)), record { summary = rowSummary (m t e) (left t e); kept = c .before .before .before .before .before .before .before .before .merge-pieces3 .ensures })
 
   same-length-2 : lts.Need-same-length-2 (callees t) (this t) merge-pieces.Post
-  same-length-2 c = search needs
+  same-length-2 c = let p = c .before .before .before .before .before .before .before .before .before .before .before .before .before .before .before .before .before .before in
+      whole-length (p .put-aside .result) (p .put-aside .last .1 .1 .1 .1 .1 .1 .1 .0) (c .before .before .before .before .before .before .before .before .before .merge-pieces3 .last .1 .1 .1 .0) (right-front t p .inside) (len-left t (c .before .before .before .before .before .before .before .before .before)) ∙ len-aside t p ∙ len-right t (c .before .before .before .before .before .before .before .before .before .before .before .before .before .before .before .before .before .before .before .before .before .before .before .before .before .before .before)
 
-  returns-4 : lts.Need-returns-4 (callees t) (this t) merge-pieces.Post
-  returns-4 c =
-      let l = left-front t (c .before .before .before .before .before .before .before .before .before .before .before .before .before .before) in
-      let r = right-front t (c .before .before .before .before .before .before .before) in
-      let e = c .before .before .before .before .before .before .before .before .before .before .before .before .before .before .before .before .before .before .before .before in
-      answer-same (ap₂ (mergeBytes (start t e .args .mode)) (l .is) (r .is) ∙ halves-merged (start t e .pre .1) (e .before .if1 .left) refl (e .end-of .ensures)) (c .before .before .join .ensures)
+  returns-3 : lts.Need-returns-3 (callees t) (this t) merge-pieces.Post
+  returns-3 c = let e = c .before .before .before .before .before .before .before .before .before .before .before .before .before .before .before .before .before .before .before .before .before .before .before .before .before .before .before .before .before .before .before .before .before .before .before .before .before in
+      subst (Kept (m t e) _ (c .add-piece3 .result)) (both t e _ (ap (decode (m t e)) (front-stays (right-front t (c .before .before .before .before .before .before .before .before .before .before .before .before .before .before .before .before .before .before)) _ .is) ∙ summary-says (right-half t e)))
+      (c .add-piece3 .ensures (rowSummary (m t e) (left t e)) (c .before .before .before .before .before .before .before .before .before .merge-pieces3 .ensures))
 
 pub +merge-pieces-spec : {M : Type 1} → statement M
 +merge-pieces-spec = close measure λ t. lts.spec (callees t) (this t) merge-pieces.Post
-    (copy-requires t)
-    (same-length t)
+    (none-merged-requires t)
+    (add-piece-requires t)
     (returns t)
     (add-half t)
+    (sub-rest t)
     (end-of-requires t)
-    (slice-aggregate-merge-pieces t)
-    (slice-aggregate-merge-pieces-2 t)
+    (slice-aggregate-front t)
+    (sub-back t)
+    (part-back-start t)
+    (part-back-end t)
     (merge-pieces-requires t)
-    (enum-known-n t)
-    (enum-told t)
+    (add-piece-requires-2 t)
+    (same-length t)
     (returns-2 t)
+    (merge-pieces-requires-2 t)
+    (put-aside-requires t)
     (sub-merge-pieces t)
     (part-merge-pieces-start t)
     (part-merge-pieces-end t)
-    (sub-merge-pieces-2 t)
-    (slice-aggregate-merge-pieces-3 t)
-    (merge-pieces-requires-2 t)
-    (enum-known-k t)
-    (enum-told-2 t)
-    (returns-3 t)
-    (array-share-prefix-left t)
-    (slice-aggregate-join t)
-    (array-share-prefix-right t)
-    (slice-aggregate-join-2 t)
-    (join-requires t)
+    (merge-pieces-requires-3 t)
+    (slice-reshare-prefix-add-piece t)
+    (slice-aggregate-add-piece t)
+    (add-piece-requires-3 t)
     (same-length-2 t)
-    (returns-4 t)
+    (returns-3 t)

@@ -23,8 +23,8 @@ mode-of-all-requires c κs = some-bytes (now (c .before .before .before .before 
 enum-known-asked : tie.Need-enum-known-asked
 enum-known-asked c = search needs
 
-merge-pieces-requires : tie.Need-merge-pieces-requires
-merge-pieces-requires c κs = is-row (now (c .before .before .before .before .before .before .before .before .before .before .args .pieces)) (length (now (c .before .before .before .before .before .before .before .before .before .before .args .out))) (c .before .before .before .before .before .before .before .count-pieces .ensures) (c .before .before .before .before .before .before .if1 .left) (c .before .before .before .before .before .if2 .left) (sym (ap modeAnswer (c .before .before .asked .given .1)) ∙ c .before .before .before .before .mode-of-all .ensures)
+merge-accepted-requires : tie.Need-merge-accepted-requires
+merge-accepted-requires c κs = is-row (now (c .before .before .before .before .before .before .before .before .before .before .args .pieces)) (length (now (c .before .before .before .before .before .before .before .before .before .before .args .out))) (c .before .before .before .before .before .before .before .count-pieces .ensures) (c .before .before .before .before .before .before .if1 .left) (c .before .before .before .before .before .if2 .left) (sym (ap modeAnswer (c .before .before .asked .given .1)) ∙ c .before .before .before .before .mode-of-all .ensures)
 
 enum-known-asked-2 : tie.Need-enum-known-asked-2
 enum-known-asked-2 c = search needs
@@ -33,7 +33,7 @@ same-length : tie.Need-same-length
 same-length c = search needs
 
 returns-3 : tie.Need-returns-3
-returns-3 c = answered (row-is (now (c .before .before .before .before .before .before .before .before .before .before .before .before .before .args .pieces)) (length (now (c .before .before .before .before .before .before .before .before .before .before .before .before .before .args .out))) (c .before .before .before .before .before .before .before .before .before .before .count-pieces .ensures) (c .before .before .before .before .before .before .before .before .before .if1 .left) (c .before .before .before .before .before .before .before .before .if2 .left) (sym (ap modeAnswer (c .before .before .before .before .before .asked .given .1)) ∙ c .before .before .before .before .before .before .before .mode-of-all .ensures)) (c .before .before .merge-pieces .ensures)
+returns-3 c = answered (row-is (now (c .before .before .before .before .before .before .before .before .before .before .before .before .before .args .pieces)) (length (now (c .before .before .before .before .before .before .before .before .before .before .before .before .before .args .out))) (c .before .before .before .before .before .before .before .before .before .before .count-pieces .ensures) (c .before .before .before .before .before .before .before .before .before .if1 .left) (c .before .before .before .before .before .before .before .before .if2 .left) (sym (ap modeAnswer (c .before .before .before .before .before .asked .given .1)) ∙ c .before .before .before .before .before .before .before .mode-of-all .ensures)) (c .before .before .merge-accepted .ensures)
 
 returns-4 : tie.Need-returns-4
 returns-4 c = refusal (now (c .before .before .before .before .before .before .before .before .before .args .out)) (row-refused (now (c .before .before .before .before .before .before .before .before .before .args .pieces)) (length (now (c .before .before .before .before .before .before .before .before .before .args .out))) (c .before .before .before .before .before .before .count-pieces .ensures) (c .before .before .before .before .before .if1 .left) (c .before .before .before .before .if2 .left) (sym (ap modeAnswer (c .before .asked2 .given .1)) ∙ c .before .before .before .mode-of-all .ensures))
@@ -47,7 +47,7 @@ merge-row-spec =
     returns-2
     mode-of-all-requires
     enum-known-asked
-    merge-pieces-requires
+    merge-accepted-requires
     enum-known-asked-2
     same-length
     returns-3
