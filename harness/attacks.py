@@ -140,6 +140,7 @@ INPUTS = {
     "plan/fit_of_runs": call("plan::plan", HEAD + TAIL, room=12),
     "plan/lowest_depth": call("plan::plan", HEAD + TAIL),
     "plan/line_kind": call("plan::plan", HEAD + TAIL),
+    "record/ceiling_unlimited": call("summarise::finish", hill(1, 0, 0, 1, 1, [], 0, [(10, 0, GRAMS + 1, 0)])),
     "record/cut_close": call("record::read_first", close(1)[:5]),
     "record/default_floor": call("record::read_first", short(0, -5)),
     "record/depth_64": call("record::read_first", close(64)),

@@ -1,11 +1,12 @@
--- The loops over a slope's numbers: a test of each, and a sum with a cap. Assumes nothing.
+-- The loops over a slope's numbers: a test of each, and a sum of each up to a cap. Assumes nothing.
 use mathlib.Core.Path.{_≡_, refl, sym, ap, ap₂, _∙_}
 use mathlib.Core.Bool.{Bool, true, _&&_}
-use Prim.Native.Nat.{ℕ, zero, suc, _+_, _≤_, _<_, min}
+use Prim.Native.Nat.{ℕ, zero, suc, _+_, _*_, _^_, _≤_, _<_, min}
 use native.Mathlib.Numerals.{add-one}
 use native.Mathlib.Omega.{arith}
 use Rattle.summary.specs.Judge.{sumTo}
 use Rattle.summary.specs.Decide.{allTo}
+use Rattle.judge.specs.Laid.{Room}
 
 -- ---- all of them
 
@@ -27,23 +28,39 @@ module _ (f : ℕ → Bool) (n : ℕ) where
 
 -- ---- their sum
 
-pub record SumSo (f : ℕ → ℕ) (n cap before i sum : ℕ) : Type 0 where
+pub record SumSo (f : ℕ → ℕ) (n i sum : ℕ) : Type 0 where
   pub passed : i ≤ n
-  pub so : sum ≡ min cap (before + sumTo i f)
+  pub so : sum ≡ sumTo i f
 
-module _ (f : ℕ → ℕ) (n cap before : ℕ) where
-  pub sum-start : before ≤ cap → SumSo f n cap before 0 before
+module _ (f : ℕ → ℕ) (n : ℕ) where
+  pub sum-start : SumSo f n 0 0
   unfolding sumTo
-  sum-start h = record { passed = omega arith; so = omega arith }
+  sum-start = record { passed = omega arith; so = refl }
 
-  pub sum-next : (i sum x r : ℕ) → SumSo f n cap before i sum → i < n → x ≡ f i → r ≡ min cap (sum + x) → SumSo f n cap before (i + 1) r
+  pub sum-next : (i : ℕ) {sum x : ℕ} → SumSo f n i sum → i < n → x ≡ f i → SumSo f n (i + 1) (sum + x)
   unfolding sumTo
-  sum-next i sum x r s h e g =
-      let k : sumTo (i + 1) f ≡ sumTo i f + f i = ap (λ (j : ℕ). sumTo j f) (add-one i) in
-      record { passed = omega arith; so = omega arith }
+  sum-next i s h e = record { passed = omega arith; so = ap₂ _+_ (s .so) e ∙ sym (ap (λ (k : ℕ). sumTo k f) (add-one i)) }
 
-  pub sum-end : (i sum : ℕ) → SumSo f n cap before i sum → n ≤ i → sum ≡ min cap (before + sumTo n f)
-  sum-end i sum s h = let p = s .passed in let e : i ≡ n = omega arith in s .so ∙ ap (λ (k : ℕ). min cap (before + sumTo k f)) e
+  pub sum-end : (i : ℕ) {sum : ℕ} → SumSo f n i sum → n ≤ i → sum ≡ sumTo n f
+  sum-end i s h = let p = s .passed in let e : i ≡ n = omega arith in s .so ∙ ap (λ (k : ℕ). sumTo k f) e
+
+-- ---- each cut to a cap
+
+module _ (cap : ℕ) (f : ℕ → ℕ) where
+  pub capped-small : cap ≤ 2 ^ 56 → (n : ℕ) → sumTo n (λ i. min cap (f i)) ≤ 2 ^ 56 * n
+  unfolding sumTo
+  capped-small h zero = omega arith
+  capped-small h (suc n) = omega (arith, capped-small h n)
+
+  -- what n of them come to
+  pub capped-room : (n r : ℕ) → Room n cap → r ≡ sumTo n (λ i. min cap (f i)) → r ≤ 2 ^ 56 * 65
+  capped-room n r m e = omega (arith, capped-small (m .each) n)
+
+  -- the sum reaches the cap if and only if it did uncut
+  pub capped-same : (n : ℕ) → min cap (sumTo n (λ i. min cap (f i))) ≡ min cap (sumTo n f)
+  unfolding sumTo
+  capped-same zero = refl
+  capped-same (suc n) = omega (arith, capped-same n)
 
 -- ---- the same numbers in other words
 

@@ -1,6 +1,6 @@
 -- The parts of the test of question 5, as the code's branches meet them. Assumes nothing.
-use mathlib.Core.Path.{_≡_, refl, ap₂, _∙_, sym}
-use mathlib.Core.Bool.{Bool, true, false, cond, _&&_}
+use mathlib.Core.Path.{_≡_, ap₂, _∙_, sym}
+use mathlib.Core.Bool.{Bool, true, false, cond, _&&_, and-false}
 use mathlib.Core.List.{List}
 use Prim.Native.Nat.{ℕ, _≤_, _<_}
 use native.Mathlib.Omega.{arith}
@@ -9,17 +9,13 @@ use lib.ListN.{length}
 use borrow.Author.Tests.{ne-eqb}
 use Rattle.gate.specs.Outcome.{refused, result}
 use Rattle.figure.specs.Mode.{modeInUse}
-use Rattle.summary.specs.Judge.{lengthAt, kindAt, modeAt, startAt, peakAt, endAt}
+use Rattle.summary.specs.Judge.{lengthAt, kindAt, modeAt, startAt, peakAt, endAt, openedAt}
 use Rattle.summary.specs.Decide.{layoutFits, levelsFit, openedFits, middleFits, recordsFit, valuesFit, hillFits, isSummary}
 use Rattle.summary.specs.Tests.{tells-and, tells-le, tells-eq, tells-true}
 use Rattle.judge.specs.Judged.{headAt, judgedOf}
-use Rattle.judge.specs.Laid.{hillLength, isSpoiltTest, isHillTest, Levels, Laid}
+use Rattle.judge.specs.Laid.{hillLength, isSpoiltTest, isHillTest, Levels, Laid, Few}
 use Rattle.judge.specs.Laws.{judged-yes, judged-no}
 use Rattle.judge.specs.declared.Head.{Head}
-
-and-false : (t : Bool) → t && false ≡ false
-and-false true = refl
-and-false false = refl
 
 module _ (b : List ℕ) where
   -- ---- another length
@@ -58,6 +54,10 @@ module _ (b : List ℕ) where
       let q : length b ≡ hillLength b = p .0 .0 .1 in
       record { levels = l; whole = omega arith }
 
+  pub few-of : Laid b → openedFits b ≡ true → Few b
+  unfolding openedFits
+  few-of l e = record { laid = l; few = tells-and (tells-le (openedAt b) 100_000) (tells-true _) .from e .0 }
+
   -- ---- a hill, test by test
 
   pub bad-levels : levelsFit b ≡ false → isHillTest b ≡ false
@@ -67,10 +67,14 @@ module _ (b : List ℕ) where
   pub bad-layout : layoutFits b 18 (hillLength b) ≡ false → isHillTest b ≡ false
   bad-layout e = rw e
 
-  pub hill-tests : (o m r v : Bool) → levelsFit b ≡ true → layoutFits b 18 (hillLength b) ≡ true
-      → o ≡ openedFits b → m ≡ middleFits b → r ≡ recordsFit b → v ≡ valuesFit b → o && m && r && v ≡ isHillTest b
+  pub bad-opened : openedFits b ≡ false → isHillTest b ≡ false
   unfolding hillFits
-  hill-tests o m r v l a eo em er ev = rw (l, a) (ap₂ _&&_ (ap₂ _&&_ (ap₂ _&&_ eo em) er) ev)
+  bad-opened e = rw e (simp and-false)
+
+  pub hill-tests : (m r v : Bool) → levelsFit b ≡ true → layoutFits b 18 (hillLength b) ≡ true → openedFits b ≡ true
+      → m ≡ middleFits b → r ≡ recordsFit b → v ≡ valuesFit b → m && r && v ≡ isHillTest b
+  unfolding hillFits
+  hill-tests m r v l a o em er ev = rw (l, a, o) (ap₂ _&&_ (ap₂ _&&_ em er) ev)
 
   -- ---- an answer
 

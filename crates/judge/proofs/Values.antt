@@ -16,7 +16,7 @@ use Rattle.summary.specs.Judge.{modeAt, riseAt, fallAt, openedAt, leftAt, middl
 use Rattle.summary.specs.Decide.{allTo, valuesFit}
 use Rattle.summary.specs.ModeValues.{numbered}
 use Rattle.judge.specs.Laid.{stampsFit, sizesFit, valueIn}
-use Rattle.judge.proofs.Loops.{all-same, sum-same}
+use Rattle.judge.proofs.Loops.{all-same, sum-same, capped-same}
 
 -- ---- by the mode's number, in use or not
 
@@ -46,13 +46,16 @@ stamp-is : (z : ℤ) → modeOf 4 .isFigure z ≡ isStamp z
 unfolding modeOf isStamp
 stamp-is z = refl
 
--- a sum up to one more than n tells whether the whole is at most n
-under-cap : (x n : ℕ) → ltb (min (n + 1) x) (n + 1) ≡ leb x n
-under-cap x n = go (leb x n) refl
+-- numbers that are the same up to one more than n are both at most n or neither
+under-cap : (x y n : ℕ) → min (n + 1) x ≡ min (n + 1) y → ltb x (n + 1) ≡ leb y n
+under-cap x y n h = go (leb y n) refl
   where
-    go : (t : Bool) → leb x n ≡ t → ltb (min (n + 1) x) (n + 1) ≡ t
-    go true e = lt-ltb (min (n + 1) x) (n + 1) (omega (arith, leb-true x n e))
-    go false e = le-ltb (min (n + 1) x) (n + 1) (omega (arith, leb-false x n e))
+    go : (t : Bool) → leb y n ≡ t → ltb x (n + 1) ≡ t
+    go true e = lt-ltb x (n + 1) (omega (arith, leb-true y n e))
+    go false e = le-ltb x (n + 1) (omega (arith, leb-false y n e))
+
+add-capped : (cap k a b x y : ℕ) → min cap a ≡ min cap x → min cap b ≡ min cap y → min cap (k + a + b) ≡ min cap (k + (x + y))
+add-capped cap k a b x y p q = omega arith
 
 module _ (b : List ℕ) where
   -- where what a record holds stands
@@ -75,22 +78,22 @@ module _ (b : List ℕ) where
 
   -- ---- modes 1 to 3
 
-  pub sizes-fit : (m left right opened cap unclosed lefts all : ℕ) → left ≡ riseAt b → right ≡ fallAt b → opened ≡ openedAt b
+  pub sizes-fit : (m left right opened cap lefts helds : ℕ) → left ≡ riseAt b → right ≡ fallAt b → opened ≡ openedAt b
       → cap ≡ limit * opened + 1
-      → unclosed ≡ min cap (0 + limit * right)
-      → lefts ≡ min cap (unclosed + sumTo (left + 1) (λ i. sizeOf (modeOf m) (valueIn b 16 8 i)))
-      → all ≡ min cap (lefts + sumTo right (λ j. sizeOf (modeOf m) (valueIn b (36 + 8 * left) 20 j)))
-      → ltb all cap ≡ sizesFit m b
+      → lefts ≡ sumTo (left + 1) (λ i. min cap (sizeOf (modeOf m) (valueIn b 16 8 i)))
+      → helds ≡ sumTo right (λ j. min cap (sizeOf (modeOf m) (valueIn b (36 + 8 * left) 20 j)))
+      → ltb (limit * right + lefts + helds) cap ≡ sizesFit m b
   unfolding sumTo
-  sizes-fit m left right opened cap unclosed lefts all x y o c u l a =
+  sizes-fit m left right opened cap lefts helds x y o c l h =
       let s : sumTo (left + 1) (λ i. sizeOf (modeOf m) (valueIn b 16 8 i)) ≡ sumTo (riseAt b) (λ i. sizeOf (modeOf m) (leftAt b i)) + sizeOf (modeOf m) (middleAt b) =
       ap (λ (k : ℕ). sumTo k (λ i. sizeOf (modeOf m) (valueIn b 16 8 i))) (add-one left ∙ ap suc x) in
       let t : sumTo right (λ j. sizeOf (modeOf m) (valueIn b (36 + 8 * left) 20 j)) ≡ sumTo (fallAt b) (λ j. sizeOf (modeOf m) (heldAt b j)) =
       ap₂ (λ (n k : ℕ). sumTo k (λ j. sizeOf (modeOf m) (valueIn b (36 + 8 * n) 20 j))) x y ∙ sum-same _ _ (λ j. ap (sizeOf (modeOf m)) (held-at j)) (fallAt b) in
-      let full : ℕ = limit * fallAt b + (sumTo (riseAt b) (λ i. sizeOf (modeOf m) (leftAt b i)) + sizeOf (modeOf m) (middleAt b) + sumTo (fallAt b) (λ j. sizeOf (modeOf m) (heldAt b j))) in
-      let e : all ≡ min (limit * openedAt b + 1) full = omega arith in
+      let p = ap (min cap) l ∙ capped-same cap (λ i. sizeOf (modeOf m) (valueIn b 16 8 i)) (left + 1) ∙ ap (min cap) s in
+      let q = ap (min cap) h ∙ capped-same cap (λ j. sizeOf (modeOf m) (valueIn b (36 + 8 * left) 20 j)) right ∙ ap (min cap) t in
       let k : cap ≡ limit * openedAt b + 1 = omega arith in
-      ap₂ ltb e k ∙ under-cap full (limit * openedAt b)
+      let e = add-capped cap (limit * right) lefts helds _ _ p q in
+      rw (k, y) (under-cap _ _ (limit * openedAt b) (rw (k, y) at e))
 
   -- ---- both
 

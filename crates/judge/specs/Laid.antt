@@ -1,12 +1,12 @@
 -- What the functions inside `judge` ask of bytes, and what they answer: parts of the test of question 5. Definitions only.
 use mathlib.Core.Bool.{Bool, _&&_}
 use mathlib.Core.List.{List}
-use Prim.Native.Nat.{ℕ, _+_, _*_, _≤_, _<_}
+use Prim.Native.Nat.{ℕ, _+_, _*_, _^_, _≤_, _<_}
 use lib.Dec.{leb}
 use lib.ListN.{length}
 use lib.IntN.{ℤ}
 use Rattle.number.specs.Bytes.{i32At, i64At}
-use Rattle.record.specs.Record.{inRange}
+use Rattle.record.specs.Record.{amountsFit}
 use Rattle.figure.specs.FourModes.{limit, isStamp}
 use Rattle.figure.specs.Mode.{modeOf}
 use Rattle.figure.specs.Stored.{sizeOf}
@@ -44,9 +44,14 @@ pub record Laid (b : List ℕ) : Type 0 where
   pub levels : Levels b
   pub whole : hillLength b ≤ length b
 
--- The unclosed record of depth d whose bytes begin at `at` is in range.
-abbrev pub recordIn : List ℕ → ℕ → ℕ → Bool
-recordIn b d at = inRange d (i32At b at) (i32At b (at + 4)) (i32At b (at + 8))
+-- And it does not open too many, so that the bound on its values is small.
+pub record Few (b : List ℕ) : Type 0 where
+  pub laid : Laid b
+  pub few : openedAt b ≤ 100_000
+
+-- The amounts of the unclosed record whose bytes begin at `at` are in range.
+abbrev pub recordIn : List ℕ → ℕ → Bool
+recordIn b at = amountsFit (i32At b at) (i32At b (at + 4)) (i32At b (at + 8))
 
 -- Number i of the 64-bit values at `at` and then each `step` bytes on; n of them are there.
 abbrev pub valueIn : List ℕ → ℕ → ℕ → ℕ → ℤ
@@ -54,3 +59,8 @@ valueIn b at step i = i64At b (at + step * i)
 
 pub record Strides (b : List ℕ) (at step n : ℕ) : Type 0 where
   pub there : (i : ℕ) → i < n → at + step * i + 8 ≤ length b
+
+-- n numbers of at most cap can be added in 64 bits, and twice that many too.
+pub record Room (n cap : ℕ) : Type 0 where
+  pub count : n ≤ 65
+  pub each : cap ≤ 2 ^ 56

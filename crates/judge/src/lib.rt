@@ -24,7 +24,9 @@ ghost use Rattle.judge.specs.Laid.{
   sizesFit,
   Levels,
   Laid,
+  Few,
   Strides,
+  Room,
   recordIn,
   valueIn,
 };
@@ -165,30 +167,29 @@ fn middle_fits(b: &[u8]) -> bool
     !(peak == 0) | ((start == 0) & (end == 0) | (middle <= nothing) & (nothing <= middle))
 }
 
-// Whether the unclosed record whose bytes begin at `at` is in range.
-fn record_fits(b: &[u8], depth: u16, at: usize) -> bool
+// Whether the amounts of the unclosed record whose bytes begin at `at` are in range.
+fn record_fits(b: &[u8], at: usize) -> bool
     requires { ⌜ at + 20 ≤ length (now b) ⌝ }
-    ensures { λ r. ⌜ r ≡ recordIn (now (b .entry)) depth at ⌝ }
+    ensures { λ r. ⌜ r ≡ recordIn (now (b .entry)) at ⌝ }
 {
-    record::in_range(
-        depth,
+    record::amounts_fit(
         number::read_i32(b, at),
         number::read_i32(b, at + 4),
         number::read_i32(b, at + 8),
     )
 }
 
+// The depths are below the end, so at most 63.
 fn records_fit(b: &[u8]) -> bool
     requires { ⌜ Laid (now b) ⌝ }
     ensures { λ r. ⌜ r ≡ recordsFit (now (b .entry)) ⌝ }
 {
-    let peak = number::read_u16(b, 8) as usize;
     let first = 24 + 8 * rise(b);
     let n = fall(b);
     let mut all = true;
     let mut j: usize = 0;
     while j < n {
-        all = all & record_fits(b, (peak + j) as u16, first + 20 * j);
+        all = all & record_fits(b, first + 20 * j);
         j += 1;
     }
     all
@@ -196,28 +197,23 @@ fn records_fit(b: &[u8]) -> bool
 
 // ---- a hill's 64-bit values: n of them, at `at` and then each `step` bytes on
 
-// a + b, or cap where that is more.
-fn capped_sum(a: u64, b: u64, cap: u64) -> u64
-    requires { ⌜ a ≤ cap ⌝ }
-    ensures { λ r. ⌜ r ≡ min cap (a + b) ⌝ }
+// x, or cap where that is less.
+fn capped(x: u64, cap: u64) -> u64
+    ensures { λ r. ⌜ r ≡ min cap x ⌝ }
 {
-    if cap - a < b { cap } else { a + b }
+    if cap < x { cap } else { x }
 }
 
-// What the values count, added to `before`; or cap where that is more.
-fn capped_sizes(b: &[u8], mode: u16, at: usize, step: usize, n: usize, before: u64, cap: u64) -> u64
+// What the values count, each cut to cap: the sum then needs no cut, which would have each turn wait for the one before.
+fn capped_sizes(b: &[u8], mode: u16, at: usize, step: usize, n: usize, cap: u64) -> u64
     requires { ⌜ Strides (now b) at step n ⌝ }
-    requires { ⌜ before ≤ cap ⌝ }
-    ensures { λ r. ⌜ r ≡ min cap (before + sumTo n (λ i. sizeOf (modeOf mode) (valueIn (now (b .entry)) at step i))) ⌝ }
+    requires { ⌜ Room n cap ⌝ }
+    ensures { λ r. ⌜ r ≡ sumTo n (λ i. min cap (sizeOf (modeOf mode) (valueIn (now (b .entry)) at step i))) ⌝ }
 {
-    let mut sum = before;
+    let mut sum: u64 = 0;
     let mut i: usize = 0;
     while i < n {
-        sum = capped_sum(
-            sum,
-            figure::size(mode, number::read_i64(b, at + step * i)),
-            cap,
-        );
+        sum += capped(figure::size(mode, number::read_i64(b, at + step * i)), cap);
         i += 1;
     }
     sum
@@ -251,20 +247,19 @@ fn stamps_fit(b: &[u8]) -> bool
 
 // In modes 1 to 3 the values and the unclosed records are bounded by the opened ones.
 fn sizes_fit(b: &[u8], mode: u16) -> bool
-    requires { ⌜ Laid (now b) ⌝ }
+    requires { ⌜ Few (now b) ⌝ }
     ensures { λ r. ⌜ r ≡ sizesFit mode (now (b .entry)) ⌝ }
 {
     let left = rise(b);
     let right = fall(b);
     let cap = LIMIT * (number::read_u32(b, 12) as u64) + 1;
-    let unclosed = capped_sum(0, LIMIT * (right as u64), cap);
-    let lefts = capped_sizes(b, mode, 16, 8, left + 1, unclosed, cap);
-    let all = capped_sizes(b, mode, 36 + 8 * left, 20, right, lefts, cap);
-    all < cap
+    let lefts = capped_sizes(b, mode, 16, 8, left + 1, cap);
+    let helds = capped_sizes(b, mode, 36 + 8 * left, 20, right, cap);
+    LIMIT * (right as u64) + lefts + helds < cap
 }
 
 fn values_fit(b: &[u8]) -> bool
-    requires { ⌜ Laid (now b) ⌝ }
+    requires { ⌜ Few (now b) ⌝ }
     ensures { λ r. ⌜ r ≡ valuesFit (now (b .entry)) ⌝ }
 {
     let mode = number::read_u16(b, 4);
@@ -289,7 +284,10 @@ fn is_hill(b: &[u8]) -> bool
     if !layout_fits(b, 18, 24 + 8 * rise(b) + 20 * fall(b)) {
         return false;
     }
-    opened_fits(b) & middle_fits(b) & records_fit(b) & values_fit(b)
+    if !opened_fits(b) {
+        return false;
+    }
+    middle_fits(b) & records_fit(b) & values_fit(b)
 }
 
 // ---- what the bytes say

@@ -73,7 +73,7 @@ within-size (negsuc n) e = omega (arith, leb-true n 999_999_999 (and-left (leb n
 pub value-size : {s : List ℕ} {f : Fields} → Sound s f → natAbs (f .value) ≤ 1_000_000_000
 unfolding inRange
 value-size {f} p =
-    within-size (f .value) (and-right (leb (f .depth) 63) (within (f .value)) (and-left _ (within (f .floor)) (and-left _ (within (f .ceiling)) (and-left _ (leZ (f .floor) (f .ceiling)) (p .ranged)))))
+    within-size (f .value) (and-left (within (f .value)) (within (f .floor)) (and-left _ (within (f .ceiling)) (and-left _ (leZ (f .floor) (f .ceiling)) (and-right (leb (f .depth) 63) _ (p .ranged)))))
 
 -- ---- the records of a chunk
 

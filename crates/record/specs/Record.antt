@@ -27,9 +27,13 @@ most = pos 1_000_000_000
 unfoldable pub within : ℤ → Bool
 within z = leZ least z && leZ z most
 
+-- ".. value, floor and ceiling lie within ±1,000,000,000, and floor is not above ceiling"
+abbrev pub amountsFit : ℤ → ℤ → ℤ → Bool
+amountsFit value floor ceiling = within value && within floor && within ceiling && leZ floor ceiling
+
 -- "depth is 0 to 63, value, floor and ceiling lie within ±1,000,000,000, and floor is not above ceiling"
 unfoldable pub inRange : ℕ → ℤ → ℤ → ℤ → Bool
-inRange depth value floor ceiling = leb depth 63 && within value && within floor && within ceiling && leZ floor ceiling
+inRange depth value floor ceiling = leb depth 63 && amountsFit value floor ceiling
 
 -- The floor and the ceiling of a record of length 10.
 abbrev pub defaultFloor : ℤ

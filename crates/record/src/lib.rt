@@ -3,6 +3,7 @@ ghost use mathlib.Core.Path.{_≡_};
 ghost use Rattle.record.specs.Record.{
   answerOf,
   within,
+  amountsFit,
   inRange,
   accepted,
   whole,
@@ -33,14 +34,25 @@ const DEFAULT_FLOOR: i32 = -1_000_000_000;
 
 const DEFAULT_CEILING: i32 = 1_000_000_000;
 
+const LEAST: i32 = -1_000_000_000;
+
+const MOST: i32 = 1_000_000_000;
+
 // Whether a number of grams is within the limits.
 fn in_limits(grams: i32) -> bool
     ensures { λ r. ⌜ r ≡ within grams ⌝ }
 {
-    (-1_000_000_000 <= grams) & (grams <= 1_000_000_000)
+    (LEAST <= grams) & (grams <= MOST)
 }
 
-// Whether a record's fields are in range.
+// Whether a record's amounts are in range. In order, the floor and the ceiling need one limit each.
+pub fn amounts_fit(value: i32, floor: i32, ceiling: i32) -> bool
+    ensures { λ r. ⌜ r ≡ amountsFit value floor ceiling ⌝ }
+{
+    in_limits(value) & (LEAST <= floor) & (floor <= ceiling) & (ceiling <= MOST)
+}
+
+// Whether a record's fields are in range. With `amounts_fit` in it, reading a chunk was slower.
 pub fn in_range(depth: u16, value: i32, floor: i32, ceiling: i32) -> bool
     ensures { λ r. ⌜ r ≡ inRange depth value floor ceiling ⌝ }
 {

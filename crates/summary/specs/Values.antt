@@ -32,9 +32,10 @@ tells-within z = record { to = inside z; from = within-size z }
 pub tells-range : (d : ℕ) (r : Amounts) → Tells ((d ≤ 63) × InRange r) (inRange d (r .value) (r .floor) (r .ceiling))
 unfolding inRange
 tells-range d r =
-    tells-also (λ p. (p .0 .0 .0 .0, record { value-in = p .0 .0 .0 .1; floor-in = p .0 .0 .1; ceiling-in = p .0 .1; ordered = p .1 }))
-    (λ p. ((((p .0, p .1 .value-in), p .1 .floor-in), p .1 .ceiling-in), p .1 .ordered))
-    (tells-and (tells-and (tells-and (tells-and (tells-le d 63) (tells-within (r .value))) (tells-within (r .floor))) (tells-within (r .ceiling))) (tells-order (r .floor) (r .ceiling)))
+    tells-and (tells-le d 63)
+    (tells-also (λ p. record { value-in = p .0 .0 .0; floor-in = p .0 .0 .1; ceiling-in = p .0 .1; ordered = p .1 })
+    (λ r. (((r .value-in, r .floor-in), r .ceiling-in), r .ordered))
+    (tells-and (tells-and (tells-and (tells-within (r .value)) (tells-within (r .floor))) (tells-within (r .ceiling))) (tells-order (r .floor) (r .ceiling))))
 
 -- ---- the slopes
 

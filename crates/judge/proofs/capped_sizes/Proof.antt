@@ -1,7 +1,7 @@
--- `judge::capped_sizes` meets its contract: each turn adds one size, up to the cap.
+-- `judge::capped_sizes` meets its contract: each turn adds one size, cut to the cap.
 -- Assumes nothing.
 use mathlib.Core.Path.{ap, _∙_}
-use Prim.Native.Nat.{ℕ, _-_}
+use Prim.Native.Nat.{ℕ, _-_, min}
 use native.Mathlib.Omega.{arith}
 use borrow.Author.Needs.{needs}
 use mir.Syntax.{w64}
@@ -9,18 +9,18 @@ use Rattle.number.specs.Word.{back}
 use Rattle.figure.specs.Mode.{modeOf}
 use Rattle.figure.specs.Stored.{sizeOf}
 use Rattle.judge.specs.Laid.{valueIn}
-use Rattle.judge.proofs.Loops.{SumSo, sum-start, sum-next, sum-end}
+use Rattle.judge.proofs.Loops.{SumSo, sum-start, sum-next, sum-end, capped-small}
 use Rattle.judge.proofs.capped_sizes.Statement.{statement}
 use Rattle.judge.proofs.capped_sizes.Tie as tie
 
 abbrev Inv-loop : tie.InvT-loop
-Inv-loop b mode at step n before cap sum₀ i₀ sum i = SumSo (λ (k : ℕ). sizeOf (modeOf mode) (valueIn b at step k)) n cap before i sum
+Inv-loop b mode at step n cap sum₀ i₀ sum i = SumSo (λ (k : ℕ). min cap (sizeOf (modeOf mode) (valueIn b at step k))) n i sum
 
 abbrev μ-loop : tie.MeasureT-loop
-μ-loop b mode at step n before cap sum₀ i₀ sum i = n - i
+μ-loop b mode at step n cap sum₀ i₀ sum i = n - i
 
 loop-holds : tie.Need-loop-holds Inv-loop μ-loop
-loop-holds c = sum-start _ _ _ _ (c .before .pre .1)
+loop-holds c = sum-start _ _
 
 mul-read-i64 : tie.Need-mul-read-i64 Inv-loop μ-loop
 mul-read-i64 c = omega (arith, c .before .before .before .pre .0 .there (c .before .loop .i) (c .loop-test .taken))
@@ -34,8 +34,13 @@ read-i64-requires c κs = c .before .before .before .pre .0 .there (c .before .l
 size-requires : tie.Need-size-requires Inv-loop μ-loop
 size-requires c κs = search needs
 
-capped-sum-requires : tie.Need-capped-sum-requires Inv-loop μ-loop
-capped-sum-requires c κs = omega arith
+capped-requires : tie.Need-capped-requires Inv-loop μ-loop
+capped-requires c κs = search needs
+
+add-sum : tie.Need-add-sum Inv-loop μ-loop
+add-sum c =
+    let s = c .before .before .before .before .before .before in
+    omega (arith, capped-small (s .args .cap) (λ k. sizeOf (modeOf (s .args .mode)) (valueIn (s .args .b .now) (s .args .at) (s .args .step) k)) (s .pre .1 .each) (c .before .before .before .before .loop .i))
 
 add-i : tie.Need-add-i Inv-loop μ-loop
 add-i c = omega arith
@@ -48,10 +53,11 @@ loop-again c =
     let s = c .before .before .before .before .before .before in
     let i = c .before .before .before .before .loop .i in
     let z = c .before .before .read-i64 in
-    sum-next _ _ _ _ i _ _ _ (c .before .before .before .before .loop .inv) (c .before .before .before .loop-test .taken) (c .before .size .ensures ∙ ap (sizeOf (modeOf (s .args .mode))) (back w64 (z .result) (z .ok) ∙ z .ensures)) (c .capped-sum .ensures)
+    sum-next _ _ i (c .before .before .before .before .loop .inv) (c .before .before .before .loop-test .taken)
+    (c .capped .ensures ∙ ap (min (s .args .cap)) (c .before .size .ensures ∙ ap (sizeOf (modeOf (s .args .mode))) (back w64 (z .result) (z .ok) ∙ z .ensures)))
 
 returns : tie.Need-returns Inv-loop μ-loop
-returns c = sum-end _ _ _ _ (c .before .loop .i) _ (c .before .loop .inv) (c .loop-test .left)
+returns c = sum-end _ _ (c .before .loop .i) (c .before .loop .inv) (c .loop-test .left)
 
 pub capped-sizes-spec : {M : Type 1} → statement M
 capped-sizes-spec =
@@ -64,7 +70,8 @@ capped-sizes-spec =
     add-read-i64
     read-i64-requires
     size-requires
-    capped-sum-requires
+    capped-requires
+    add-sum
     add-i
     loop-less
     loop-again

@@ -22,15 +22,15 @@ add-read-i32-2 c = search needs
 read-i32-requires-3 : tie.Need-read-i32-requires-3
 read-i32-requires-3 c κs = search needs
 
-in-range-requires : tie.Need-in-range-requires
-in-range-requires c κs = search needs
+amounts-fit-requires : tie.Need-amounts-fit-requires
+amounts-fit-requires c κs = search needs
 
 returns : tie.Need-returns
 returns c =
     let v = c .before .before .before .read-i32 in
     let l = c .before .before .read-i322 in
     let h = c .before .read-i323 in
-    simp (back w32 (v .result) (v .ok) ∙ v .ensures, back w32 (l .result) (l .ok) ∙ l .ensures, back w32 (h .result) (h .ok) ∙ h .ensures) at (c .in-range .ensures)
+    simp (back w32 (v .result) (v .ok) ∙ v .ensures, back w32 (l .result) (l .ok) ∙ l .ensures, back w32 (h .result) (h .ok) ∙ h .ensures) at (c .amounts-fit .ensures)
 
 pub record-fits-spec : {M : Type 1} → statement M
 record-fits-spec =
@@ -41,5 +41,5 @@ record-fits-spec =
     read-i32-requires-2
     add-read-i32-2
     read-i32-requires-3
-    in-range-requires
+    amounts-fit-requires
     returns)

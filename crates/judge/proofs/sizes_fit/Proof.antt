@@ -1,7 +1,10 @@
--- `judge::sizes_fit` meets its contract: a sum that reached the cap is too much.
+-- `judge::sizes_fit` meets its contract: the sum of sizes, each cut to the cap, is too much if and only if that of the sizes is.
 -- Assumes nothing.
 use mathlib.Core.Path.{refl}
+use Prim.Native.Nat.{_*_, _^_, _≤_}
 use native.Mathlib.Omega.{arith}
+use Rattle.judge.specs.Laid.{Room}
+use Rattle.judge.proofs.Loops.{capped-room}
 use Rattle.judge.proofs.Values.{sizes-fit}
 use borrow.Author.Needs.{needs}
 use Rattle.judge.proofs.sizes_fit.Statement.{statement}
@@ -25,17 +28,11 @@ mul-cap c = search needs
 add-cap : tie.Need-add-cap
 add-cap c = search needs
 
-mul-capped-sum : tie.Need-mul-capped-sum
-mul-capped-sum c = search needs
-
-capped-sum-requires : tie.Need-capped-sum-requires
-capped-sum-requires c κs = search needs
-
 add-capped-sizes : tie.Need-add-capped-sizes
 add-capped-sizes c = search needs
 
 capped-sizes-requires : tie.Need-capped-sizes-requires
-capped-sizes-requires c κs = (record { there = λ i h. omega arith }, omega arith)
+capped-sizes-requires c κs = (record { there = λ i h. omega arith }, record { count = omega arith; each = omega arith })
 
 mul-capped-sizes : tie.Need-mul-capped-sizes
 mul-capped-sizes c = search needs
@@ -44,10 +41,25 @@ add-capped-sizes-2 : tie.Need-add-capped-sizes-2
 add-capped-sizes-2 c = search needs
 
 capped-sizes-requires-2 : tie.Need-capped-sizes-requires-2
-capped-sizes-requires-2 c κs = (record { there = λ i h. omega arith }, omega arith)
+capped-sizes-requires-2 c κs = (record { there = λ i h. omega arith }, record { count = omega arith; each = omega arith })
+
+mul-result : tie.Need-mul-result
+mul-result c = search needs
+
+lefts-small : (c : tie.After-capped-sizes) → c .capped-sizes .result ≤ 2 ^ 56 * 65
+lefts-small c = capped-room _ _ _ _ (record { count = omega arith; each = omega arith }) (c .capped-sizes .ensures)
+
+helds-small : (c : tie.After-capped-sizes2) → c .capped-sizes2 .result ≤ 2 ^ 56 * 65
+helds-small c = capped-room _ _ _ _ (record { count = omega arith; each = omega arith }) (c .capped-sizes2 .ensures)
+
+add-result : tie.Need-add-result
+add-result c = omega (arith, lefts-small (c .before))
+
+add-result-2 : tie.Need-add-result-2
+add-result-2 c = omega (arith, lefts-small (c .before), helds-small c)
 
 returns : tie.Need-returns
-returns c = sizes-fit _ _ _ _ _ _ _ _ _ (c .before .before .before .before .before .rise .ensures) (c .before .before .before .before .fall .ensures) (c .before .before .before .read-u32 .ensures) refl (c .before .before .capped-sum .ensures) (c .before .capped-sizes .ensures) (c .capped-sizes2 .ensures)
+returns c = sizes-fit _ _ _ _ _ _ _ _ (c .before .before .before .before .rise .ensures) (c .before .before .before .fall .ensures) (c .before .before .read-u32 .ensures) refl (c .before .capped-sizes .ensures) (c .capped-sizes2 .ensures)
 
 pub sizes-fit-spec : {M : Type 1} → statement M
 sizes-fit-spec =
@@ -59,11 +71,12 @@ sizes-fit-spec =
     cast-cap
     mul-cap
     add-cap
-    mul-capped-sum
-    capped-sum-requires
     add-capped-sizes
     capped-sizes-requires
     mul-capped-sizes
     add-capped-sizes-2
     capped-sizes-requires-2
+    mul-result
+    add-result
+    add-result-2
     returns)
