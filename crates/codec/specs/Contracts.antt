@@ -75,13 +75,18 @@ Sunk M b i A₀ c₀ A c =
     StandsFor M A c (closes (M .algebra) (slopesOf M A₀ c₀) (leftsIn (M .read) b i))
     (weightOf M (slopesOf M A₀ c₀) + weightUp (M .algebra) (M .sizes) (leftsIn (M .read) b i))
 
--- What going on from there to k asks.
-pub record SinksOn (M : Mode) (b : List ℕ) (i k : ℕ) (A : Arrays) (c : Counts) : Type 0 where
+-- What going on from there to k asks, where all records were closed: of the arrays only the left values are used.
+pub record LeavesOn (M : Mode) (b : List ℕ) (i k : ℕ) (ls : List ℤ) (c : Counts) : Type 0 where
   pub within : i ≤ k
+  pub closed : i < k → c .n ≡ 0
+  pub values : List ℤ
+  pub floors : List ℤ
+  pub ceilings : List ℤ
+  pub held : List ℤ
   pub from : Arrays
   pub counted : Counts
   pub asked : Sinks M b k from counted
-  pub sunk : Sunk M b i from counted A c
+  pub sunk : Sunk M b i from counted (arrays ls values floors ceilings held) c
 
 -- What closing k of n records by the first k left values asks.
 pub record Falls (M : Mode) (b : List ℕ) (k : ℕ) (vs fs cs hs : List ℤ) (n : ℕ) : Type 0 where

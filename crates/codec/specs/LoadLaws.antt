@@ -6,9 +6,10 @@ use native.Mathlib.Nat.{add-zero, zero-add, suc-add}
 use native.Mathlib.Numerals.{add-one}
 use native.Mathlib.Omega.{arith}
 use lib.IntN.{ℤ}
+use lib.ListN.{set}
 use Rattle.figure.specs.FourModes.{Amounts, InRange}
 use Rattle.figure.specs.Mode.{Mode, modeOf}
-use Rattle.figure.specs.Stored.{sizeOf}
+use Rattle.figure.specs.Stored.{sizeOf, none, combined, Combines}
 use Rattle.hill.specs.Summary.{Hill, hill}
 use Rattle.hill.specs.Valid.{weightUp, weightDown}
 use Rattle.hill.specs.Building.{push, push-nil, join, close, merge}
@@ -21,7 +22,7 @@ use Rattle.summary.specs.Hills.{AllStored, hill-valid, hill-stored}
 use Rattle.slopes.specs.declared.Counts.{Counts}
 use Rattle.slopes.specs.Arrays.{Arrays, arrays, Fig, slopesOf, weightOf, Able, StandsFor}
 use Rattle.slopes.specs.Actions.{Pushed, CanClose, Joins, Added}
-use Rattle.slopes.specs.Laws.{counts, withHeld, able, restate, rise-is, fall-is, rise-slopes, fall-slopes, joins, joined, pushed, after-more}
+use Rattle.slopes.specs.Laws.{counts, withHeld, withLeft, able, restate, rise-is, fall-is, rise-slopes, fall-slopes, joins, adds, joined, close-left, pushed, after, after-more}
 use Rattle.codec.specs.Contracts.{Sinks, Sunk, Puts, Stacked, Loads}
 
 -- a hill's bytes in mode m
@@ -77,6 +78,21 @@ module _ {M : Mode} {b : List ℕ} {k i : ℕ} {A₀ A : Arrays} {c₀ c : Count
   next-sunk {x = x} ex em t =
       rw (em, add-one i) (restate (after-more s (λ (h : Hill (Fig M) Amounts). close (M .algebra) (join (M .algebra) (M .read (leftAt b i)) h)) (sizeOf M (leftAt b i)) (rw ex at t))
       (weightOf M (slopesOf M A₀ c₀) + weightUp (M .algebra) (M .sizes) (leftsIn (M .read) b (suc i))) refl (omega arith))
+
+  -- where no record is open, the value joins the middle, and the level is left
+  module _ (closed : c .n ≡ 0) {x : ℤ} (ex : x ≡ leftAt b i) where
+    pub leaves-fit : c .nl < 64
+    leaves-fit = omega (arith, next-closes)
+
+    pub leaves-combine : {y : ℤ} → y ≡ c .mid → Combines M y x
+    leaves-combine ey = rw ey (rw closed at (adds (next-joins ex) .fits))
+
+    pub next-leaves : {y z : ℤ} → y ≡ combined M (c .mid) x → z ≡ none M → Sunk M b (i + 1) A₀ c₀ (withLeft A (set (A .left) (c .nl) y)) (counts (c .nl + 1) (c .n) z)
+    next-leaves {y} ey ez =
+        let j = next-joins ex in
+        let a : Added M (A .held) (c .n) (c .mid) x (A .held) y = record { middle = rw closed ey; held = rw closed refl } in
+        let t = joined j a in
+        next-sunk ex refl (after t (close (M .algebra)) (close-left (able t (j .light)) closed next-closes (add-one (c .nl)) refl ez))
 
 -- ---- the records
 

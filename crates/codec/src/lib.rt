@@ -1,6 +1,8 @@
 // A summary between bytes and the arrays of a hill under construction, in any mode. Each caller shows that the bytes are there, and that they fit.
 ghost use mathlib.Core.Path.{_≡_};
+ghost use mathlib.Core.List.{List};
 ghost use Prim.Native.Nat.{_+_, _*_, _≤_, min};
+ghost use lib.IntN.{ℤ};
 ghost use lib.ListN.{length};
 ghost use lib.Seq.{sets};
 ghost use Rattle.figure.specs.Mode.{modeOf};
@@ -11,7 +13,7 @@ ghost use Rattle.summary.specs.Judge.{riseAt};
 ghost use Rattle.summary.specs.Decode.{hillIn};
 ghost use Rattle.slopes.specs.Arrays.{Arrays, arrays, slopesOf, weightOf, StandsFor};
 ghost use Rattle.slopes.specs.declared.Counts.{Counts};
-ghost use Rattle.codec.specs.Contracts.{Wrote, frontBytes, levelBytes, numbersBytes, rowBytes, rowsBytes, Writes, Falls, Carried, Sinks, Sunk, SinksOn, Stacked, Loads};
+ghost use Rattle.codec.specs.Contracts.{Wrote, frontBytes, levelBytes, numbersBytes, rowBytes, rowsBytes, Writes, Falls, Carried, Sinks, Sunk, LeavesOn, Stacked, Loads};
 use slopes::Counts;
 
 // ---- writing
@@ -171,50 +173,36 @@ fn close_down(
     deeper
 }
 
-// The left values from number `first` to k: each joins its level, which is then closed.
-fn sink_rest(
+// The left values from number `first` to k, where no record is open any more: each joins its level, which is then left.
+fn leave_rest(
     mode: u16,
     b: &[u8],
     first: usize,
     k: usize,
     left: &mut [i64; 64],
-    values: &[i32; 64],
-    floors: &[i32; 64],
-    ceilings: &[i32; 64],
-    held: &mut [i64; 64],
     start: Counts,
 ) -> Counts
-    requires { ⌜ SinksOn (modeOf mode) (now b) first k (arrays (now left) (now values) (now floors) (now ceilings) (now held)) start ⌝ }
-    ensures { λ r. ⌜ ((A : Arrays) (c : Counts) → Sinks (modeOf mode) (now (b .entry)) k A c
-        → Sunk (modeOf mode) (now (b .entry)) first A c (arrays (now (left .entry)) (now (values .entry)) (now (floors .entry)) (now (ceilings .entry)) (now (held .entry))) start
-        → Sunk (modeOf mode) (now (b .entry)) k A c (arrays (now (left .exit)) (now (values .entry)) (now (floors .entry)) (now (ceilings .entry)) (now (held .exit))) r) ⌝ }
+    requires { ⌜ LeavesOn (modeOf mode) (now b) first k (now left) start ⌝ }
+    ensures { λ r. ⌜ ((vs fs cs hs : List ℤ) (A : Arrays) (c : Counts) → Sinks (modeOf mode) (now (b .entry)) k A c
+        → Sunk (modeOf mode) (now (b .entry)) first A c (arrays (now (left .entry)) vs fs cs hs) start
+        → Sunk (modeOf mode) (now (b .entry)) k A c (arrays (now (left .exit)) vs fs cs hs) r) ⌝ }
 {
+    let n = start.n;
     let mut nl = start.nl;
-    let mut n = start.n;
     let mut mid = start.mid;
     let mut i: usize = first;
     while i < k {
         let x = number::read_i64(b, 16 + 8 * i);
-        let c = slopes::sink(
-            mode,
-            x,
-            left,
-            values,
-            floors,
-            ceilings,
-            held,
-            Counts { nl, n, mid },
-        );
-        nl = c.nl;
-        n = c.n;
-        mid = c.mid;
+        left[nl] = figure::combine(mode, mid, x);
+        mid = figure::nothing(mode);
+        nl += 1;
         i += 1;
     }
     Counts { nl, n, mid }
 }
 
 // The first k left values of a hill's bytes, from the start level down: each joins its level, which is then closed. As long as there are records
-// to close, what came from deeper is carried along.
+// to close, what came from deeper is carried along; after that each level is left.
 fn sink_all(
     mode: u16,
     b: &[u8],
@@ -235,16 +223,12 @@ fn sink_all(
     let both = fewer(k, n);
     let deeper = close_down(mode, b, both, values, floors, ceilings, &*held, n);
     let mid = slopes::add(mode, held, n - both, start.mid, deeper);
-    sink_rest(
+    leave_rest(
         mode,
         b,
         both,
         k,
         left,
-        values,
-        floors,
-        ceilings,
-        held,
         Counts {
             nl,
             n: n - both,

@@ -2,7 +2,7 @@
 use mathlib.Core.Path.{_≡_}
 use mathlib.Core.Bool.{Bool, true, false}
 use mathlib.Core.List.{List}
-use Prim.Native.Nat.{ℕ, zero, suc, _+_, _-_, _^_, _≤_, _<_}
+use Prim.Native.Nat.{ℕ, zero, suc, _+_, _^_, _≤_, _<_}
 use lib.IntN.{ℤ}
 use lib.ListN.{length, set}
 use Rattle.hill.specs.Log.{Record, opening, closing}
@@ -55,16 +55,11 @@ pub record Top (M : Mode) (vs fs cs hs : List ℤ) (t : ℕ) (mid : ℤ) : Type 
 abbrev pub ClosedTop : Mode → (vs fs cs hs : List ℤ) (t : ℕ) (mid : ℤ) (hs′ : List ℤ) (mid′ : ℤ) → Type 0
 ClosedTop M vs fs cs hs t mid hs′ mid′ = Added M hs t mid (passed M (amounts (at vs t) (at fs t) (at cs t)) (at hs t)) hs′ mid′
 
--- ---- `close`, `sink`, `apply`
+-- ---- `close`, `apply`
 
 -- where no record is open, there is room for one more left value
 abbrev pub CanClose : Counts → Type 0
 CanClose c = c .nl < 64 + c .n
-
--- the counts after a close: one record less, or, where none was open, one left value more
-pub record Fell (c c′ : Counts) : Type 0 where
-  pub left : c′ .nl ≡ c .nl + (1 - c .n)
-  pub records : c′ .n ≡ c .n - 1
 
 -- x can join the current level
 pub record Joins (M : Mode) (A : Arrays) (c : Counts) (x : ℤ) : Type 0 where

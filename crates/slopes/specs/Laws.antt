@@ -11,14 +11,13 @@ use lib.Seq.{getD-set-same, getD-set-other}
 use Rattle.hill.specs.Log.{opening}
 use Rattle.hill.specs.Summary.{Hill, hill, rise, fall}
 use Rattle.hill.specs.Building.{push, join, close, step, empty}
-use Rattle.hill.specs.Slopes.{rise-join, fall-join, rise-close, fall-close}
 use Rattle.hill.specs.ValidLaws.{weight-join, fine-join}
 use Rattle.figure.specs.FourModes.{Amounts, limit, InRange}
 use Rattle.figure.specs.Mode.{Mode}
 use Rattle.figure.specs.Stored.{IsStored, sizeOf, none, combined, passed, amounts, Passes, none-read, none-size, none-stored, combined-read, combined-stored, passed-read, passed-size, passed-stored, passes}
 use Rattle.slopes.specs.declared.Counts.{Counts}
 use Rattle.slopes.specs.Arrays.{Arrays, arrays, at, amountsAt, Fig, ups, downs, slopesOf, weightOf, Fine, Sound, Stored, Able, StandsFor}
-use Rattle.slopes.specs.Actions.{Pushed, current, Adds, midAfter, heldAfter, Added, Top, ClosedTop, CanClose, Joins, Fell}
+use Rattle.slopes.specs.Actions.{Pushed, current, Adds, midAfter, heldAfter, Added, Top, ClosedTop, CanClose, Joins}
 
 abbrev pub counts : (nl n : ℕ) (mid : ℤ) → Counts
 counts nl n mid = record { nl = nl; n = n; mid = mid }
@@ -286,21 +285,6 @@ module _ {M : Mode} {A : Arrays} {c : Counts} {h : Hill (Fig M) Amounts} {b : �
 
   pub after-more : {A′ : Arrays} {c′ : Counts} (k : ℕ) → StandsFor M A′ c′ (f (slopesOf M A c)) (weightOf M (slopesOf M A c) + k) → StandsFor M A′ c′ (f h) (b + k)
   after-more k t = restate t (b + k) (ap f (s .is)) (omega (arith, weight-is))
-
--- ---- the counts after a close, and after a figure and a close
-
-module _ {M : Mode} (A : Arrays) (c : Counts) {A′ : Arrays} {c′ : Counts} {b : ℕ} where
-  pub closed-counts : StandsFor M A′ c′ (close (M .algebra) (slopesOf M A c)) b → Fell c c′
-  closed-counts s = record {
-    left = rise-is s ∙ rise-close (M .algebra) (slopesOf M A c) ∙ rw (rise-slopes M A c, fall-slopes M A c);
-    records = fall-is s ∙ fall-close (M .algebra) (slopesOf M A c) ∙ rw (fall-slopes M A c);
-  }
-
-  pub sunk-counts : (v : Fig M) → StandsFor M A′ c′ (close (M .algebra) (join (M .algebra) v (slopesOf M A c))) b → Fell c c′
-  sunk-counts v s = record {
-    left = rise-is s ∙ rise-close (M .algebra) (join (M .algebra) v (slopesOf M A c)) ∙ rw (rise-join (M .algebra) v (slopesOf M A c), fall-join (M .algebra) v (slopesOf M A c), rise-slopes M A c, fall-slopes M A c);
-    records = fall-is s ∙ fall-close (M .algebra) (join (M .algebra) v (slopesOf M A c)) ∙ rw (fall-join (M .algebra) v (slopesOf M A c), fall-slopes M A c);
-  }
 
 -- ---- no record yet
 

@@ -2,11 +2,11 @@
 ghost use mathlib.Core.Path.{_≡_};
 ghost use mathlib.Core.List.{[], _∷_};
 ghost use Prim.Native.Nat.{ℕ, _+_, _<_};
-ghost use Rattle.hill.specs.Building.{join as joinHill, close as closeHill, step};
+ghost use Rattle.hill.specs.Building.{close as closeHill, step};
 ghost use Rattle.figure.specs.Mode.{modeOf};
-ghost use Rattle.figure.specs.Stored.{amounts, sizeOf};
+ghost use Rattle.figure.specs.Stored.{amounts};
 ghost use Rattle.slopes.specs.Arrays.{arrays, slopesOf, weightOf, Able, StandsFor};
-ghost use Rattle.slopes.specs.Actions.{Pushed, Adds, Added, Top, ClosedTop, CanClose, Joins, Room, entry, cost};
+ghost use Rattle.slopes.specs.Actions.{Pushed, Adds, Added, Top, ClosedTop, CanClose, Room, entry, cost};
 
 // How many left values and unclosed records the arrays hold, and the middle value.
 pub struct Counts {
@@ -97,38 +97,6 @@ pub fn close(
     let top = n - 1;
     let m = close_top(mode, top, values, floors, ceilings, held, mid);
     Counts { nl, n: top, mid: m }
-}
-
-// A left value of the right side of a merge: it joins the current level, which is then closed.
-pub fn sink(
-    mode: u16,
-    x: i64,
-    left: &mut [i64; 64],
-    values: &[i32; 64],
-    floors: &[i32; 64],
-    ceilings: &[i32; 64],
-    held: &mut [i64; 64],
-    c: Counts,
-) -> Counts
-    requires { ⌜ Joins (modeOf mode) (arrays (now left) (now values) (now floors) (now ceilings) (now held)) c x ⌝ }
-    requires { ⌜ CanClose c ⌝ }
-    ensures { λ r. ⌜ StandsFor (modeOf mode) (arrays (now (left .exit)) (now (values .entry)) (now (floors .entry)) (now (ceilings .entry)) (now (held .exit))) r
-        (closeHill (modeOf mode .algebra) (joinHill (modeOf mode .algebra) (modeOf mode .read x)
-        (slopesOf (modeOf mode) (arrays (now (left .entry)) (now (values .entry)) (now (floors .entry)) (now (ceilings .entry)) (now (held .entry))) c)))
-        (weightOf (modeOf mode) (slopesOf (modeOf mode) (arrays (now (left .entry)) (now (values .entry)) (now (floors .entry)) (now (ceilings .entry)) (now (held .entry))) c) + sizeOf (modeOf mode) x) ⌝ }
-{
-    let nl = c.nl;
-    let n = c.n;
-    let m = add(mode, held, n, c.mid, x);
-    close(
-        mode,
-        left,
-        values,
-        floors,
-        ceilings,
-        held,
-        Counts { nl, n, mid: m },
-    )
 }
 
 // One record of a chunk, an open with its numbers or a close.

@@ -46,13 +46,17 @@ add-requires : tie.Need-add-requires
 add-requires c κs = rw (mid-is c, back w64 (c .before .before .close-down .result) (c .before .before .close-down .ok)) (below-adds (c .before .before .before .before .before .before .pre) (c .before .before .before .before .fewer .ensures) (c .before .before .close-down .ensures))
 
 sub-t17 : tie.Need-sub-t17
-sub-t17 c = let h = c .before .before .before .before .before .before .before .fewer .ensures in omega arith
+sub-t17 c = let h = c .before .before .before .before .before .before .fewer .ensures in omega arith
 
-sink-rest-requires : tie.Need-sink-rest-requires
-sink-rest-requires c κs = let a = c .before .before .before .before .before .before .before .before .before in let h = c .before .before .before .before .before .before .before .fewer .ensures in record { within = omega arith; from = these a; counted = a .args .start; asked = a .pre; sunk = down (c .before .before) }
+leave-rest-requires : tie.Need-leave-rest-requires
+leave-rest-requires c κs =
+    let a = c .before .before .before .before .before .before .before .before in
+    let h = c .before .before .before .before .before .before .fewer .ensures in
+    record { within = omega arith; closed = λ l. omega arith; values = now (a .args .values); floors = now (a .args .floors); ceilings = now (a .args .ceilings); held = c .before .add .last .1 .0; from = these a; counted = a .args .start; asked = a .pre; sunk = down (c .before) }
 
 returns : tie.Need-returns
-returns c = let a = c .before .before .before .before .before .before .before .before .before .before in c .sink-rest .ensures (these a) (a .args .start) (a .pre) (down (c .before .before .before))
+returns c = let a = c .before .before .before .before .before .before .before .before .before in
+    c .leave-rest .ensures (now (a .args .values)) (now (a .args .floors)) (now (a .args .ceilings)) (c .before .before .add .last .1 .0) (these a) (a .args .start) (a .pre) (down (c .before .before))
 
 pub sink-all-spec : {M : Type 1} → statement M
 sink-all-spec =
@@ -63,5 +67,5 @@ sink-all-spec =
     sub-add
     add-requires
     sub-t17
-    sink-rest-requires
+    leave-rest-requires
     returns)
