@@ -2,10 +2,10 @@
 use mathlib.Core.Path.{_≡_, refl, sym, ap, subst, _∙_}
 use mathlib.Core.Bool.{Bool, true, false, cond}
 use mathlib.Core.List.{List, [], _∷_, _++_, map, append-nil}
-use Prim.Native.Nat.{ℕ, _-_, _≤_}
+use Prim.Native.Nat.{ℕ, _-_}
 use native.Mathlib.Omega.{arith}
 use lib.Dec.{leb}
-use lib.ListN.{length, take, drop, length-map, length-take, length-drop, length-append}
+use lib.ListN.{length, take, drop, length-map, length-take, length-drop}
 use lib.Seq.{take-at}
 use Rattle.gate.specs.Outcome.{Outcome, refused, result, written}
 use Rattle.row.specs.Row.{endToEnd}
@@ -20,7 +20,7 @@ use Rattle.summary.specs.OutcomeLaws.{merge-is}
 use Rattle.plan_work.specs.LogWork.{ReadableRow, valid-row}
 use Rattle.outcome.specs.Outcomes.{mergeRowOutcome}
 use Rattle.outcome.specs.Laws.{AllAccepted, merge-row-is}
-use Rattle.claim.specs.Claim.{recordsRead, stretchBytes, leaves, Lent, toMerge, toMergeRow, bufferOf, Enough, Neighbours, called, byCalls, onStretches}
+use Rattle.claim.specs.Claim.{recordsRead, stretchBytes, leaves, Lent, toMerge, toMergeRow, bufferOf, RowSize, Enough, Neighbours, called, byCalls, onStretches}
 use Rattle.claim.specs.Stretches.{AllRead, reads-readable, in-append, reads-joined, in-joined, read-take, read-drop, read-append}
 
 -- What a call has written stands in its buffer.
@@ -50,11 +50,6 @@ module _ (m : ℕ) where
   pub summaries-length : (st : List (List ℕ)) → length (summaries st) ≡ length st
   summaries-length st = length-map (map recordsRead st) (summaryOf (modeOf m .algebra)) ∙ length-map st recordsRead
 
--- What stays true of the stretches.
-pub record Stretched (st : List (List ℕ)) : Type 0 where
-  pub reads : AllRead st
-  pub few : length st ≤ 64
-
 module _ (m : ℕ) (u : modeInUse m ≡ true) where
   -- ---- one call
 
@@ -66,24 +61,24 @@ module _ (m : ℕ) (u : modeInUse m ≡ true) where
       merge-is m (summaryBytes m (recordsRead x)) (summaryBytes m (recordsRead y)) (length b) (chunk-is m (recordsRead x) u p) (chunk-is m (recordsRead y) u q) ∙
       ap (written (length b)) (merge-chunks m (recordsRead x) (recordsRead y) u p q ∙ ap (summaryBytes m) (sym (in-append x y (a .0) (a .1 .0)) ∙ ap (λ (t : List ℕ). recordsRead (x ++ t)) (sym (append-nil y))))
 
-  row-called : (l : List (List ℕ)) (b : List ℕ) → AllRead l → 2 ≤ length l → length l ≤ 64 → called (map (stretchBytes m) l) (toMergeRow b) ≡ written (length b) (stretchBytes m (joined l))
-  row-called l b a k h =
+  row-called : (l : List (List ℕ)) (b : List ℕ) → AllRead l → RowSize (length l) → called (map (stretchBytes m) l) (toMergeRow b) ≡ written (length b) (stretchBytes m (joined l))
+  row-called l b a z =
       let n : length (summaries m l) ≡ length l = summaries-length m l in
       ap (λ (ps : List (List ℕ)). mergeRowOutcome (endToEnd ps) (length b)) (row-encoded m l) ∙
-      merge-row-is m u (summaries m l) (accepted-row m l a) (omega arith) (omega arith) (length b) ∙
+      merge-row-is m u (summaries m l) (accepted-row m l a) (omega (arith, z .0)) (omega (arith, z .1)) (length b) ∙
       ap (λ (s : SummaryIn m). written (length b) (encode m s)) (mergeRow-summaries (modeOf m .algebra) (modeOf m .laws) (map recordsRead l)) ∙
       rw (stretch-encoded m (joined l), in-joined l a)
 
-  called-is : (l : List (List ℕ)) (b : Lent) → AllRead l → Enough b (length l) → length l ≤ 64 → called (map (stretchBytes m) l) b ≡ written (length (bufferOf b)) (stretchBytes m (joined l))
-  called-is [] (toMerge b) a e h = absurd (omega arith)
-  called-is (x ∷ []) (toMerge b) a e h = absurd (omega arith)
-  called-is (x ∷ y ∷ []) (toMerge b) a e h = two-called x y b a
-  called-is (x ∷ y ∷ z ∷ l) (toMerge b) a e h = absurd (omega arith)
-  called-is l (toMergeRow b) a e h = row-called l b a e h
+  called-is : (l : List (List ℕ)) (b : Lent) → AllRead l → Enough b (length l) → called (map (stretchBytes m) l) b ≡ written (length (bufferOf b)) (stretchBytes m (joined l))
+  called-is [] (toMerge b) a e = absurd (omega arith)
+  called-is (x ∷ []) (toMerge b) a e = absurd (omega arith)
+  called-is (x ∷ y ∷ []) (toMerge b) a e = two-called x y b a
+  called-is (x ∷ y ∷ z ∷ l) (toMerge b) a e = absurd (omega arith)
+  called-is l (toMergeRow b) a e = row-called l b a e
 
   -- The new piece is the summary of the new stretch; 12 where the buffer is shorter.
-  call-same : (l : List (List ℕ)) (b : Lent) → AllRead l → Enough b (length l) → length l ≤ 64 → byCalls (map (stretchBytes m) l) b ≡ onResult (stretchBytes m) (onStretches m l b)
-  call-same l b a e h = ap (λ (o : Outcome (List ℕ)). leaves o (bufferOf b)) (called-is l b a e h) ∙ go (leb (length (stretchBytes m (joined l))) (length (bufferOf b)))
+  call-same : (l : List (List ℕ)) (b : Lent) → AllRead l → Enough b (length l) → byCalls (map (stretchBytes m) l) b ≡ onResult (stretchBytes m) (onStretches m l b)
+  call-same l b a e = ap (λ (o : Outcome (List ℕ)). leaves o (bufferOf b)) (called-is l b a e) ∙ go (leb (length (stretchBytes m (joined l))) (length (bufferOf b)))
     where
       go : (t : Bool) → leaves (cond t (result (stretchBytes m (joined l))) (refused 12)) (bufferOf b) ≡ onResult (stretchBytes m) (cond t (result (joined l)) (refused 12))
       go true = ap result (left-is (stretchBytes m (joined l)) (bufferOf b))
@@ -91,36 +86,25 @@ module _ (m : ℕ) (u : modeInUse m ≡ true) where
 
   -- ---- the list
 
-  least : (b : Lent) (k : ℕ) → Enough b k → 2 ≤ k
-  least (toMerge b) k e = omega arith
-  least (toMergeRow b) k e = e
-
-  keeps : (c : Call Lent) (st : List (List ℕ)) → Stretched st → Neighbours c (map (stretchBytes m) st) → Keeps (stretchBytes m) (onStretches m) byCalls Neighbours Stretched c st
+  keeps : (c : Call Lent) (st : List (List ℕ)) → AllRead st → Neighbours c (map (stretchBytes m) st) → Keeps (stretchBytes m) (onStretches m) byCalls Neighbours AllRead c st
   keeps c st i n =
       let l : List (List ℕ) = take (c .many) (drop (c .place) st) in
       let k : length (map (stretchBytes m) st) ≡ length st = length-map st (stretchBytes m) in
       let d : length (drop (c .place) st) ≡ length st - c .place = length-drop (c .place) st in
       let w : length l ≡ c .many = length-take (c .many) (drop (c .place) st) ∙ omega (arith, n .inside) in
-      let a : AllRead l = read-take (c .many) (drop (c .place) st) (read-drop (c .place) st (i .reads)) in
+      let a : AllRead l = read-take (c .many) (drop (c .place) st) (read-drop (c .place) st i) in
       record {
-        same = call-same l (c .lent) a (subst (Enough (c .lent)) (sym w) (n .enough)) (omega (arith, i .few, n .inside));
+        same = call-same l (c .lent) a (subst (Enough (c .lent)) (sym w) (n .enough));
         kept = go (leb (length (stretchBytes m (joined l))) (length (bufferOf (c .lent))));
       }
     where
-      go : (t : Bool) → Stretched (put (onStretches m) (cond t (result (joined (take (c .many) (drop (c .place) st)))) (refused 12)) c st)
+      go : (t : Bool) → AllRead (put (onStretches m) (cond t (result (joined (take (c .many) (drop (c .place) st)))) (refused 12)) c st)
       go true =
           let r : List (List ℕ) = drop (c .many) (drop (c .place) st) in
           let l : List (List ℕ) = take (c .many) (drop (c .place) st) in
-          let d : AllRead (drop (c .place) st) = read-drop (c .place) st (i .reads) in
-          let k : length (map (stretchBytes m) st) ≡ length st = length-map st (stretchBytes m) in
-          let x : length (take (c .place) st) ≡ c .place = length-take (c .place) st ∙ omega (arith, n .inside) in
-          let y : length (drop (c .place) st) ≡ length st - c .place = length-drop (c .place) st in
-          let z : length r ≡ length (drop (c .place) st) - c .many = length-drop (c .many) (drop (c .place) st) in
-          record {
-            reads = read-append (take (c .place) st) (joined l ∷ r) (read-take (c .place) st (i .reads)) (reads-joined l (read-take (c .many) (drop (c .place) st) d), read-drop (c .many) (drop (c .place) st) d);
-            few = rw (length-append (take (c .place) st) (joined l ∷ r)) (omega (arith, i .few, n .inside, least (c .lent) (c .many) (n .enough)));
-          }
+          let d : AllRead (drop (c .place) st) = read-drop (c .place) st i in
+          read-append (take (c .place) st) (joined l ∷ r) (read-take (c .place) st i) (reads-joined l (read-take (c .many) (drop (c .place) st) d), read-drop (c .many) (drop (c .place) st) d)
       go false = i
 
-  pub list-same : (cs : List (Call Lent)) (st : List (List ℕ)) → Stretched st → Proper byCalls Neighbours cs (map (stretchBytes m) st) → SameRows (stretchBytes m) (onStretches m) byCalls Neighbours Stretched cs st
-  list-same = replay-same (stretchBytes m) (onStretches m) byCalls Neighbours Stretched keeps
+  pub list-same : (cs : List (Call Lent)) (st : List (List ℕ)) → AllRead st → Proper byCalls Neighbours cs (map (stretchBytes m) st) → SameRows (stretchBytes m) (onStretches m) byCalls Neighbours AllRead cs st
+  list-same = replay-same (stretchBytes m) (onStretches m) byCalls Neighbours AllRead keeps

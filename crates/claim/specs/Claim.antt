@@ -66,12 +66,10 @@ pub record IsChunk (mode : ℕ) (c : Chunk) : Type 0 where
   pub readable : (fs : List Fields) × (recordsOf (c .bytes) ≡ result fs)
   pub long-enough : length (stretchBytes mode (c .bytes)) ≤ length (c .buffer)
 
--- P chunks, 2 to 64, and a mode, 1 to 4.
+-- P chunks, as many as one likes, and a mode, 1 to 4.
 pub record IsCut (mode : ℕ) (cut : List Chunk) : Type 0 where
   pub mode-low : 1 ≤ mode
   pub mode-high : mode ≤ 4
-  pub least : 2 ≤ length cut
-  pub most : length cut ≤ 64
   pub each : (c : Chunk) → List·Memᴰ c cut → IsChunk mode c
 
 -- ---- the list of merges
@@ -85,9 +83,14 @@ abbrev pub bufferOf : Lent → List ℕ
 bufferOf (toMerge b) = b
 bufferOf (toMergeRow b) = b
 
+-- What a call on a row takes: "Are there 2 to 64 pieces (each call on a row)?" Question 4 refuses any other number.
+abbrev pub RowSize : ℕ → Type 0
+RowSize many = (2 ≤ many) × (many ≤ 64)
+
+-- Merging a row is put on at most 64, though the row may have more: "A row of 2 to 64 summaries can also be merged in one call".
 abbrev pub Enough : Lent → ℕ → Type 0
 Enough (toMerge b) many = many ≡ 2
-Enough (toMergeRow b) many = 2 ≤ many
+Enough (toMergeRow b) many = RowSize many
 
 -- "Neighbours of the row as it then stands": `many` pieces from `place` on.
 pub record Neighbours (c : Call Lent) (row : List (List ℕ)) : Type 0 where
@@ -150,7 +153,7 @@ module _ (mode : ℕ) (cut : List Chunk) where
     pub pieces : replay byCalls merges (firstRow mode cut) ≡ map (stretchBytes mode) (replay (onStretches mode) merges (chunks cut))
     -- where one piece is left, finish says what the log says
     pub finished : (p : List ℕ) → replay byCalls merges (firstRow mode cut) ≡ p ∷ [] → finishOutcome p ≡ logSays mode uncutLog
-    -- and so does the work along the plan
-    pub worked : onResult (λ w. w .figure) (workOutcome lentRow) ≡ logSays mode uncutLog
-    -- the plan of a well-formed log
-    pub planned : logFault (recordsRead uncutLog) ≡ pass → Planned
+    -- and so does the work along the plan, where question 4 lets it be asked for
+    pub worked : RowSize (length cut) → onResult (λ w. w .figure) (workOutcome lentRow) ≡ logSays mode uncutLog
+    -- the plan of a well-formed log, likewise
+    pub planned : RowSize (length cut) → logFault (recordsRead uncutLog) ≡ pass → Planned

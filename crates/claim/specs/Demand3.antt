@@ -2,7 +2,7 @@
 use mathlib.Core.Path.{_≡_, sym, ap, _∙_}
 use mathlib.Core.Bool.{true}
 use mathlib.Core.List.{List, map}
-use Prim.Native.Nat.{ℕ, _≤_}
+use Prim.Native.Nat.{ℕ}
 use native.Mathlib.Omega.{arith}
 use lib.Dec.{leb}
 use lib.ListN.{length, length-map}
@@ -13,9 +13,9 @@ use Rattle.hill.specs.Row.{joined, Call, replay, answers, Proper, onResult}
 use Rattle.hill.specs.RowLaws.{SameRows, replay-joined}
 use Rattle.join_plan.specs.PlanOfLog.{plan-of-log, plan-only, plan-few}
 use Rattle.summary.specs.Outcomes.{finishOutcome}
-use Rattle.claim.specs.Claim.{recordsRead, stretchBytes, Chunk, chunks, firstRow, IsCut, Lent, bufferOf, Neighbours, byCalls, onStretches, uncutLog, Planned, Claimed}
+use Rattle.claim.specs.Claim.{recordsRead, stretchBytes, Chunk, chunks, firstRow, IsCut, RowSize, Lent, bufferOf, Neighbours, byCalls, onStretches, uncutLog, Planned, Claimed}
 use Rattle.claim.specs.Stretches.{AllRead, read-each, reads-joined, in-joined}
-use Rattle.claim.specs.Calls.{Stretched, list-same}
+use Rattle.claim.specs.Calls.{list-same}
 use Rattle.claim.specs.LogRow.{finish-log, lines, work-log, figure-log, plan-log}
 use Rattle.claim.specs.FirstRow.{first-row, all-read, in-use, only-one, told-lengths, lengths}
 
@@ -32,42 +32,40 @@ module _ (m : ℕ) (cut : List Chunk) (i : IsCut m cut) where
   row-is : firstRow m cut ≡ map (stretchBytes m) (chunks cut)
   row-is = first-row m used cut (i .each)
 
-  least-two : 2 ≤ length (chunks cut)
-  least-two = omega (arith, count, i .least)
+  sized : RowSize (length cut) → RowSize (length (chunks cut))
+  sized z = rw count z
 
-  most-64 : length (chunks cut) ≤ 64
-  most-64 = omega (arith, count, i .most)
-
-  planned : logFault (recordsRead (uncutLog m cut)) ≡ pass → Planned m cut
-  planned v =
+  planned : RowSize (length cut) → logFault (recordsRead (uncutLog m cut)) ≡ pass → Planned m cut
+  planned z v =
+      let s : RowSize (length (chunks cut)) = sized z in
       let e : logFault (joined (map recordsRead (chunks cut))) ≡ pass = rw (in-joined (chunks cut) reads) at v in
       record {
-        lines = lines m used (chunks cut) reads least-two most-64;
+        lines = lines m used (chunks cut) reads (s .0) (s .1);
         described = plan-of-log (modeOf m .algebra) (modeOf m .laws) (map recordsRead (chunks cut)) e;
         only = plan-only (modeOf m .algebra) (modeOf m .laws) (map recordsRead (chunks cut)) e;
         few =
             let n : length (map recordsRead (chunks cut)) ≡ length (chunks cut) = length-map (chunks cut) recordsRead in
-            omega (arith, count, plan-few (modeOf m .algebra) (modeOf m .laws) (map recordsRead (chunks cut)) e (omega (arith, least-two)));
-        planned = λ cap. rw row-is (plan-log m used (chunks cut) reads least-two most-64 e cap);
-        worked = rw row-is (work-log m used (chunks cut) reads least-two most-64);
+            omega (arith, count, plan-few (modeOf m .algebra) (modeOf m .laws) (map recordsRead (chunks cut)) e (omega (arith, s .0)));
+        planned = λ cap. rw row-is (plan-log m used (chunks cut) reads (s .0) (s .1) e cap);
+        worked = rw row-is (work-log m used (chunks cut) reads (s .0) (s .1));
       }
 
   holds : (merges : List (Call Lent)) → Proper byCalls Neighbours merges (firstRow m cut) → Claimed m cut merges
   holds merges p =
-      let w : SameRows (stretchBytes m) (onStretches m) byCalls Neighbours Stretched merges (chunks cut) =
-      list-same m used merges (chunks cut) (record { reads = reads; few = most-64 }) (rw row-is at p) in
+      let w : SameRows (stretchBytes m) (onStretches m) byCalls Neighbours AllRead merges (chunks cut) =
+      list-same m used merges (chunks cut) reads (rw row-is at p) in
       let j : joined (replay (onStretches m) merges (chunks cut)) ≡ joined (chunks cut) =
       replay-joined (λ b s. leb (length (stretchBytes m s)) (length (bufferOf b))) merges (chunks cut) in
       record {
         uncut = reads-joined (chunks cut) reads;
-        readable = read-each (replay (onStretches m) merges (chunks cut)) (w .stays .reads);
+        readable = read-each (replay (onStretches m) merges (chunks cut)) (w .stays);
         stretches = j;
         answered = rw row-is (told-lengths merges (map (stretchBytes m) (chunks cut)) ∙ ap (map (onResult length)) (w .told) ∙ lengths (stretchBytes m) (answers (onStretches m) merges (chunks cut)));
         pieces = rw row-is (w .rows);
         finished = λ q k.
             ap finishOutcome (only-one (stretchBytes m) (replay (onStretches m) merges (chunks cut)) q (sym (w .rows) ∙ (rw row-is at k)) ∙ ap (stretchBytes m) j) ∙
             finish-log m used (joined (chunks cut)) (reads-joined (chunks cut) reads);
-        worked = rw row-is (figure-log m used (chunks cut) reads least-two most-64);
+        worked = λ z. rw row-is (figure-log m used (chunks cut) reads (sized z .0) (sized z .1));
         planned = planned;
       }
 

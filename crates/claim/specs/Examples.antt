@@ -52,8 +52,6 @@ is-cut : IsCut 1 cutD
 is-cut = record {
   mode-low = lit≤ tt;
   mode-high = lit≤ tt;
-  least = lit≤ tt;
-  most = lit≤ tt;
   each = λ c m. elim (List·Memᴰ·cases-cons m) [
     | inl e ↦ subst (IsChunk 1) (sym e) left-is
     | inr n ↦ subst (IsChunk 1) (sym (List·Memᴰ·eq-of-singleton n)) right-is
@@ -62,7 +60,7 @@ is-cut = record {
 
 are-neighbours : Proper byCalls Neighbours merges (firstRow 1 cutD)
 unfolding leAt bytesOf within inRange accepted whole byShape readOf recordsIn recordsOf modeInUse modeOf between count cut encode decode sumTo nothingIn counted isStamp allTo layoutFits spoiltFits levelsFit openedFits middleFits recordsFit valuesFit hillFits isSummary summaryBytes mergeBytes summariseOutcome mergeOutcome
-are-neighbours = (record { enough = refl; inside = lit≤ tt }, (record { enough = lit≤ tt; inside = lit≤ tt }, tt))
+are-neighbours = (record { enough = refl; inside = lit≤ tt }, (record { enough = (lit≤ tt, lit≤ tt); inside = lit≤ tt }, tt))
 
 D-holds : Claimed 1 cutD merges
 D-holds = demand3 1 cutD merges is-cut are-neighbours

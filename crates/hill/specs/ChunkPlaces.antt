@@ -1,7 +1,7 @@
 -- The values of a chunk by places: a left or middle value combines exactly the records at its level that are opened and closed in the chunk and held by
 -- none that it opens; an unclosed record's figures so far are those of the records that it holds and the chunk closes. Assumes nothing.
 use mathlib.Core.Path.{_≡_, refl, ap, sym, _∙_}
-use mathlib.Core.Logic.{_⊎_, inl, inr, ⊎-elim, dite}
+use mathlib.Core.Logic.{⊎-elim, dite}
 use mathlib.Core.Bool.{Bool, true, false, cond, _&&_, not}
 use mathlib.Core.List.{List, [], _∷_, map}
 use Prim.Native.Nat.{ℕ, zero, suc, _-_, _≤_, _<_}
@@ -19,6 +19,7 @@ use Rattle.hill.specs.Figure.{held, figureAt, combined}
 use Rattle.hill.specs.Summary.{closedIn, done, pending}
 use Rattle.hill.specs.Crossings.{crosses-up, Meeting, joints-meeting, falls, rises, closed-closedIn, closedIn-closed}
 use Rattle.hill.specs.Growth.{end-at}
+use Rattle.hill.specs.Peak.{lower-level, peak-at}
 use Rattle.hill.specs.Places.{places-same, places-iff, select, Selected, select-places, here-at, here-rest}
 use Rattle.hill.specs.HeldPlaces.{opening-closing, opens-inside, first-close, opensAt, endsAt, opensAt-true, endsAt-false, holds-selected, selected-holds}
 
@@ -186,12 +187,6 @@ module _ {R : Type 0} (𝒜 : Algebra R) where
       (done-select (x ∷ xs) (suc c) (suc p) (drop p xs) refl ∙ ap (λ qs. combined 𝒜 (map (figureAt 𝒜 (x ∷ xs)) qs)) (places-same (so-far-listed (x ∷ xs) p c (r, e)) k))
 
 module _ {R : Type 0} where
-  peak-at : (x : Record R) (xs : List (Record R)) → (k : ℕ) × (k ≤ length xs) × (depth (at (x ∷ xs) k) ≡ peakOf x xs)
-  peak-at x [] = (0, omega arith, refl)
-  peak-at x (y ∷ ys) =
-      let w = peak-at y ys in
-      dite (decLe (depth x) (peakOf y ys)) (λ l. (0, omega arith, omega arith)) (λ l. (suc (w .0), omega (arith, w .1), w .2 ∙ omega arith))
-
   -- From a level of at most c the chunk goes up to its end, so it leaves a record of depth c unclosed.
   left-open : (log : List (Record R)) → Meeting log → (c a e : ℕ) → suc e ≡ length log → a ≤ e → startLevel (at log a) ≤ c → c < endLevel (at log e) →
       (p : ℕ) × OpensAt log p c × (Closed log p c → ⊥)
@@ -207,10 +202,6 @@ module _ {R : Type 0} where
             (eq-or-lt-of-le (omega (arith, k .1 .inside))),
       ))
 
-  lower-side : (x : Record R) (c : ℕ) → depth x ≤ c → (startLevel x ≤ c) ⊎ (endLevel x ≤ c)
-  lower-side (opening d r) c l = inl l
-  lower-side (closing d) c l = inr l
-
   pub unclosed-exists : (x : Record R) (xs : List (Record R)) → joints x xs ≡ pass → (c : ℕ) → peakOf x xs ≤ c → c < endOf x xs →
       (p : ℕ) × OpensAt (x ∷ xs) p c × (Closed (x ∷ xs) p c → ⊥)
   unclosed-exists x xs v c l u =
@@ -219,9 +210,9 @@ module _ {R : Type 0} where
       let e : suc (length xs) - 1 ≡ length xs = omega arith in
       let high : c < endLevel (at (x ∷ xs) (length xs)) = omega (arith, end-at x xs, ap (λ k. endLevel (at (x ∷ xs) k)) e) in
       ⊎-elim
-      (λ (a : startLevel (at (x ∷ xs) (w .0)) ≤ c). left-open (x ∷ xs) meets c (w .0) (length xs) refl (w .1) a high)
-      (λ (a : endLevel (at (x ∷ xs) (w .0)) ≤ c). ⊎-elim
-      (λ (e : w .0 ≡ length xs). absurd (omega (arith, ap (λ k. endLevel (at (x ∷ xs) k)) e)))
-      (λ e. left-open (x ∷ xs) meets c (suc (w .0)) (length xs) refl (omega arith) (omega (arith, meets (w .0) (omega arith))) high)
+      (λ (a : startLevel (at (x ∷ xs) (w .0)) ≡ depth (at (x ∷ xs) (w .0))). left-open (x ∷ xs) meets c (w .0) (length xs) refl (w .1) (omega (arith, w .2)) high)
+      (λ (a : endLevel (at (x ∷ xs) (w .0)) ≡ depth (at (x ∷ xs) (w .0))). ⊎-elim
+      (λ (e : w .0 ≡ length xs). absurd (omega (arith, w .2, ap (λ k. endLevel (at (x ∷ xs) k)) e)))
+      (λ e. left-open (x ∷ xs) meets c (suc (w .0)) (length xs) refl (omega arith) (omega (arith, w .2, meets (w .0) (omega arith))) high)
       (eq-or-lt-of-le (w .1)))
-      (lower-side (at (x ∷ xs) (w .0)) c (omega (arith, w .2)))
+      (lower-level (at (x ∷ xs) (w .0)))

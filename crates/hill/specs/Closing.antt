@@ -1,10 +1,10 @@
--- Who closes whom, and who holds whom, by places in the log. Definitions only.
+-- Who closes whom, who holds whom, and the levels reached, by places in the log. Definitions only.
 use mathlib.Core.Path.{_≡_}
-use mathlib.Core.Logic.{_≢_}
+use mathlib.Core.Logic.{_≢_, _⊎_}
 use mathlib.Core.List.{List, [], _∷_, List·Memᴰ}
 use Prim.Native.Nat.{ℕ, suc, _<_}
 use lib.ListN.{length, getD}
-use Rattle.hill.specs.Log.{Record, opening, closing}
+use Rattle.hill.specs.Log.{Record, opening, closing, startLevel, endLevel}
 
 module _ {R : Type 0} where
   -- The record at place k of a log, counted from 0. Past the end it is a close, so that an open stands inside the log.
@@ -14,6 +14,10 @@ module _ {R : Type 0} where
   -- An open at depth d stands at place p.
   abbrev pub OpensAt : List (Record R) → (p d : ℕ) → Type 0
   OpensAt log p d = (r : R) × (at log p ≡ opening d r)
+
+  -- A level that a record of the chunk starts or ends at.
+  abbrev pub Reached : List (Record R) → ℕ → Type 0
+  Reached chunk l = (k : ℕ) × (k < length chunk) × ((startLevel (at chunk k) ≡ l) ⊎ (endLevel (at chunk k) ≡ l))
 
 -- "The first close at depth d after an open at depth d closes it": the one at q closes the one at p.
 pub record ClosedBy {R : Type 0} (log : List (Record R)) (p q d : ℕ) : Type 0 where

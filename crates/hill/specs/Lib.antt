@@ -16,6 +16,8 @@ pub mod VerdictLaws
 pub mod Building
 pub mod Growth
 pub mod Faults
+-- The peak is the lowest level reached.
+pub mod Peak
 -- Hills built record by record, and merging by levels.
 pub mod Slopes
 pub mod MergeLaws

@@ -1,7 +1,7 @@
 -- In the algebra of forests the hill of a chunk spells the chunk. So a log from level 0 to level 0 is the traversal of just one forest. Assumes nothing.
 use mathlib.Core.Path.{_≡_, refl, ap, sym, _∙_}
 use mathlib.Core.List.{List, [], _∷_, _++_, append-assoc, append-nil}
-use Prim.Native.Nat.{ℕ, suc, _+_, _≤_, min}
+use Prim.Native.Nat.{ℕ, suc, _+_, min}
 use native.Mathlib.Nat.{add-zero, add-suc}
 use native.Mathlib.Omega.{arith}
 use lib.ListN.{length}
@@ -12,6 +12,7 @@ use Rattle.hill.specs.Tree.{Forest, nil, tree, write}
 use Rattle.hill.specs.Summary.{Hill, hill, rise, fall, middle}
 use Rattle.hill.specs.Building.{empty, join, step, run, hillOf}
 use Rattle.hill.specs.Slopes.{fall-join, rise-join}
+use Rattle.hill.specs.Peak.{depth-least, peak-depth}
 use Rattle.hill.specs.TreeLaws.{write-beside, free, free-laws, hillOf-write, value-free}
 
 module _ {R : Type 0} where
@@ -125,14 +126,6 @@ module _ {R : Type 0} where
   peak-from p x [] = refl
   peak-from p x (y ∷ ys) = peak-from (min p (depth x)) y ys ∙ omega arith
 
-  depth-start : (x : Record R) → depth x ≤ startLevel x
-  depth-start (opening d r) = omega arith
-  depth-start (closing d) = omega arith
-
-  peak-depth : (x : Record R) (xs : List (Record R)) → peakOf x xs ≤ depth x
-  peak-depth x [] = omega arith
-  peak-depth x (y ∷ ys) = omega arith
-
   -- A chunk whose records meet is spelt by its hill in the algebra of forests, over the lowest level it reaches, between its start and its end level.
   pub chunk-spelt : (x : Record R) (xs : List (Record R)) → joints x xs ≡ pass →
       (spell (peakOf x xs) (hillOf (free R) (x ∷ xs)) ≡ x ∷ xs) ×
@@ -140,6 +133,6 @@ module _ {R : Type 0} where
       (peakOf x xs + fall (hillOf (free R) (x ∷ xs)) ≡ endOf x xs)
   chunk-spelt x xs v =
       let t = spell-run (startLevel x) (empty (free R)) (x ∷ xs) (add-zero (startLevel x), joints-meet x xs v) in
-      let k : peakOf x xs ≡ peakFrom (startLevel x) (x ∷ xs) = sym (peak-from (startLevel x) x xs ∙ omega (arith, depth-start x, peak-depth x xs)) in
+      let k : peakOf x xs ≡ peakFrom (startLevel x) (x ∷ xs) = sym (peak-from (startLevel x) x xs ∙ omega (arith, depth-least x .0, peak-depth x xs 0 (omega arith))) in
       let h : Hill (Forest R) R = hillOf (free R) (x ∷ xs) in
       (ap (λ (p : ℕ). spell p h) k ∙ t .0, ap (λ (p : ℕ). p + rise h) k ∙ t .1 ∙ add-zero (startLevel x), ap (λ (p : ℕ). p + fall h) k ∙ t .2 ∙ end-from x xs)

@@ -12,10 +12,11 @@ use Rattle.join_plan.specs.RowLevels.{opener}
 use Rattle.join_plan.specs.Folded.{falls, fallsOf, planOf-folded}
 use Rattle.hill.specs.Log.{Record, closing, depth, startLevel}
 use Rattle.hill.specs.Closing.{at, ClosedBy}
+use Rattle.hill.specs.Peak.{depth-least}
 use Rattle.hill.specs.Row.{joined}
 use Rattle.join_plan.specs.ByRecords.{place, InChunk, Crossing, Tally}
 use Rattle.join_plan.specs.LogLevels.{levelBefore, WellFormedLog, levelsOf, rowOfChunks}
-use Rattle.join_plan.specs.LogJoins.{depth-least, Deep, Span, chunk-span, chunk-closes, joins-exact, closed-high, closed-deep, first-closes, place-inside, place-le}
+use Rattle.join_plan.specs.LogJoins.{Deep, Span, chunk-span, chunk-closes, joins-exact, closed-high, closed-deep, first-closes, place-inside, place-le}
 use Rattle.join_plan.specs.LogPlan.{place-all, level-place, row-meets, row-of}
 
 tally-cast : (P : ℕ → Type 0) (m n c d : ℕ) → m ≡ n → c ≡ d → Tally P m c → Tally P n d

@@ -26,10 +26,6 @@ module _ {R : Type 0} where
   deep-above (opening c r) d h = omega arith
   deep-above (closing c) d h = omega arith
 
-  pub depth-least : (x : Record R) → (depth x ≤ startLevel x) × (depth x ≤ endLevel x) × (startLevel x ≤ suc (depth x))
-  depth-least (opening d r) = omega arith
-  depth-least (closing d) = omega arith
-
   -- a record of depth d or less that leads above level d opens depth d, and one that starts above it closes depth d
   is-opening : (x : Record R) (d : ℕ) → depth x ≤ d → d < endLevel x → (r : R) × (x ≡ opening d r)
   is-opening (opening c r) d h k = let e : c ≡ d = omega arith in (r, ap (λ v. opening v r) e)

@@ -12,10 +12,11 @@ use Rattle.join_plan.specs.PlanBound.{planOf-bound}
 use Rattle.join_plan.specs.RowLevels.{joins-convex}
 use Rattle.hill.specs.Log.{Record, startLevel}
 use Rattle.hill.specs.Closing.{at}
+use Rattle.hill.specs.Peak.{depth-least}
 use Rattle.hill.specs.Row.{joined}
 use Rattle.join_plan.specs.ByRecords.{place, Joined, PlanLine, IsPlan}
 use Rattle.join_plan.specs.LogLevels.{levelBefore, WellFormedLog, levelsOf, rowOfChunks}
-use Rattle.join_plan.specs.LogJoins.{depth-least, Span, chunk-span, place-inside, joins-exact}
+use Rattle.join_plan.specs.LogJoins.{Span, chunk-span, place-inside, joins-exact}
 
 module _ {R : Type 0} where
   -- the level after a chunk, and that the chunk meets the one before
