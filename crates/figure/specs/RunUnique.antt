@@ -4,11 +4,11 @@ use mathlib.Core.List.{List, [], _∷_}
 use Prim.Native.Nat.{ℕ, _+_, _*_, _%_, _^_, _<_}
 use native.Mathlib.Omega.{arith}
 use lib.IntN.{ℤ, pos, _+ℤ_, _-ℤ_, negℤ, natAbs, -ℤ-+ℤ-cancel, +ℤ-assoc, +ℤ-idl, +ℤ-idr}
-use lib.Signed.{_≤ℤ_, _<ℤ_}
+use lib.Signed.{_≤ℤ_}
 use Rattle.algebra.specs.Algebra.{Algebra}
 use Rattle.algebra.specs.Run.{Level, through, Context, AllSound, run, runOn, run-is, run-fine}
-use Rattle.number.specs.Integer.{maxZ, clamp}
-use Rattle.number.specs.IntegerLaws.{zed, add-law, neg-law, abs-law, max-law, min-law, ≤-antisym, clamp-in}
+use Rattle.number.specs.Integer.{maxZ}
+use Rattle.number.specs.IntegerLaws.{zed, add-law, neg-law, abs-law, max-law, ≤-antisym}
 use Rattle.figure.specs.FourModes.{Amounts, InRange, net, heaviest, eaten, stamp, lift, Stamp, stampOf}
 use Rattle.figure.specs.ModeLaws.{stamp-≡}
 use Rattle.figure.specs.Run.{IsNetRun, HeaviestNumbers, atLeast, along, IsHeaviestRun, Between, between, total, IsEatenRun, Affine, affine, IsStampRun}
@@ -160,42 +160,6 @@ eaten-only ls j k p q =
 
 abbrev pub eatenPinned : Pinned eatenContext IsEatenRun
 eatenPinned = record { is = eaten-is; only = eaten-only }
-
--- Where low is below high, what a run does determines a as well.
-
-at-low : (y l h : ℤ) → l <ℤ h → clamp y l h ≡ l → y ≤ℤ l
-unfolding clamp
-at-low y l h p e = omega (zed, max-law y l, min-law (maxZ y l) h)
-
-above-low : (y l h m : ℤ) → l <ℤ m → clamp y l h ≡ m → m ≤ℤ y
-unfolding clamp
-above-low y l h m p e = omega (zed, max-law y l, min-law (maxZ y l) h)
-
-pinch : (x l a b : ℤ) → x +ℤ a ≡ l → (x +ℤ b) ≤ℤ l → (l +ℤ pos 1) ≤ℤ ((x +ℤ pos 1) +ℤ b) → a ≡ b
-pinch x l a b e p q = omega (zed, add-law x a, add-law x b, add-law l (pos 1), add-law x (pos 1), add-law (x +ℤ pos 1) b)
-
-next : (x l a : ℤ) → x +ℤ a ≡ l → (x +ℤ pos 1) +ℤ a ≡ l +ℤ pos 1
-next x l a e = omega (zed, add-law x a, add-law x (pos 1), add-law (x +ℤ pos 1) a, add-law l (pos 1))
-
-pub between-≡ : (j k : Between) → j .low <ℤ j .high → k .low ≤ℤ k .high → ((x : ℤ) → between j x ≡ between k x) → j ≡ k
-between-≡ j k s t e =
-    let f : j .low ≤ℤ j .high = omega zed in
-    let xl : ℤ = j .low -ℤ j .add in
-    let yl : ℤ = k .low -ℤ k .add in
-    let xh : ℤ = j .high -ℤ j .add in
-    let yh : ℤ = k .high -ℤ k .add in
-    let l : k .low ≡ j .low =
-    ≤-antisym (subst (λ y. k .low ≤ℤ y) (sym (e xl) ∙ between-low j f) (between-ends k t xl .0)) (subst (λ y. j .low ≤ℤ y) (e yl ∙ between-low k t) (between-ends j f yl .0)) in
-    let h : k .high ≡ j .high =
-    ≤-antisym (subst (λ y. y ≤ℤ j .high) (e yh ∙ between-high k t) (between-ends j f yh .1)) (subst (λ y. y ≤ℤ k .high) (sym (e xh) ∙ between-high j f) (between-ends k t xh .1)) in
-    let same : (x : ℤ) → clamp (x +ℤ k .add) (j .low) (j .high) ≡ between j x = λ x. ap₂ (λ a b. clamp (x +ℤ k .add) a b) (sym l) (sym h) ∙ sym (e x) in
-    let at : xl +ℤ j .add ≡ j .low = -ℤ-+ℤ-cancel (j .low) (j .add) in
-    let up1 : between j (xl +ℤ pos 1) ≡ j .low +ℤ pos 1 =
-    ap (λ y. clamp y (j .low) (j .high)) (next xl (j .low) (j .add) at) ∙ clamp-in (j .low +ℤ pos 1) (j .low) (j .high) (omega (zed, add-law (j .low) (pos 1))) (omega (zed, add-law (j .low) (pos 1))) in
-    let a : j .add ≡ k .add =
-    pinch xl (j .low) (j .add) (k .add) at (at-low (xl +ℤ k .add) (j .low) (j .high) s (same xl ∙ between-low j f))
-    (above-low ((xl +ℤ pos 1) +ℤ k .add) (j .low) (j .high) (j .low +ℤ pos 1) (omega (zed, add-law (j .low) (pos 1))) (same (xl +ℤ pos 1) ∙ up1)) in
-    λ i. record { add = a i; low = sym l i; high = sym h i }
 
 -- ---- mode 4: 0 gives q, and 1 gives m + q
 

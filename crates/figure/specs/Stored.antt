@@ -3,12 +3,9 @@ use mathlib.Core.Path.{_≡_, sym, ap, _∙_, subst}
 use Prim.Native.Nat.{ℕ, _+_, _^_, _≤_, _<_}
 use native.Mathlib.Omega.{arith}
 use lib.IntN.{ℤ, natAbs}
-use mir.Syntax.{w64}
-use mir.Val.{SFits}
 use Rattle.algebra.specs.Run.{Level}
 use Rattle.algebra.specs.Sizes.{cost}
 use Rattle.figure.specs.FourModes.{Amounts, limit, InRange}
-use Rattle.figure.specs.StoreLaws.{RunFits}
 use Rattle.figure.specs.Mode.{Mode}
 use Rattle.figure.specs.declared.Run.{Run}
 
@@ -96,10 +93,6 @@ module _ (M : Mode) where
   unfolding IsStored none
   none-stored = ap (M .store) (M .read-back (M .algebra .ι) none-small)
 
-  pub none-fits : SFits w64 (none M)
-  unfolding none
-  none-fits = M .store-fits (M .algebra .ι) none-small
-
 -- ---- two figures combined
 
 module _ (M : Mode) (a b : ℤ) (room : sizeOf M a + sizeOf M b < 2 ^ 63) where
@@ -120,10 +113,6 @@ module _ (M : Mode) (a b : ℤ) (room : sizeOf M a + sizeOf M b < 2 ^ 63) where
   unfolding IsStored combined
   combined-stored = ap (M .store) (M .read-back _ combined-small)
 
-  pub combined-fits : SFits w64 (combined M a b)
-  unfolding combined
-  combined-fits = M .store-fits _ combined-small
-
 -- ---- a figure through a record
 
 module _ (M : Mode) (r : Amounts) (h : ℤ) (in-range : InRange r) (room : limit + sizeOf M h < 2 ^ 63) where
@@ -142,10 +131,6 @@ module _ (M : Mode) (r : Amounts) (h : ℤ) (in-range : InRange r) (room : limit
   pub passed-stored : IsStored M (passed M r h)
   unfolding IsStored passed
   passed-stored = ap (M .store) (M .read-back _ passed-small)
-
-  pub passed-fits : SFits w64 (passed M r h)
-  unfolding passed
-  passed-fits = M .store-fits _ passed-small
 
   pub passes : IsStored M h → Passes M (r .value) h
   passes s = record { stored = s; room = omega (arith, in-range .value-in) }
@@ -169,10 +154,6 @@ module _ (M : Mode) (r : Amounts) (b a : ℤ) (in-range : InRange r) (room : lim
   unfolding IsRun levelRun
   levelRun-is = ap (M .storeRun) (M .run-back _ _ (M .runSizes .within-level (levelOf M r b a) in-range) level-small)
 
-  pub levelRun-fits : RunFits (levelRun M r b a)
-  unfolding levelRun
-  levelRun-fits = M .run-fits _ _ (M .runSizes .within-level (levelOf M r b a) in-range) level-small
-
   pub levels : IsStored M b → IsStored M a → Levels M (r .value) b a
   levels s t = record { first = s; second = t; room = omega (arith, in-range .value-in) }
 
@@ -194,7 +175,3 @@ module _ (M : Mode) (f g : Run) (c : Composes M f g) where
   pub runAfter-is : IsRun M (runAfter M f g)
   unfolding IsRun runAfter
   runAfter-is = ap (M .storeRun) (M .run-back _ _ both-within (c .room))
-
-  pub runAfter-fits : RunFits (runAfter M f g)
-  unfolding runAfter
-  runAfter-fits = M .run-fits _ _ both-within (c .room)

@@ -63,9 +63,6 @@ module _ {R : Type 0} (𝒜 : Algebra R) where
       close (join l (join x (hill u m (e ∷ d)))) ≡ join (node (e .0) (e .1 ⊗ x ⊗ l)) (hill u m d)
   carry x l u m e d = refl
 
-  pub carry-over : (x l : Fig) (u : List Fig) (m : Fig) → close (join l (join x (hill u m []))) ≡ hill (m ⊗ x ⊗ l ∷ u) ι []
-  carry-over x l u m = refl
-
   pub run-append : (a : Hill Fig R) (xs ys : List (Record R)) → run a (xs ++ ys) ≡ run (run a xs) ys
   run-append a [] ys = refl
   run-append a (x ∷ xs) ys = run-append (step a x) xs ys

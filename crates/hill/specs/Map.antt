@@ -4,7 +4,7 @@ use mathlib.Core.List.{List, [], _∷_, _++_}
 use Rattle.algebra.specs.Algebra.{Algebra}
 use Rattle.hill.specs.Log.{Record, opening, closing}
 use Rattle.hill.specs.Summary.{Hill, hill}
-use Rattle.hill.specs.Building.{push, empty, join, close, step, run, hillOf, closes, merge}
+use Rattle.hill.specs.Building.{empty, join, close, step, run, hillOf, closes}
 
 pub record Hom {R : Type 0} (𝒜 ℬ : Algebra R) : Type 0 where
   pub φ : 𝒜 .Fig → ℬ .Fig
@@ -28,9 +28,6 @@ module _ {A B R : Type 0} (φ : A → B) where
   mapDown-append : (d e : List (R × A)) → mapDown (d ++ e) ≡ mapDown d ++ mapDown e
   mapDown-append [] e = refl
   mapDown-append (x ∷ d) e = rw (mapDown-append d e)
-
-  map-push : (e : List (R × A)) (a : Hill A R) → mapHill (push e a) ≡ push (mapDown e) (mapHill a)
-  map-push e (hill u m d) = rw (mapDown-append e d)
 
 module _ {R : Type 0} (𝒜 ℬ : Algebra R) (ℋ : Hom 𝒜 ℬ) where
   open Hom ℋ using (φ, φ-ι, φ-⊗, φ-node)
@@ -58,6 +55,3 @@ module _ {R : Type 0} (𝒜 ℬ : Algebra R) (ℋ : Hom 𝒜 ℬ) where
   map-closes : (a : Hill (𝒜 .Fig) R) (u : List (𝒜 .Fig)) → mapHill φ (closes 𝒜 a u) ≡ closes ℬ (mapHill φ a) (mapUp φ u)
   map-closes a [] = refl
   map-closes a (l ∷ u) = map-close (join 𝒜 l (closes 𝒜 a u)) ∙ rw (map-join l (closes 𝒜 a u), map-closes a u)
-
-  pub map-merge : (a b : Hill (𝒜 .Fig) R) → mapHill φ (merge 𝒜 a b) ≡ merge ℬ (mapHill φ a) (mapHill φ b)
-  map-merge a (hill u m d) = map-push φ d (join 𝒜 m (closes 𝒜 a u)) ∙ rw (map-join m (closes 𝒜 a u), map-closes a u)

@@ -105,10 +105,6 @@ module _ {R : Type 0} (𝒜 : Algebra R) (ℒ : Laws 𝒜) where
   pub mergeRow-inOrder : (row : List (Summary Fig R)) → mergeRow 𝒜 row ≡ inOrder (mergeSummary 𝒜) blank row
   mergeRow-inOrder row = halves-inOrder (mergeSummary 𝒜) blank (mergeSummary-assoc 𝒜 ℒ) (λ a. refl) (merge-blank 𝒜) (length row) row (omega arith)
 
-  -- A row of two is merged by one merge.
-  pub mergeRow-two : (a b : Summary Fig R) → mergeRow 𝒜 (a ∷ (b ∷ [])) ≡ mergeSummary 𝒜 a b
-  mergeRow-two a b = refl
-
   inOrder-summaries : (xs : List (List (Record R))) → inOrder (mergeSummary 𝒜) blank (map (summaryOf 𝒜) xs) ≡ summaryOf 𝒜 (joined xs)
   inOrder-summaries [] = refl
   inOrder-summaries (x ∷ xs) = rw (inOrder-summaries xs) (sym (summaryOf-append 𝒜 ℒ x (joined xs)))

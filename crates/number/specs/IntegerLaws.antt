@@ -1,7 +1,6 @@
 -- Laws of the integers, made linear over ℕ: z is up z - dn z, one of the two being 0. Each operation has one law, an equation in ℕ that
 -- `omega` reads; each order and equation is one order or equation in ℕ: `omega (zed, add-law a b)`. Assumes nothing.
-use mathlib.Core.Path.{_≡_, refl, sym, ap, subst}
-use mathlib.Core.Logic.{_⊎_, inl, inr}
+use mathlib.Core.Path.{_≡_, sym, ap, subst}
 use mathlib.Core.Bool.{Bool, true, false, not, cond}
 use Prim.Native.Nat.{ℕ, zero, suc, _+_, _-_, _≤_, _<_, _^_, min, max}
 use native.Mathlib.Omega.{arith}
@@ -141,9 +140,6 @@ pub ≤-antisym : {a b : ℤ} → a ≤ℤ b → b ≤ℤ a → a ≡ b
 pub +-mono : {a b c d : ℤ} → a ≤ℤ b → c ≤ℤ d → (a +ℤ c) ≤ℤ (b +ℤ d)
 +-mono {a} {b} {c} {d} h k = omega (zed, add-law a c, add-law b d)
 
-pub +-cancel : {a b : ℤ} (c : ℤ) → (a +ℤ c) ≤ℤ (b +ℤ c) → a ≤ℤ b
-+-cancel {a} {b} c h = omega (zed, add-law a c, add-law b c)
-
 -- |a + b| ≤ |a| + |b|
 pub abs-+ : (a b : ℤ) → natAbs (a +ℤ b) ≤ natAbs a + natAbs b
 abs-+ a b = omega (zed, add-law a b, abs-law (a +ℤ b), abs-law a, abs-law b, canon (a +ℤ b))
@@ -157,9 +153,6 @@ by-le a b P f g = go (leZ a b) (λ t. record { le = t }) (≤-total a b)
     go : (t : Bool) → (T t → a ≤ℤ b) → (T (not t) → b <ℤ a) → P t
     go true y n = f (y tt)
     go false y n = g (n tt)
-
-pub ≤-either : (a b : ℤ) → (a ≤ℤ b) ⊎ (b ≤ℤ a)
-≤-either a b = by-le a b (λ _. (a ≤ℤ b) ⊎ (b ≤ℤ a)) inl (λ h. inr (omega zed))
 
 -- with dn a + dn b added, each is a number of ℕ
 pub min-law : (a b : ℤ) → up (minZ a b) + (dn a + dn b) ≡ dn (minZ a b) + min (up a + dn b) (up b + dn a)
@@ -194,9 +187,6 @@ diff-+ p q r s = omega (zed, diff-law p q, diff-law r s, add-law (diff p q) (dif
 pub diff-neg : (p q : ℕ) → negℤ (diff p q) ≡ diff q p
 diff-neg p q = omega (zed, diff-law p q, neg-law (diff p q), diff-law q p)
 
-pub diff-pos : (n : ℕ) → pos n ≡ diff n 0
-diff-pos n = omega (zed, diff-law n 0)
-
 pub diff-min : (p q r s : ℕ) → minZ (diff p q) (diff r s) ≡ diff (min (p + s) (r + q)) (q + s)
 diff-min p q r s = omega (zed, diff-law p q, diff-law r s, min-law (diff p q) (diff r s), diff-law (min (p + s) (r + q)) (q + s))
 
@@ -212,12 +202,6 @@ max-comm a b = omega (zed, max-law a b, max-law b a)
 
 pub max-assoc : (a b c : ℤ) → maxZ (maxZ a b) c ≡ maxZ a (maxZ b c)
 max-assoc a b c = omega (zed, max-law a b, max-law b c, max-law (maxZ a b) c, max-law a (maxZ b c))
-
-pub min-comm : (a b : ℤ) → minZ a b ≡ minZ b a
-min-comm a b = omega (zed, min-law a b, min-law b a)
-
-pub min-assoc : (a b c : ℤ) → minZ (minZ a b) c ≡ minZ a (minZ b c)
-min-assoc a b c = rw (view a, view b, view c) (simp diffs (diff-≡ _ _ _ _ (omega arith)))
 
 -- a sum moves into a maximum
 pub max-+ : (a b c : ℤ) → maxZ a b +ℤ c ≡ maxZ (a +ℤ c) (b +ℤ c)
@@ -266,14 +250,6 @@ pub clamp-in : (x l h : ℤ) → l ≤ℤ x → x ≤ℤ h → clamp x l h ≡ x
 unfolding clamp
 clamp-in x l h p q = omega (zed, max-law x l, min-law (maxZ x l) h)
 
-pub clamp-below : (x l h : ℤ) → x ≤ℤ l → l ≤ℤ h → clamp x l h ≡ l
-unfolding clamp
-clamp-below x l h p q = omega (zed, max-law x l, min-law (maxZ x l) h)
-
-pub clamp-above : (x l h : ℤ) → h ≤ℤ x → clamp x l h ≡ h
-unfolding clamp
-clamp-above x l h q = omega (zed, max-law x l, min-law (maxZ x l) h)
-
 -- ---- absolute values
 
 pub abs-max : (a b : ℤ) → natAbs (maxZ a b) ≤ max (natAbs a) (natAbs b)
@@ -285,11 +261,6 @@ abs-min a b = omega (zed, min-law a b, abs-law a, abs-law b, abs-law (minZ a b),
 pub abs-clamp : (x l h : ℤ) → natAbs (clamp x l h) ≤ max (natAbs x) (max (natAbs l) (natAbs h))
 unfolding clamp
 abs-clamp x l h = omega (arith, abs-max x l, abs-min (maxZ x l) h)
-
-pub abs-neg : (a : ℤ) → natAbs (negℤ a) ≡ natAbs a
-abs-neg (pos zero) = refl
-abs-neg (pos (suc n)) = refl
-abs-neg (negsuc n) = refl
 
 -- ---- a number that fits
 

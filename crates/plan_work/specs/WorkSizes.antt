@@ -12,7 +12,7 @@ use lib.Dec.{leb, eqb}
 use lib.ListN.{length, getD, take, drop}
 use Rattle.algebra.specs.Algebra.{Algebra, Laws, Commutative}
 use Rattle.algebra.specs.Run.{Level, step, through, AllSound}
-use Rattle.algebra.specs.Sizes.{Sizes, costs, size-through, Spent, spend}
+use Rattle.algebra.specs.Sizes.{Sizes, costs, size-through}
 use Rattle.hill.specs.Verdict.{pass, count, ends}
 use Rattle.hill.specs.VerdictLaws.{low-fst, low-snd, count-pass, refuse-pass}
 use Rattle.hill.specs.Summary.{Hill, hill, Part, Summary, spoilt, whole, blank, part, fall, middle, start}
@@ -20,7 +20,7 @@ use Rattle.hill.specs.Valid.{weightUp, weightDown, weight, AllFine, FineHill}
 use Rattle.hill.specs.Building.{empty}
 use Rattle.hill.specs.ValidLaws.{weight-merge, fine-merge}
 use Rattle.join_plan.specs.Plan.{Line, planOfRow}
-use Rattle.plan_work.specs.Runs.{peakOfSummary, slopesOf, leftValueAt, openFrom, levelOf, levelsDown, summaryAt, runLevels}
+use Rattle.plan_work.specs.Runs.{peakOfSummary, slopesOf, levelOf, levelsDown, summaryAt, runLevels}
 use Rattle.plan_work.specs.Work.{Done, middlesAt, outcomesAt, strictlyBetween, given, worked, oneMiddle}
 use Rattle.plan_work.specs.WorkLaws.{gives, outs-nil, outs-cons, work, worked-nil, worked-cons, worked-append, levels-none, levels-next}
 use Rattle.plan_work.specs.Gate.{partsOf, spoiltFault, joinFault, totalOpened, lastEnd, partsFault, rowFault}
@@ -107,30 +107,6 @@ module _ {R : Type 0} (𝒜 : Algebra R) {Fine : R → Type 0} (𝒮 : Sizes �
     pub rest : size (step 𝒜 (levelWith e v) x) + costs 𝒮 ls ≤ B
     pub goes : through 𝒜 all x ≡ through 𝒜 ls (step 𝒜 (levelWith e v) x)
     pub sound : AllSound Fine ls
-
-  -- For the loop over the depths of a line, at the depth lo + n.
-  pub level-spent : (B p : ℕ) (g : Hill Fig R) (q : ℕ) (h : Hill Fig R) (lo n : ℕ) (e : R × Fig) (rest : List (R × Fig)) (x : Fig) → openFrom 𝒜 p g (suc (lo + n)) ≡ e ∷ rest →
-      AllSound Fine (levelsDown 𝒜 p g q h lo (suc n)) → size x + costs 𝒮 (levelsDown 𝒜 p g q h lo (suc n)) ≤ B →
-      LevelSpent B e (leftValueAt 𝒜 q h (suc (lo + n))) (levelsDown 𝒜 p g q h lo (suc n)) (levelsDown 𝒜 p g q h lo n) x
-  unfolding through
-  level-spent B p g q h lo n e rest x k s c =
-      subst (λ (all : List (Level 𝒜)). LevelSpent B e v all ls x) (sym is)
-      (record { fine = t .0; first = w .first; inside = w .inside; rest = w .rest; goes = refl; sound = t .1 })
-    where
-      v : Fig
-      v = leftValueAt 𝒜 q h (suc (lo + n))
-
-      ls : List (Level 𝒜)
-      ls = levelsDown 𝒜 p g q h lo n
-
-      is : levelsDown 𝒜 p g q h lo (suc n) ≡ levelWith e v ∷ ls
-      is = levels-next 𝒜 p g q h lo n ∙ ap (λ (d : List (R × Fig)). levelOf 𝒜 d v ++ ls) k
-
-      t : Fine (e .0) × AllSound Fine ls
-      t = subst (AllSound Fine) is s
-
-      w : Spent 𝒮 B (levelWith e v) ls x
-      w = spend 𝒮 B (levelWith e v) ls x (t .0) (subst (λ (all : List (Level 𝒜)). size x + costs 𝒮 all ≤ B) is c)
 
   level-costs : (k : ℕ) (d : List (R × Fig)) (v : Fig) (ls : List (Level 𝒜)) →
       costs 𝒮 (levelOf 𝒜 (drop k d) v ++ ls) + weightDown 𝒜 𝒮 (drop (suc k) d) ≤ weightDown 𝒜 𝒮 (drop k d) + size v + costs 𝒮 ls
@@ -225,16 +201,9 @@ module _ {R : Type 0} (𝒜 : Algebra R) {Fine : R → Type 0} (𝒮 : Sizes �
     pub middle-light : (k : ℕ) → size (middle (slopesOf 𝒜 (summaryAt 𝒜 row k))) ≤ load row
     middle-light k = omega (arith, middle-weight (slopesOf 𝒜 (summaryAt 𝒜 row k)), hill-light k)
 
-    pub middle-if-light : (t : Bool) (k : ℕ) → size (cond t (middle (slopesOf 𝒜 (summaryAt 𝒜 row k))) ι) ≤ load row
-    middle-if-light t k = omega (arith, cond-size t (middle (slopesOf 𝒜 (summaryAt 𝒜 row k))), middle-light k)
-
     pub middles-light : (i j l : ℕ) → size (middlesAt 𝒜 l (strictlyBetween 𝒜 row i j)) ≤ load row
     middles-light i j l =
         omega (arith, middles-weight l (strictlyBetween 𝒜 row i j), weights-drop (suc i) (take j row), weights-take j row, weights-load row v)
-
-    -- For a row without a line.
-    pub one-middle-light : size (oneMiddle 𝒜 row) ≤ load row
-    one-middle-light = omega (arith, one-weight row, weights-load row v)
 
     -- The levels of a line.
     pub levels-light : (e : Line) → Spans 𝒜 row e → costs 𝒮 (runLevels 𝒜 row e) ≤ 2 * load row
@@ -336,9 +305,6 @@ module _ {R : Type 0} (𝒜 : Algebra R) {Fine : R → Type 0} (𝒮 : Sizes �
 
         later-light : (es fs : List Line) → es ++ fs ≡ planOfRow row → AllLight (load row) (worked 𝒜 row fs (worked 𝒜 row es []))
         later-light es fs k = subst (AllLight (load row)) (ap (λ (ls : List Line). worked 𝒜 row ls []) (sym k) ∙ worked-append 𝒜 row es fs []) all-light
-
-        pub outs-light : (es fs : List Line) → es ++ fs ≡ planOfRow row → AllLight (load row) (worked 𝒜 row es [])
-        outs-light es fs k = light-before row (load row) fs (worked 𝒜 row es []) (later-light es fs k)
 
         -- For the loop over the lines, at the line e after the lines es.
         pub line-light : (es fs : List Line) (e : Line) → es ++ (e ∷ fs) ≡ planOfRow row → length es ≤ 128 → LineLight row e (worked 𝒜 row es [])

@@ -8,7 +8,6 @@ use native.Mathlib.Omega.{arith}
 use lib.ListN.{length, drop, length-drop}
 use lib.Dec.{T, leb, eqb, lit≤}
 use lib.IntN.{ℤ, pos, negsuc, natAbs}
-use lib.Signed.{leZ}
 use borrow.Author.Tests.{lt-leb, leb-true}
 use Rattle.gate.specs.Outcome.{Outcome, refused, result}
 use Rattle.number.specs.Bytes.{leAt}
@@ -69,11 +68,6 @@ pub within-size : (z : ℤ) → within z ≡ true → natAbs z ≤ 1_000_000_000
 unfolding within
 within-size (pos n) e = leb-true n 1_000_000_000 e
 within-size (negsuc n) e = omega (arith, leb-true n 999_999_999 (and-left (leb n 999_999_999) true e))
-
-pub value-size : {s : List ℕ} {f : Fields} → Sound s f → natAbs (f .value) ≤ 1_000_000_000
-unfolding inRange
-value-size {f} p =
-    within-size (f .value) (and-left (within (f .value)) (within (f .floor)) (and-left _ (within (f .ceiling)) (and-left _ (leZ (f .floor) (f .ceiling)) (and-right (leb (f .depth) 63) _ (p .ranged)))))
 
 -- ---- the records of a chunk
 

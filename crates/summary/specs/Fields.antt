@@ -10,10 +10,6 @@ use lib.Seq.{drop-cons, drop-at, drop-drop, drop-append-add}
 use Rattle.number.specs.Bytes.{leAt, bytesOf}
 use Rattle.number.specs.Laws.{leAt-drop, length-bytesOf}
 
--- a field behind k bytes
-pub field-behind : (n k i : ℕ) (p q : List ℕ) → length p ≡ k → leAt n (p ++ q) (k + i) ≡ leAt n q i
-field-behind n k i p q e = sym (leAt-drop n k (p ++ q) i) ∙ ap (λ (l : List ℕ). leAt n l i) (drop-at p q k e)
-
 -- what a slice of bytes holds
 abbrev pub AllBytes : List ℕ → Type 0
 AllBytes b = (i : ℕ) → getD b i 0 < 256

@@ -136,9 +136,6 @@ numeral-only (d ∷ e ∷ s) m =
 pub digits-only : (n : ℕ) (s : List ℕ) → Numeral s → readDigits s ≡ n → s ≡ digitsOf n
 digits-only n s m e = sym (numeral-only s m) ∙ ap digitsOf e
 
-pub digits-injective : (m n : ℕ) → digitsOf m ≡ digitsOf n → m ≡ n
-digits-injective m n e = sym (read-digits m) ∙ ap (λ (s : List ℕ). readDigits s) e ∙ read-digits n
-
 -- ---- with a sign
 
 -- a text that begins with a digit is not negative
@@ -159,9 +156,6 @@ pub read-decimal : (z : ℤ) → readDecimal (decimalOf z) ≡ z
 unfolding decimalOf readDecimal
 read-decimal (pos n) = read-plain (digitsOf n) (first n) ∙ ap pos (read-digits n)
 read-decimal (negsuc n) = ap (λ (m : ℕ). negℤ (pos m)) (read-digits (suc n))
-
-pub decimal-injective : (y z : ℤ) → decimalOf y ≡ decimalOf z → y ≡ z
-decimal-injective y z e = sym (read-decimal y) ∙ ap readDecimal e ∙ read-decimal z
 
 -- A MINUS EXACTLY WHEN NEGATIVE
 pub minus-negative : (z : ℤ) → (getD (decimalOf z) 0 0 ≡ 45) ↔ (z <ℤ pos 0)
@@ -192,12 +186,6 @@ digits-length (suc k) n h =
     dite (decLt n 10)
     (λ l. rw (digits-one n l) (omega arith))
     (λ l. rw (digits-more n (omega arith), length-append) (omega (arith, digits-length k (n / 10) (omega arith))))
-
--- A 64-BIT NUMBER HAS 1 TO 20 BYTES.
-pub decimal-some : (z : ℤ) → 1 ≤ length (decimalOf z)
-unfolding decimalOf
-decimal-some (pos n) = digits-some n
-decimal-some (negsuc n) = omega arith
 
 pub decimal-length : (z : ℤ) → SFits w64 z → length (decimalOf z) ≤ 20
 unfolding decimalOf

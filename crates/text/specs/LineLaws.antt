@@ -6,12 +6,11 @@ use Prim.Native.Nat.{ℕ, suc, _≤_, _<_}
 use native.Mathlib.Omega.{arith}
 use borrow.Author.Tests.{eq-eqb, ne-eqb}
 use lib.Dec.{lit<, lit≤}
-use lib.ListN.{length, length-append}
 use lib.IntN.{ℤ, pos, negsuc}
 use Rattle.gate.specs.Outcome.{Outcome, refused, result}
 use Rattle.text.specs.Decimal.{digitsOf, decimalOf, Digits}
-use Rattle.text.specs.DecimalLaws.{digits-digits, read-digits, read-decimal, decimal-length, digits-length}
-use Rattle.text.specs.Line.{ascii, lineText, dayLine, pieces, readLine, FiguresFit}
+use Rattle.text.specs.DecimalLaws.{digits-digits, read-digits, read-decimal}
+use Rattle.text.specs.Line.{ascii, lineText, dayLine, pieces, readLine}
 use Rattle.text.specs.declared.Figures.{Figures}
 
 -- ---- cutting
@@ -107,16 +106,3 @@ read-line (result f) =
 
 pub line-injective : (o p : Outcome Figures) → dayLine o ≡ dayLine p → o ≡ p
 line-injective o p e = sym (read-line o) ∙ ap (λ (s : List ℕ). readLine s) e ∙ read-line p
-
--- ---- how long
-
-pub line-length : (f : Figures) → FiguresFit f → length (dayLine (result f)) ≤ 84
-unfolding dayLine ascii
-line-length f v =
-    rw (spread f, length-append, length-append, length-append, length-append)
-    (omega (arith, decimal-length (f .net) (v .net), decimal-length (f .heaviest) (v .heaviest), decimal-length (f .eaten) (v .eaten), decimal-length (f .stamp) (v .stamp)))
-
--- the number of a question has at most two digits; one byte holds at most three
-pub refusal-length : (n : ℕ) → n < 256 → length (dayLine (refused n)) ≤ 12
-unfolding dayLine ascii
-refusal-length n h = rw (refusal n, length-append, length-append) (omega (arith, digits-length 2 n (omega arith)))
