@@ -26,7 +26,8 @@ HERE = pathlib.Path(__file__).resolve().parent
 TIMEOUT_SECONDS = 300
 
 # The tests that take no time; the others follow where these notice nothing.
-QUICK = ["--", "paper::", "gate::", "records::", "question_5::", "rows::pieces", "rows::halves"]
+QUICK = ["--", "paper::", "gate::", "figures::", "records::", "question_5::", "rows::pieces",
+         "rows::halves"]
 
 # Records: bytes, reading, ranges.
 RECORDS = [

@@ -6,7 +6,7 @@ use reference::calls;
 use reference::gate::question_12;
 use tulghimo::raw;
 
-/// Longer than any result: 128 runs have 3,840 bytes.
+/// Longer than any result: 125 runs have 3,750 bytes.
 const AMPLE: usize = 8192;
 
 /// A call that writes bytes. It puts question 12 last, so the reference is asked once.

@@ -1,6 +1,8 @@
-//! Lent buffers with guards around them, for comparing what a call leaves in every byte; [`agree`] compares each call so.
+//! Lent buffers with guards around them, for comparing what a call leaves in every byte; [`agree`] compares each call so, and
+//! [`calls`] has the library's calls with the reference's signatures.
 
 pub mod agree;
+pub mod calls;
 
 /// Numbers that no call answers: a field that still holds one was not written.
 pub const UNTOUCHED: i64 = 0x5aa5_1234_5aa5_4321;
@@ -50,22 +52,28 @@ impl LentBytes {
         LentBytes { all, capacity }
     }
 
-    /// The call's answer, with every byte of the buffer and of the guards held to what the call must come to: the result at the
-    /// front and the rest as it was, or all as it was.
-    pub fn check(mut self, expected: &Result<Vec<u8>, u8>, call: impl FnOnce(&mut [u8]) -> i64) -> i64 {
-        let mut wanted = self.all.clone();
-        let wanted_answer = match expected {
-            Ok(written) => {
-                wanted[GUARD..GUARD + written.len()].copy_from_slice(written);
-                written.len() as i64
-            }
-            Err(number) => -i64::from(*number),
-        };
+    /// What the call comes to: the bytes that it answers to have written, or its refusal. All other bytes, those of the guards with
+    /// them, must be as they were.
+    pub fn lend(mut self, call: impl FnOnce(&mut [u8]) -> i64) -> Result<Vec<u8>, u8> {
+        let before = self.all.clone();
         let answer = call(&mut self.all[GUARD..GUARD + self.capacity]);
-        assert_eq!(answer, wanted_answer, "the library's answer and the reference's, with {} bytes lent", self.capacity);
-        let differs = (0..wanted.len()).find(|&place| self.all[place] != wanted[place]);
-        assert_eq!(differs.map(|place| place as i64 - GUARD as i64), None, "the place of a byte that differs");
-        answer
+        let written = usize::try_from(answer).unwrap_or(0);
+        assert!(written <= self.capacity, "{written} bytes answered, and {} lent", self.capacity);
+        let places = GUARD..GUARD + written;
+        assert_eq!(self.all[..places.start], before[..places.start], "written before the buffer");
+        assert_eq!(self.all[places.end..], before[places.end..], "written past the result");
+        if answer < 0 {
+            return Err(u8::try_from(-answer).expect("a refusal's number"));
+        }
+        Ok(self.all[places].to_vec())
+    }
+
+    /// The call's answer, where it comes to what it must.
+    pub fn check(self, expected: &Result<Vec<u8>, u8>, call: impl FnOnce(&mut [u8]) -> i64) -> i64 {
+        let capacity = self.capacity;
+        let outcome = self.lend(call);
+        assert_eq!(&outcome, expected, "the library's and the reference's, with {capacity} bytes lent");
+        outcome.map_or_else(|number| -i64::from(number), |written| written.len() as i64)
     }
 }
 

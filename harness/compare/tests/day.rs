@@ -2,8 +2,11 @@
 
 use compare::agree::day as agree;
 use compare::LentNumbers;
+use reference::gen::raw::longest_log;
 use reference::gen::{damage, logs, Rng};
+use reference::mode::Mode;
 use reference::record::{encode_all, encode_close, Open, Record};
+use reference::tree::figure_by_holding;
 
 fn open(depth: usize, value: i64, floor: i64, ceiling: i64) -> Record {
     Record::Open(Open { depth, value, floor, ceiling })
@@ -26,8 +29,6 @@ fn edges() {
     agree(&[]);
     agree(&encode_close(1));
     agree(&[1]);
-    agree(&vec![0; 65_537]);
-    agree(&vec![0; 65_536]);
     let pair = [open(0, 1, 0, 9), close(0)];
     agree(&encode_all(&pair));
     agree(&encode_all(&[pair, pair].concat()));
@@ -42,7 +43,21 @@ fn edges() {
 }
 
 #[test]
-fn three_records_of_all_kinds() {
+fn lengths_at_the_limit() {
+    let day = |log: &[u8]| LentNumbers::default().lend(|figures| tulghimo::raw::day(log, figures));
+    // 4,096 records of one gram, 4,095 of them held by the first: stamp 1 + 31 × 4,095.
+    let mut log = longest_log();
+    assert_eq!(day(&log), (0, [4096, 2, 4096, 126_946]));
+    agree(&log);
+    log.push(0);
+    assert_eq!(day(&log).0, -2);
+    agree(&log);
+    agree(&vec![0; 65_536]);
+    agree(&vec![0; 65_537]);
+}
+
+#[test]
+fn four_records_of_all_kinds() {
     let records: Vec<Record> = (0..3).flat_map(|d| [open(d, 5, -1, 3), close(d)]).collect();
     for a in &records {
         for b in &records {
@@ -65,6 +80,19 @@ fn all_small_logs() {
                 agree(&logs::encode_mixed(&mut rng, &log));
             }
         }
+    }
+}
+
+#[test]
+fn figures_by_who_holds_whom() {
+    // Closes and held records searched for in the log, as document 01 has them; no tree.
+    let mut rng = Rng::new(0xda3);
+    for _ in 0..500 {
+        let log = logs::any_log(&mut rng, 60);
+        let expected = Mode::ALL.map(|mode| figure_by_holding(mode, &log, 0));
+        let bytes = logs::encode_mixed(&mut rng, &log);
+        let answer = LentNumbers::default().lend(|figures| tulghimo::raw::day(&bytes, figures));
+        assert_eq!(answer, (0, expected));
     }
 }
 

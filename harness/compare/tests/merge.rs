@@ -7,7 +7,6 @@ use reference::gen::{damage, forged, logs, Rng};
 use reference::layout::encode;
 use reference::mode::Mode;
 use reference::record::{encode_all, Record};
-use reference::replay::{Call, Stretches};
 use reference::summary::{Case, Spoilt, Summary};
 use tulghimo::raw;
 
@@ -238,40 +237,15 @@ fn rows_of_chunks() {
 }
 
 #[test]
-fn lists_of_merges_with_buffers_that_do_not_fit() {
-    let mut rng = Rng::new(0x3e7);
-    for round in 0..400 {
-        let log = logs::any_log(&mut rng, if round % 20 == 0 { 300 } else { 40 });
-        let mode = rng.pick(&Mode::ALL);
-        let count = 2 + rng.below(if round % 20 == 0 { 63 } else { 8 });
-        let chunks = logs::cut(&mut rng, &log, count);
-        let steps = logs::merge_list(&mut rng, mode, &chunks);
-        let mut row: Vec<Vec<u8>> = chunks.iter().map(|chunk| summary(chunk, mode)).collect();
-        let mut stretches = Stretches { mode, stretches: chunks };
-        for step in &steps {
-            let range = step.place..step.place + step.count;
-            let lent = row[range.clone()].concat();
-            let joined = stretches.joined(step.place, step.count);
-            let expected = stretches.step(step).map(|_| joined.clone());
-            LentBytes::new(step.capacity).check(&expected, |out| match step.call {
-                Call::Merge => raw::merge(&row[step.place], &row[step.place + 1], out),
-                Call::MergeRow => raw::merge_row(&lent, out),
-            });
-            if expected.is_ok() {
-                row.splice(range, [joined]);
-            }
-            assert_eq!(row, stretches.row());
-        }
-    }
-}
-
-#[test]
 fn opened_100_000_and_100_001() {
     for opened in [99_999, 100_000, 100_001, 100_500] {
         let log = logs::flat(opened);
         for mode in Mode::ALL {
-            let row: Vec<Vec<u8>> = log.chunks(5000).map(|chunk| summary(chunk, mode)).collect();
-            row_agrees(&row.concat());
+            let row = log.chunks(5000).map(|chunk| summary(chunk, mode)).collect::<Vec<_>>().concat();
+            row_agrees(&row);
+            // The stretch is longer than any chunk: some 2.4 MB.
+            let whole = Ok(encode(&reference::summary::summary_of(mode, &log)));
+            LentBytes::new(AMPLE).check(&whole, |out| raw::merge_row(&row, out));
         }
     }
 }

@@ -4,9 +4,10 @@ use compare::{agree, LentBytes, LentNumbers};
 use reference::calls;
 use reference::gen::{damage, forged, logs, Rng};
 use reference::layout::encode;
-use reference::mode::Mode;
+use reference::mode::{Held, Mode};
 use reference::plan::{encode_plan, plan_by_records};
 use reference::record::{encode_all, Record};
+use reference::run::join_by_records;
 use reference::tree::log_figure;
 use reference::work::levels_folded;
 
@@ -47,6 +48,40 @@ fn lines_are_the_joins_by_records() {
         let row = row_of(&chunks, Mode::Net);
         let expected = Ok(encode_plan(&plan_by_records(&chunks)));
         LentBytes::new(AMPLE).check(&expected, |out| tulghimo::raw::plan(&row, out));
+    }
+}
+
+/// x through a run by its three numbers, in document 01's words for each mode.
+fn through(run: &tulghimo::Run, x: Held) -> i64 {
+    let [first, second, third] = run.numbers;
+    match (run.mode, x) {
+        (tulghimo::Mode::Net, x) => x.unwrap_or(0) + first,
+        (tulghimo::Mode::Heaviest, None) => first,
+        (tulghimo::Mode::Heaviest, Some(x)) => second.max(x + third),
+        (tulghimo::Mode::Eaten, x) => (x.unwrap_or(0) + first).max(second).min(third),
+        (tulghimo::Mode::Stamp, x) => {
+            let product = i128::from(first) * i128::from(x.unwrap_or(0));
+            (product + i128::from(second)).rem_euclid(1 << 32) as i64
+        }
+    }
+}
+
+#[test]
+fn a_run_is_the_figure_of_its_lowest_record_by_x() {
+    let mut rng = Rng::new(0x91a8);
+    for _ in 0..300 {
+        let log = logs::any_log(&mut rng, 40);
+        let count = 2 + rng.below(9);
+        let chunks = logs::cut(&mut rng, &log, count);
+        let lines = plan_by_records(&chunks);
+        for mode in Mode::ALL {
+            let runs = tulghimo::runs(&row_of(&chunks, mode)).expect("a well-formed log");
+            assert_eq!(runs.len(), lines.len());
+            for (run, line) in runs.iter().zip(&lines) {
+                let (x, figure) = join_by_records(mode, &chunks, line);
+                assert_eq!(through(run, x), figure, "{line:?}");
+            }
+        }
     }
 }
 

@@ -69,7 +69,7 @@ fn an_unreadable_record_comes_before_a_fault() {
 
 #[test]
 fn full_chunks_and_one_byte_more() {
-    // 65,536 bytes: 3,640 pairs of 18 bytes (an open of 10 and a close of 6, within an outer record), padded by full records.
+    // 65,536 bytes: some 4,090 pairs of 16 bytes (an open of 10 and a close of 6) within an outer record, padded by full opens.
     let mut chunk = encode_full(&Open { depth: 0, value: 1, floor: 0, ceiling: 1000 });
     while chunk.len() + 16 + 6 <= 65_536 - 32 {
         chunk.extend(encode_short(1, 3));
@@ -77,7 +77,7 @@ fn full_chunks_and_one_byte_more() {
     }
     while chunk.len() < 65_536 - 6 {
         let left = 65_536 - 6 - chunk.len();
-        if left % 16 == 0 {
+        if left.is_multiple_of(16) {
             chunk.extend(encode_short(1, 2));
         } else {
             chunk.extend(encode_full(&Open { depth: 1, value: -4, floor: -5, ceiling: 5 }));

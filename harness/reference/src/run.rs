@@ -1,9 +1,12 @@
 //! "Plan and runs": the run of a join.
 
 use crate::bytes::put;
+use crate::log::{closer, held, opens};
 use crate::mode::{between, combine, modulo_2_32, stored, through, Held, Mode};
 use crate::plan::Line;
+use crate::record::Record;
 use crate::summary::{Case, Hill, Summary};
+use crate::tree::figure_by_holding;
 
 /// A run's numbers, in each mode those that it has.
 #[derive(Clone, Copy, Debug, PartialEq, Eq)]
@@ -123,6 +126,32 @@ pub fn put_through(run: &Run, x: Held) -> i64 {
             modulo_2_32((product.rem_euclid(1 << 32)) as i64 + q)
         }
     }
+}
+
+/// The x of a line of a cut log's plan and the figure that its run must give there, both
+/// from the records of the uncut log.
+pub fn join_by_records(mode: Mode, chunks: &[Vec<Record>], line: &Line) -> (Held, i64) {
+    let log = chunks.concat();
+    let mut chunk_of = Vec::new();
+    for (number, chunk) in chunks.iter().enumerate() {
+        chunk_of.extend(vec![number; chunk.len()]);
+    }
+    let lies_in = |place: usize| (chunk_of[place], chunk_of[closer(&log, place).unwrap()]);
+    let record_at = |depth: usize| {
+        opens(&log)
+            .into_iter()
+            .find(|&place| log[place].depth() == depth && lies_in(place) == (line.i, line.j))
+            .unwrap()
+    };
+    // "those records held directly by its highest-depth record that lie neither wholly
+    // in i nor wholly in j"
+    let parts: Vec<Held> = held(&log, record_at(line.highest))
+        .into_iter()
+        .filter(|&place| ![(line.i, line.i), (line.j, line.j)].contains(&lies_in(place)))
+        .map(|place| Some(figure_by_holding(mode, &log, place)))
+        .collect();
+    let figure = figure_by_holding(mode, &log, record_at(line.lowest));
+    (combine(mode, &parts), figure)
 }
 
 /// A run's mode and three numbers. Where A is nothing, it "is stored as -2^63".

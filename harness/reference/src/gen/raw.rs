@@ -109,3 +109,12 @@ pub fn log_d() -> Vec<Vec<u8>> {
         close(0),
     ]
 }
+
+/// A well-formed log of 65,536 bytes: the first record takes 10 + 6, each of the 4,095
+/// that it holds 16, and 4,096 × 16 = 65,536. All have one gram.
+pub fn longest_log() -> Vec<u8> {
+    let held = [short(1, 1), close(1)].concat().repeat(4095);
+    let log = [short(0, 1), held, close(0)].concat();
+    assert_eq!(log.len(), 65_536);
+    log
+}

@@ -6,13 +6,13 @@ use reference::gen::logs::{all_shapes, any_log, cut, encode_mixed, of_shape, ope
 use reference::gen::logs::{flat, Values, VALUES};
 use reference::gen::Rng;
 use reference::layout::{decode, encode, is_summary};
-use reference::log::{closer, fault, held, opened, opens};
+use reference::log::{fault, held, opened};
 use reference::merge::merge;
-use reference::mode::{combine, Held, Mode};
-use reference::plan::{joins_by_records, plan_by_levels, plan_by_records, Line};
+use reference::mode::Mode;
+use reference::plan::{joins_by_records, plan_by_levels, plan_by_records};
 use reference::record::{records_of, Record};
 use reference::row::{self, merge_row};
-use reference::run::{put_through, run_of};
+use reference::run::{join_by_records, put_through, run_of};
 use reference::summary::{finish, summary_of, Case, Summary};
 use reference::tree::{figure_by_holding, figures, log_figure, tree_of, write};
 use reference::work::{levels_folded, work};
@@ -172,44 +172,9 @@ fn check_plan(mode: Mode, log: &[Record], chunks: &[Vec<Record>]) {
     assert_eq!(row::fault(&row), None);
     assert_eq!(finish(&merge_row(&row)), Ok(worked.figure));
     for line in &lines {
-        check_run(mode, log, chunks, &row, line);
+        let (x, figure) = join_by_records(mode, chunks, line);
+        assert_eq!(put_through(&run_of(&row, line), x), figure);
     }
-}
-
-/// "The run of a join is the figure of its lowest-depth record as a function of x",
-/// with that figure and x both taken from the records of the uncut log.
-fn check_run(mode: Mode, log: &[Record], chunks: &[Vec<Record>], row: &[Summary], line: &Line) {
-    let chunk_starts: Vec<usize> = (0..chunks.len())
-        .map(|number| chunks[..number].concat().len())
-        .collect();
-    let chunk_of = |place: usize| {
-        (0..chunks.len())
-            .rfind(|&number| chunk_starts[number] <= place && !chunks[number].is_empty())
-            .unwrap()
-    };
-    let record_at = |depth: usize| {
-        opens(log)
-            .into_iter()
-            .find(|&place| {
-                log[place].depth() == depth
-                    && chunk_of(place) == line.i
-                    && chunk_of(closer(log, place).unwrap()) == line.j
-            })
-            .unwrap()
-    };
-    let wholly_in = |place: usize, number: usize| {
-        chunk_of(place) == number && chunk_of(closer(log, place).unwrap()) == number
-    };
-    let parts: Vec<Held> = held(log, record_at(line.highest))
-        .into_iter()
-        .filter(|&place| !wholly_in(place, line.i) && !wholly_in(place, line.j))
-        .map(|place| Some(figure_by_holding(mode, log, place)))
-        .collect();
-    let x = combine(mode, &parts);
-    assert_eq!(
-        put_through(&run_of(row, line), x),
-        figure_by_holding(mode, log, record_at(line.lowest))
-    );
 }
 
 #[test]

@@ -1,6 +1,5 @@
 //! Accepted summaries that no chunk makes: "All accepted bytes merge so".
 
-use reference::gen::raw::{nothing, words, Hill};
 use crate::rewrite::is_merge;
 use reference::calls;
 use reference::gen::damage::{damage, noise};
@@ -11,7 +10,7 @@ use reference::merge::merge;
 use reference::mode::{stored, Held, Mode};
 use reference::plan::plan_by_levels;
 use reference::row::{fault, merge_row, pieces};
-use reference::run::{figure_of_join, numbers, put_through, run_of};
+use reference::run::{figure_of_join, put_through, run_of};
 use reference::summary::{finish, Case, Summary};
 use reference::work::work;
 
@@ -163,99 +162,6 @@ fn work_runs_and_merge_agree_on_forged_rows() {
             ))
         );
     }
-}
-
-#[test]
-fn a_run_of_the_greatest_depth() {
-    // 64 levels on both sides; each record has value 1, holds 2 so far, and the right
-    // adds 3 at each level.
-    let slopes = |mode: u16| {
-        let down = Hill {
-            mode,
-            start: 0,
-            peak: 0,
-            end: 64,
-            opened: 64 + 128,
-            left: vec![],
-            middle: nothing(mode),
-            right: vec![(1, -1_000_000_000, 1_000_000_000, 2); 64],
-        };
-        let up = Hill {
-            mode,
-            start: 64,
-            peak: 0,
-            end: 0,
-            opened: 192,
-            left: vec![3; 64],
-            middle: nothing(mode),
-            right: vec![],
-        };
-        [down.bytes(), up.bytes()].concat()
-    };
-    let run = |mode: u16| calls::runs(&slopes(mode), 30).unwrap();
-    let bytes = |mode: u16, numbers: [i64; 3]| {
-        let numbers = numbers.map(i64::to_le_bytes).concat();
-        [words(&[30, 20, mode]), numbers].concat()
-    };
-    // 64 × (1 + 2 + 3).
-    assert_eq!(run(1), bytes(1, [384, 0, 0]));
-    // x + 64 values; beside x the 3 of the deepest level over 64 values.
-    assert_eq!(run(2), bytes(2, [67, 67, 64]));
-    // The deepest record gives -10^9 to 10^9. In all records above it 6 are added, and
-    // the ceiling binds: from -10^9 + 63 × 6 to 10^9.
-    assert_eq!(run(3), bytes(3, [384, -1_000_000_000 + 378, 1_000_000_000]));
-    for mode in 1..=4 {
-        assert_eq!(
-            calls::plan(&slopes(mode), 12),
-            Ok(words(&[12, 19, 0, 1, 0, 63]))
-        );
-    }
-}
-
-#[test]
-fn nothing_beside_x_in_mode_2() {
-    // open 0 value 10 / close 0, with a closed record between: A is nothing.
-    let down = Hill {
-        mode: 2,
-        start: 0,
-        peak: 0,
-        end: 1,
-        opened: 1,
-        left: vec![],
-        middle: nothing(2),
-        right: vec![(10, 0, 9, nothing(2))],
-    };
-    let middle = Hill {
-        mode: 2,
-        start: 1,
-        peak: 1,
-        end: 1,
-        opened: 1,
-        left: vec![],
-        middle: -3,
-        right: vec![],
-    };
-    let up = Hill {
-        mode: 2,
-        start: 1,
-        peak: 0,
-        end: 0,
-        opened: 0,
-        left: vec![nothing(2)],
-        middle: nothing(2),
-        right: vec![],
-    };
-    let row = [down.bytes(), middle.bytes(), up.bytes()];
-    let expected = [10i64, i64::MIN, 10].map(i64::to_le_bytes).concat();
-    assert_eq!(
-        calls::runs(&row.concat(), 30),
-        Ok([words(&[30, 20, 2]), expected].concat())
-    );
-    assert_eq!(calls::work(&row.concat()), Ok((7, 1, 1)));
-    let summaries: Vec<Summary> = row.iter().map(|bytes| decode(bytes).unwrap()).collect();
-    let line = plan_by_levels(&summaries)[0];
-    let (_, numbers) = numbers(&run_of(&summaries, &line));
-    assert_eq!(numbers, [10, i64::MIN, 10]);
 }
 
 #[test]

@@ -1,7 +1,8 @@
-//! "The questions at the gate": which call puts which, and in which order.
+//! "The questions at the gate": which call puts which, and in which order. `compare`
+//! puts them to the library.
 
+use crate::calls::{day, finish, merge, merge_row, plan, read, runs, summarise, work};
 use reference::gen::raw::{blank, close, log_d, nothing, open, short, spoilt, Hill};
-use reference::calls::{day, finish, merge, merge_row, plan, read, runs, summarise, work};
 
 /// A hill that begins or ends elsewhere than at level 0: "open 0".
 fn open_hill(mode: u16) -> Vec<u8> {

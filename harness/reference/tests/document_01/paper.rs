@@ -1,9 +1,10 @@
 //! Every worked figure of document 01, "Along the edges", and the four slips drawn
-//! on paper.
+//! on paper. `crate::calls` are the reference's here and the library's in `compare`,
+//! which has this file too.
 
-use reference::gen::raw::{blank, close, log_d, nothing, open, short, spoilt, words, Hill};
-use reference::calls::{
-    day, day_text, finish, merge, merge_row, plan, read, runs, summarise, work,
+use crate::calls::{day, day_text, finish, merge, merge_row, plan, read, runs, summarise, work};
+use reference::gen::raw::{
+    blank, close, log_d, longest_log, nothing, open, short, spoilt, words, Hill,
 };
 
 const MODES: [u16; 4] = [1, 2, 3, 4];
@@ -226,17 +227,10 @@ fn a_whole_log_down_to_depth_63() {
 
 #[test]
 fn chunks_of_65536_and_65537_bytes() {
-    // A log of 65,536 bytes: the root takes 10 + 6, each other pair 16, and
-    // 4,096 × 16 = 65,536.
-    let mut log = short(0, 1);
-    for _ in 1..4096 {
-        log.extend(short(1, 1));
-        log.extend(close(1));
-    }
-    log.extend(close(0));
-    assert_eq!(log.len(), 65_536);
-    let [net, heaviest, ..] = day(&log).unwrap();
-    assert_eq!([net, heaviest], [4096, 2]);
+    // 4,096 records of one gram, 4,095 of them held by the first: stamp 1 + 31 × 4,095.
+    let mut log = longest_log();
+    assert_eq!(day(&log), Ok([4096, 2, 4096, 126_946]));
+    assert_eq!(day_text(&log), b"4096 2 4096 126946\n");
     assert_eq!(summarise(&log, 1, 24).map(|bytes| bytes.len()), Ok(24));
     log.push(0);
     assert_eq!(day(&log), Err(2));
@@ -246,33 +240,61 @@ fn chunks_of_65536_and_65537_bytes() {
 
 /// A flat log with so many opened records of one gram, cut into chunks of at most
 /// 65,536 bytes: the row of its summaries.
-fn long_row(opened: usize) -> Vec<Vec<u8>> {
+fn long_row(opened: usize, mode: u16) -> Vec<u8> {
     let records = reference::gen::logs::flat(opened);
     let chunk_summary = |chunk: &[reference::record::Record]| {
         let bytes = reference::record::encode_all(chunk);
-        summarise(&bytes, 1, AMPLE).unwrap()
+        summarise(&bytes, mode.into(), AMPLE).unwrap()
     };
-    records.chunks(5000).map(chunk_summary).collect()
+    records.chunks(5000).flat_map(chunk_summary).collect()
+}
+
+/// A run of one record of one gram with default floor and ceiling that holds so many
+/// of its kind, x aside.
+fn run_of_one(mode: u16, held: i64) -> Vec<u8> {
+    let numbers = match mode {
+        1 => [1 + held, 0, 0],
+        2 if held == 0 => [1, nothing(2), 1],
+        2 => [2, 2, 1],
+        3 => [1 + held, -1_000_000_000, 1_000_000_000],
+        _ => [31, 1 + 31 * held, 0],
+    };
+    [words(&[30, 20, mode]), numbers.map(i64::to_le_bytes).concat()].concat()
 }
 
 #[test]
 fn opened_100_000_is_taken() {
-    let row = long_row(100_000).concat();
-    let merged = merge_row(&row, AMPLE).unwrap();
-    assert_eq!(finish(&merged), Ok(100_000));
-    let (figure, _, _) = work(&row).unwrap();
-    assert_eq!(figure, 100_000);
-    assert!(plan(&row, AMPLE).is_ok());
+    // 40 chunks of 5,000 records. Each but the last ends within a record that the next
+    // closes, and the last closes the first record.
+    let mut lines: Vec<_> = (1..40).map(|j| words(&[12, 19, j - 1, j, 1, 1])).collect();
+    lines.push(words(&[12, 19, 0, 39, 0, 0]));
+    for mode in MODES {
+        let row = long_row(100_000, mode);
+        // Heaviest 1 + 1; stamp 1 + 31 × 99,999.
+        let figure = [100_000, 2, 100_000, 3_099_970][usize::from(mode) - 1];
+        let merged = merge_row(&row, AMPLE).unwrap();
+        assert_eq!(finish(&merged), Ok(figure));
+        assert_eq!(work(&row), Ok((figure, 40, 40)));
+        assert_eq!(plan(&row, AMPLE), Ok(lines.concat()));
+        // The first record holds 2,499 wholly in the first chunk, as many in the last.
+        let expected = [run_of_one(mode, 0).repeat(39), run_of_one(mode, 2 * 2499)];
+        assert_eq!(runs(&row, AMPLE), Ok(expected.concat()), "mode {mode}");
+    }
 }
 
 #[test]
 fn opened_100_001_gives_9() {
-    let row = long_row(100_001).concat();
-    assert_eq!(merge_row(&row, 16), Ok(spoilt(1, 9, 0, 0, 100_001)));
-    assert_eq!(finish(&spoilt(1, 9, 0, 0, 100_001)), Err(9));
-    assert_eq!(plan(&row, 0), Err(9));
-    assert_eq!(runs(&row, 0), Err(9));
-    assert_eq!(work(&row), Err(9));
+    for mode in MODES {
+        let row = long_row(100_001, mode);
+        let merged = spoilt(mode, 9, 0, 0, 100_001);
+        assert_eq!(merge_row(&row, 16), Ok(merged.clone()));
+        assert_eq!(finish(&merged), Err(9));
+        for capacity in [0, AMPLE] {
+            assert_eq!(plan(&row, capacity), Err(9));
+            assert_eq!(runs(&row, capacity), Err(9));
+        }
+        assert_eq!(work(&row), Err(9));
+    }
 }
 
 #[test]
@@ -360,31 +382,4 @@ fn slip_the_level_at_the_peak_counted_on_both_slopes() {
     };
     assert_eq!(summary(&chunk, 1), hill.bytes());
     assert_eq!(hill.bytes().len(), 52);
-}
-
-#[test]
-fn the_example_tree_of_the_report() {
-    // METR 2006-64, section III-B: the heaviest line of its example tree is
-    // "12 contributed by the path [3, -5, 6, 8]". Here that path with a branch beside
-    // each record, none of which may win.
-    let records = [
-        short(0, 3),
-        short(1, 4),
-        close(1),
-        short(1, -5),
-        short(2, 1),
-        close(2),
-        short(2, 6),
-        short(3, -1),
-        close(3),
-        short(3, 8),
-        close(3),
-        close(2),
-        close(1),
-        short(1, 5),
-        close(1),
-        close(0),
-    ];
-    let [_, heaviest, ..] = day(&records.concat()).unwrap();
-    assert_eq!(heaviest, 12);
 }

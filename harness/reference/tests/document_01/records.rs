@@ -1,7 +1,7 @@
 //! "Records": what is readable, levels, faults, who closes and holds whom.
 
 use reference::gen::raw::{close, open, short, words};
-use reference::calls::{day, read, summarise};
+use reference::calls::read;
 use reference::log::{closer, fault, held};
 use reference::record::{encode_close, encode_full, encode_short, records_of, Open, Record};
 use reference::tree::{figure_by_holding, figures};
@@ -93,18 +93,9 @@ fn the_rest_is_read_as_a_chunk_of_its_own() {
     let good = [open(0, 10, 0, 100), close(0)].concat();
     assert_eq!(records_of(&good).map(|records| records.len()), Some(2));
     // One unreadable record anywhere, or bytes left over, spoil the chunk.
-    let cases = [
-        [close(64), good.clone()].concat(),
-        [good.clone(), close(64)].concat(),
-        [good.clone(), vec![0]].concat(),
-        [good.clone(), vec![6, 0, 2, 0, 0]].concat(),
-        good[..good.len() - 1].to_vec(),
-    ];
-    for chunk in cases {
-        assert_eq!(records_of(&chunk), None);
-        assert_eq!(summarise(&chunk, 1, 100), Err(3));
-        assert_eq!(day(&chunk), Err(3));
-    }
+    assert_eq!(records_of(&[close(64), good.clone()].concat()), None);
+    assert_eq!(records_of(&[good.clone(), vec![0]].concat()), None);
+    assert_eq!(records_of(&good[..good.len() - 1]), None);
 }
 
 fn log(text: &str) -> Vec<Record> {
@@ -190,33 +181,4 @@ fn every_record_has_a_figure_of_its_own() {
         [(0, 4155), (1, 126), (2, 4), (5, 8)]
     );
     assert_eq!(figure_by_holding(Stamp, &whole, 1), 126);
-}
-
-#[test]
-fn stamps_wrap() {
-    // -1 is 2^32 - 1; 0 over it is 31 × (2^32 - 1) = -31, that is 2^32 - 31; two of
-    // those held by 5 are 5 + 31 × (-62) = -1917, that is 4,294,965,379.
-    let half = [short(1, 0), short(2, -1), close(2), close(1)].concat();
-    let bytes = [short(0, 5), half.clone(), half, close(0)].concat();
-    assert_eq!(day(&bytes).map(|figures| figures[3]), Ok(4_294_965_379));
-}
-
-#[test]
-fn floors_and_ceilings_bind() {
-    // 3 + 5 lowered to 6; that and -9 raised to -2: 1 + 6 - 2 = 5, raised to 7.
-    let bytes = [
-        open(0, 1, 7, 8),
-        open(1, 3, 0, 6),
-        short(2, 5),
-        close(2),
-        close(1),
-        open(1, -9, -2, 2),
-        close(1),
-        close(0),
-    ];
-    // net 1 + 3 + 5 - 9 = 0; heaviest 1 + 3 + 5.
-    assert_eq!(
-        day(&bytes.concat()).map(|figures| [figures[0], figures[1], figures[2]]),
-        Ok([0, 9, 7])
-    );
 }
