@@ -11,8 +11,6 @@
 #include <stdlib.h>
 #include <string.h>
 
-enum { LONGEST_SUMMARY = 1788, LONGEST_PLAN = 1500 };
-
 /* open 0 value 10 floor 0 ceiling 100; open 1 value 5 floor 0 ceiling 4 */
 static const uint8_t first_stretch[] = {
     18, 0, 1, 0, 0, 0, 10, 0, 0, 0, 0, 0, 0, 0, 100, 0, 0, 0, /**/
@@ -29,7 +27,7 @@ static const uint8_t second_stretch[] = {
 
 /* A summary as it is sent. */
 struct summary {
-    uint8_t bytes[LONGEST_SUMMARY];
+    uint8_t bytes[TULGHIMO_LONGEST_SUMMARY];
     size_t length;
 };
 
@@ -72,26 +70,26 @@ static unsigned number_at(const uint8_t *bytes, size_t place) {
 
 /* Prints the join plan of a row of two: the chunks i and j, and the lowest and highest depth that they share. */
 static void plan(const struct summary *left, const struct summary *right) {
-    uint8_t row[2 * LONGEST_SUMMARY];
-    uint8_t lines[LONGEST_PLAN];
+    uint8_t row[2 * TULGHIMO_LONGEST_SUMMARY];
+    uint8_t lines[TULGHIMO_LONGEST_PLAN];
     memcpy(row, left->bytes, left->length);
     memcpy(row + left->length, right->bytes, right->length);
     size_t length = length_or_stop(tulghimo_plan(row, left->length + right->length, lines, sizeof lines));
-    for (size_t at = 0; at < length; at += 12)
+    for (size_t at = 0; at < length; at += TULGHIMO_LINE)
         printf("plan: %u %u %u %u\n", number_at(lines, at + 4), number_at(lines, at + 6), number_at(lines, at + 8),
                number_at(lines, at + 10));
 }
 
 int main(void) {
-    for (uint32_t mode = 1; mode <= 4; mode++) {
+    for (uint32_t mode = TULGHIMO_NET; mode <= TULGHIMO_STAMP; mode++) {
         struct summary one = summarise(first_stretch, sizeof first_stretch, mode);
         struct summary two = summarise(second_stretch, sizeof second_stretch, mode);
         struct summary both = merge(&one, &two);
         printf("mode %" PRIu32 ": the stations send %zu and %zu bytes, the office finishes with ", mode, one.length, two.length);
         finish(&both);
     }
-    struct summary one = summarise(first_stretch, sizeof first_stretch, 1);
-    struct summary two = summarise(second_stretch, sizeof second_stretch, 1);
+    struct summary one = summarise(first_stretch, sizeof first_stretch, TULGHIMO_NET);
+    struct summary two = summarise(second_stretch, sizeof second_stretch, TULGHIMO_NET);
     plan(&one, &two);
     printf("the first stretch alone: ");
     finish(&one);

@@ -1,7 +1,8 @@
 /* Tulghimo's C interface. Link target/staticlib/libtulghimo.a.
  *
- * A refusal is the negative number of the question that got a "no"; nothing is written then.
- * A pointer may be NULL where its length is 0. A buffer does not overlap an input. */
+ * A call answers 0 or a length, or it is refused: the answer is minus the number of the question that got a "no", and nothing is
+ * written. Of several the lowest is answered. A pointer may be NULL where its length is 0. A buffer does not overlap an input.
+ * Numbers in bytes are little-endian. */
 #ifndef TULGHIMO_H
 #define TULGHIMO_H
 
@@ -12,32 +13,66 @@
 extern "C" {
 #endif
 
-/* The first record of a chunk: 0 and kind, length, depth, value, floor and ceiling (the last three 0 for a close), or -3.
- * Later bytes are not judged. */
+/* The figure that is asked for. */
+enum tulghimo_mode {
+    TULGHIMO_NET = 1,      /* a record's value and the held figures, added */
+    TULGHIMO_HEAVIEST = 2, /* a record's value and the greatest held figure */
+    TULGHIMO_EATEN = 3,    /* as net, but at each record raised to its floor and lowered to its ceiling */
+    TULGHIMO_STAMP = 4     /* a record's value and 31 times the held stamps, modulo 2^32 */
+};
+
+/* Why a call is refused: it answers minus one of these. */
+enum tulghimo_refusal {
+    TULGHIMO_REFUSED_MODE = 1,             /* the mode is not 1 to 4 */
+    TULGHIMO_REFUSED_TOO_LONG = 2,         /* the chunk is longer than 65,536 bytes */
+    TULGHIMO_REFUSED_UNREADABLE = 3,       /* a record is not readable */
+    TULGHIMO_REFUSED_PIECE_COUNT = 4,      /* there are not 2 to 64 pieces */
+    TULGHIMO_REFUSED_NOT_A_SUMMARY = 5,    /* a given piece is not exactly one summary */
+    TULGHIMO_REFUSED_MIXED_MODES = 6,      /* the pieces are not all of one mode */
+    TULGHIMO_REFUSED_LEVEL_GAP = 7,        /* neighbouring records do not meet at one level */
+    TULGHIMO_REFUSED_LEVEL_ZERO = 8,       /* a level between records is 0 */
+    TULGHIMO_REFUSED_TOO_MANY_OPENED = 9,  /* more than 100,000 records are opened */
+    TULGHIMO_REFUSED_NO_RECORD = 10,       /* there is no record */
+    TULGHIMO_REFUSED_NOT_WHOLE = 11,       /* the log does not begin and end at level 0 */
+    TULGHIMO_REFUSED_BUFFER_TOO_SHORT = 12 /* the result does not fit the lent buffer */
+};
+
+/* Lengths in bytes. A buffer of the longest is never too short. */
+enum tulghimo_length {
+    TULGHIMO_LONGEST_CHUNK = 65536,
+    TULGHIMO_LONGEST_SUMMARY = 1788,
+    TULGHIMO_LINE = 12, /* length 12, kind 19, chunks i and j, lowest and highest depth: 16 bits each */
+    TULGHIMO_LONGEST_PLAN = 125 * TULGHIMO_LINE,
+    TULGHIMO_RUN = 30, /* length 30, kind 20, mode: 16 bits each; three signed 64-bit numbers */
+    TULGHIMO_LONGEST_RUNS = 125 * TULGHIMO_RUN
+};
+
+/* The first record of a chunk: 0 and kind (1 open, 2 close), length, depth, value, floor and ceiling (the last three 0 for a
+ * close), or -3. Later bytes are not judged. */
 int64_t tulghimo_read(const uint8_t *chunk, size_t n, int64_t fields[6]);
 
-/* The summary of a chunk of at most 65,536 bytes, in mode 1 to 4: its length, at most 1,788, or -1, -2, -3 or -12. */
+/* The summary of a chunk, in a mode: its length, or -1, -2, -3 or -12. */
 int64_t tulghimo_summarise(const uint8_t *chunk, size_t n, uint32_t mode, uint8_t *out, size_t cap);
 
-/* Two summaries merged, the left first: the length of theirs, at most 1,788, or -5, -6 or -12. */
+/* Two summaries merged, the left first: the length of theirs, or -5, -6 or -12. */
 int64_t tulghimo_merge(const uint8_t *left, size_t ln, const uint8_t *right, size_t rn, uint8_t *out, size_t cap);
 
-/* A row of 2 to 64 summaries, end to end, merged: the length of theirs, at most 1,788, or -4, -5, -6 or -12. */
+/* A row of 2 to 64 summaries, end to end, merged: the length of theirs, or -4, -5, -6 or -12. */
 int64_t tulghimo_merge_row(const uint8_t *row, size_t n, uint8_t *out, size_t cap);
 
 /* The figure of one summary: 0 and the figure, or -5 or -7 to -11. */
 int64_t tulghimo_finish(const uint8_t *summary, size_t n, int64_t figure[1]);
 
-/* The join plan of a row of 2 to 64 summaries, end to end: the length of its lines, 12 bytes each and at most 1,500, or -4 to -12. */
+/* The join plan of a row of 2 to 64 summaries, end to end: the length of its lines, or -4 to -12. */
 int64_t tulghimo_plan(const uint8_t *row, size_t n, uint8_t *out, size_t cap);
 
-/* The runs of that plan, one for each line, in its order: their length, 30 bytes each and at most 3,750, or -4 to -12. */
+/* The runs of that plan, one for each line, in its order: their length, or -4 to -12. */
 int64_t tulghimo_runs(const uint8_t *row, size_t n, uint8_t *out, size_t cap);
 
 /* The work along the plan of a row: 0 and the figure, the joins used and the number of levels folded, or -4 to -11. */
 int64_t tulghimo_work(const uint8_t *row, size_t n, int64_t totals[3]);
 
-/* The figures of a whole log of at most 65,536 bytes: 0 and net, heaviest, eaten and stamp, or -2, -3 or -7 to -11. */
+/* The figures of a whole log, of the length of a chunk: 0 and net, heaviest, eaten and stamp, or -2, -3 or -7 to -11. */
 int64_t tulghimo_day(const uint8_t *log, size_t n, int64_t figures[4]);
 
 #ifdef __cplusplus

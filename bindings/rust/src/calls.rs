@@ -2,12 +2,6 @@
 
 use crate::{raw, Figures, Kind, Line, Mode, Record, Refusal, Run, Work};
 
-/// No summary is longer, in bytes.
-const LONGEST_SUMMARY: usize = 1_788;
-
-/// The plan of 64 summaries has at most 2 × 64 - 3 lines.
-const MOST_LINES: usize = 125;
-
 /// The number that a C function answers, or the refusal that it stands for.
 fn answer(status: i64) -> Result<usize, Refusal> {
     match usize::try_from(status) {
@@ -67,7 +61,7 @@ pub fn read(chunk: &[u8]) -> Result<Record, Refusal> {
 /// # Ok::<(), tulghimo::Refusal>(())
 /// ```
 pub fn summarise(chunk: &[u8], mode: Mode) -> Result<Vec<u8>, Refusal> {
-    written(LONGEST_SUMMARY, |out| raw::summarise(chunk, mode.number(), out))
+    written(raw::LONGEST_SUMMARY, |out| raw::summarise(chunk, mode.number(), out))
 }
 
 /// Two summaries merged: the summary of the joined chunks, the left one first. Refused: 5, 6.
@@ -84,7 +78,7 @@ pub fn summarise(chunk: &[u8], mode: Mode) -> Result<Vec<u8>, Refusal> {
 /// # Ok::<(), tulghimo::Refusal>(())
 /// ```
 pub fn merge(left: &[u8], right: &[u8]) -> Result<Vec<u8>, Refusal> {
-    written(LONGEST_SUMMARY, |out| raw::merge(left, right, out))
+    written(raw::LONGEST_SUMMARY, |out| raw::merge(left, right, out))
 }
 
 /// A row of 2 to 64 summaries, end to end in one slice, merged. Refused: 4, 5, 6.
@@ -99,7 +93,7 @@ pub fn merge(left: &[u8], right: &[u8]) -> Result<Vec<u8>, Refusal> {
 /// # Ok::<(), Refusal>(())
 /// ```
 pub fn merge_row(row: &[u8]) -> Result<Vec<u8>, Refusal> {
-    written(LONGEST_SUMMARY, |out| raw::merge_row(row, out))
+    written(raw::LONGEST_SUMMARY, |out| raw::merge_row(row, out))
 }
 
 /// The join plan of a row of 2 to 64 summaries, end to end in one slice. Refused: 4 to 11.
@@ -113,7 +107,7 @@ pub fn merge_row(row: &[u8]) -> Result<Vec<u8>, Refusal> {
 /// # Ok::<(), tulghimo::Refusal>(())
 /// ```
 pub fn plan(row: &[u8]) -> Result<Vec<Line>, Refusal> {
-    let lines = written(MOST_LINES * Line::LENGTH, |out| raw::plan(row, out))?;
+    let lines = written(raw::LONGEST_PLAN, |out| raw::plan(row, out))?;
     Ok(lines.chunks_exact(Line::LENGTH).map(Line::read).collect())
 }
 
@@ -130,7 +124,7 @@ pub fn plan(row: &[u8]) -> Result<Vec<Line>, Refusal> {
 /// # Ok::<(), tulghimo::Refusal>(())
 /// ```
 pub fn runs(row: &[u8]) -> Result<Vec<Run>, Refusal> {
-    let runs = written(MOST_LINES * Run::LENGTH, |out| raw::runs(row, out))?;
+    let runs = written(raw::LONGEST_RUNS, |out| raw::runs(row, out))?;
     runs.chunks_exact(Run::LENGTH).map(Run::read).collect()
 }
 

@@ -1,7 +1,17 @@
 //! The C functions on slices, with the buffers that the caller lends.
 //!
 //! Each function passes its slices on as they are and answers what the C function answers: nothing is checked, copied or hidden
-//! here, so that a test sees every byte that the library writes. A refusal is the negative number of its question.
+//! here, so that a test sees every byte that the library writes. A refusal is the negative number of its question. A buffer of the
+//! longest length below is never too short.
+
+/// No summary is longer, in bytes.
+pub const LONGEST_SUMMARY: usize = 1_788;
+
+/// No plan is longer, in bytes: that of 64 summaries has at most 2 × 64 - 3 lines.
+pub const LONGEST_PLAN: usize = 125 * crate::Line::LENGTH;
+
+/// No runs are longer, in bytes: there is one for each line.
+pub const LONGEST_RUNS: usize = 125 * crate::Run::LENGTH;
 
 mod ffi {
     extern "C" {
@@ -19,45 +29,54 @@ mod ffi {
 
 /// Reads the first record of a chunk: 0 and kind, length, depth, value, floor and ceiling, or -3.
 pub fn read(chunk: &[u8], fields: &mut [i64; 6]) -> i64 {
+    // SAFETY: the slice has as many bytes as it is said to have, and the array has the six numbers that the call may store.
     unsafe { ffi::tulghimo_read(chunk.as_ptr(), chunk.len(), fields.as_mut_ptr()) }
 }
 
 /// Summarises a chunk in a mode into `out`: the length written, or minus the refusal (1, 2, 3 or 12).
 pub fn summarise(chunk: &[u8], mode: u32, out: &mut [u8]) -> i64 {
+    // SAFETY: each slice has as many bytes as it is said to have, and the lent one is not borrowed elsewhere.
     unsafe { ffi::tulghimo_summarise(chunk.as_ptr(), chunk.len(), mode, out.as_mut_ptr(), out.len()) }
 }
 
 /// Merges two summaries into `out`: the length written, or minus the refusal (5, 6 or 12).
 pub fn merge(left: &[u8], right: &[u8], out: &mut [u8]) -> i64 {
+    // SAFETY: each slice has as many bytes as it is said to have, and the lent one is not borrowed elsewhere.
     unsafe { ffi::tulghimo_merge(left.as_ptr(), left.len(), right.as_ptr(), right.len(), out.as_mut_ptr(), out.len()) }
 }
 
 /// Merges a row of summaries, end to end, into `out`: the length written, or minus the refusal (4, 5, 6 or 12).
 pub fn merge_row(row: &[u8], out: &mut [u8]) -> i64 {
+    // SAFETY: each slice has as many bytes as it is said to have, and the lent one is not borrowed elsewhere.
     unsafe { ffi::tulghimo_merge_row(row.as_ptr(), row.len(), out.as_mut_ptr(), out.len()) }
 }
 
 /// Finishes one summary: 0 and its figure, or minus the refusal (5 or 7 to 11).
 pub fn finish(summary: &[u8], figure: &mut [i64; 1]) -> i64 {
+    // SAFETY: the slice has as many bytes as it is said to have, and the array has the one number that the call may store.
     unsafe { ffi::tulghimo_finish(summary.as_ptr(), summary.len(), figure.as_mut_ptr()) }
 }
 
 /// Writes the join plan of a row into `out`: the length written, or minus the refusal (4 to 12).
 pub fn plan(row: &[u8], out: &mut [u8]) -> i64 {
+    // SAFETY: each slice has as many bytes as it is said to have, and the lent one is not borrowed elsewhere.
     unsafe { ffi::tulghimo_plan(row.as_ptr(), row.len(), out.as_mut_ptr(), out.len()) }
 }
 
 /// Writes the runs of a row's join plan into `out`, one for each line: the length written, or minus the refusal (4 to 12).
 pub fn runs(row: &[u8], out: &mut [u8]) -> i64 {
+    // SAFETY: each slice has as many bytes as it is said to have, and the lent one is not borrowed elsewhere.
     unsafe { ffi::tulghimo_runs(row.as_ptr(), row.len(), out.as_mut_ptr(), out.len()) }
 }
 
 /// Works along a row's join plan: 0 and the figure, the joins used and the levels folded, or minus the refusal (4 to 11).
 pub fn work(row: &[u8], totals: &mut [i64; 3]) -> i64 {
+    // SAFETY: the slice has as many bytes as it is said to have, and the array has the three numbers that the call may store.
     unsafe { ffi::tulghimo_work(row.as_ptr(), row.len(), totals.as_mut_ptr()) }
 }
 
 /// The figures of a whole log: 0 and net, heaviest, eaten and stamp, or minus the refusal (2, 3 or 7 to 11).
 pub fn day(log: &[u8], figures: &mut [i64; 4]) -> i64 {
+    // SAFETY: the slice has as many bytes as it is said to have, and the array has the four numbers that the call may store.
     unsafe { ffi::tulghimo_day(log.as_ptr(), log.len(), figures.as_mut_ptr()) }
 }

@@ -88,6 +88,34 @@ fn forged_rows_and_damaged_ones() {
     }
 }
 
+/// A name as C writes it: TooLong, TOO_LONG.
+fn in_capitals(name: &str) -> String {
+    let letter = |c: char| if c.is_uppercase() { format!("_{c}") } else { c.to_uppercase().to_string() };
+    name.chars().map(letter).collect::<String>().trim_start_matches('_').to_string()
+}
+
+#[test]
+fn the_header_has_the_same_numbers() {
+    let header = include_str!("../../../include/tulghimo.h");
+    let refusals = Refusal::ALL.map(|refusal| {
+        let name = in_capitals(&format!("{refusal:?}"));
+        (format!("REFUSED_{name} = {}", refusal.number()), refusal.reason())
+    });
+    let lines: Vec<&str> = header.lines().collect();
+    for (constant, reason) in refusals {
+        assert!(lines.iter().any(|line| line.contains(&format!("TULGHIMO_{constant}")) && line.contains(reason)), "{constant}");
+    }
+    for mode in Mode::ALL {
+        let constant = format!("TULGHIMO_{} = {}", in_capitals(&format!("{mode:?}")), mode.number());
+        assert!(header.contains(&constant), "{constant}");
+    }
+    assert!(header.contains(&format!("TULGHIMO_LONGEST_SUMMARY = {},", tulghimo::raw::LONGEST_SUMMARY)));
+    assert_eq!((tulghimo::raw::LONGEST_PLAN, tulghimo::raw::LONGEST_RUNS), (1500, 3750));
+    for constant in ["LINE = 12,", "LONGEST_PLAN = 125 * TULGHIMO_LINE,", "RUN = 30,", "LONGEST_RUNS = 125 * TULGHIMO_RUN\n"] {
+        assert!(header.contains(&format!("TULGHIMO_{constant}")), "{constant}");
+    }
+}
+
 #[test]
 fn modes_by_number() {
     for number in [0, 1, 2, 3, 4, 5, 257, 65_537, u32::MAX] {
