@@ -292,17 +292,11 @@ def plain(text):
 
 
 def libraries():
-    """Each library that has code, after those it stands on, with these."""
+    """Each library that has code, with those that it stands on. crates.txt has it after these."""
     listed = re.findall(r"^([a-z0-9_]+) *:(.*)$", (ROOT / "crates.txt").read_text(), flags=re.M)
-    deps = {name: words.split() for name, words in listed}
-    coded = [name for name in deps if any("fn " in f.read_text() or "enum " in f.read_text()
-                                          for f in (CRATES / name / "src").glob("*.rt"))
-             and (CRATES / name / "src" / "lib.rt").exists()]
-    done = []
-    while len(done) < len(coded):
-        done += [name for name in coded if name not in done
-                 and all(d in done or d not in coded for d in deps[name])][:1]
-    return [(name, [d for d in deps[name] if d in coded]) for name in done]
+    coded = [name for name, _ in listed if (CRATES / name / "src" / "lib.rt").exists()
+             and any(re.search(r"\b(fn|enum) ", f.read_text()) for f in (CRATES / name / "src").glob("*.rt"))]
+    return [(name, [d for d in words.split() if d in coded]) for name, words in listed if name in coded]
 
 
 def rustc(folder, source, words, deps):
@@ -313,17 +307,12 @@ def rustc(folder, source, words, deps):
         raise SystemExit(f"rustc: {source}\n{built.stderr}")
 
 
-def has(call):
-    crate, name = call.split("::")
-    return any(f"fn {name}(" in f.read_text() for f in (CRATES / crate / "src").glob("*.rt"))
-
-
 def build(folder, crate=None, file=None, change=None, base=None):
     """The program in a folder, with one file changed. The libraries that do not stand
     on the changed one are taken from base."""
     folder.mkdir()
-    names = [name for name, _ in libraries()]
-    for name, deps in libraries():
+    all_of = libraries()
+    for name, deps in all_of:
         if base and crate != name and crate not in deps:
             (folder / f"lib{name}.rlib").symlink_to(base / f"lib{name}.rlib")
             continue
@@ -335,9 +324,9 @@ def build(folder, crate=None, file=None, change=None, base=None):
             (folder / name / f"{source.stem}.rs").write_text(plain(text))
         rustc(folder, folder / name / "lib.rs",
               ["--crate-type", "rlib", "--crate-name", name, "-o", folder / f"lib{name}.rlib"], deps)
-    arms = "".join(f'        "{name}" => {how},\n' for name, how in ARMS.items() if has(name))
+    arms = "".join(f'        "{name}" => {how},\n' for name, how in ARMS.items())
     (folder / "main.rs").write_text(MAIN % arms)
-    rustc(folder, folder / "main.rs", ["-o", folder / "main"], names)
+    rustc(folder, folder / "main.rs", ["-o", folder / "main"], [name for name, _ in all_of])
     return folder / "main"
 
 

@@ -32,7 +32,7 @@ QUICK = ["--", "paper::", "gate::", "figures::", "records::", "question_5::", "r
 # Records: bytes, reading, ranges.
 RECORDS = [
     ("bytes.rs", "bytes.iter().rev()", "bytes.iter()", "little-endian"),
-    ("bytes.rs", "number - range\n", "number - range + 1\n", "two's complement"),
+    ("bytes.rs", "{ number - range }", "{ number - range + 1 }", "two's complement"),
     ("record.rs", "const GRAMS: i64 = 1_000_000_000;", "const GRAMS: i64 = 1_000_000_001;",
      "values within 10^9"),
     ("record.rs", "const DEEPEST: usize = 63;", "const DEEPEST: usize = 64;", "depth 0 to 63"),
@@ -119,7 +119,7 @@ SUMMARIES = [
      ".filter(|&later| later > 0)", "held so far: those that the chunk also closes"),
     ("summary.rs", "log::opened(records).min(MORE_OPENED)", "log::opened(records)",
      "opened is cut to 100,001"),
-    ("summary.rs", "left: (peak + 1..=start)\n            .rev()", "left: (peak + 1..=start)",
+    ("summary.rs", "left: (peak + 1..=start).rev()", "left: (peak + 1..=start)",
      "left values go from start down"),
     ("summary.rs", "left: (peak + 1..=start)", "left: (peak..=start)",
      "slip: the level at the peak counted on both slopes"),
@@ -159,13 +159,13 @@ MERGING = [
     ("merge.rs", "opened > MOST_OPENED", "opened >= MOST_OPENED", "100,000 opened are taken"),
     ("merge.rs", ".flatten().min()", ".flatten().max()", "the lowest of these faults"),
     ("merge.rs", "own_fault(right),", "None,", "the right's fault counts"),
-    ("merge.rs", "opened: opened.min(MORE_OPENED),", "opened,", "opened added is cut to 100,001"),
+    ("merge.rs", "opened: opened.min(MORE_OPENED) }", "opened }", "opened added is cut to 100,001"),
 ]
 
 # Question 5.
 ACCEPTING = [
     ("layout.rs", "&& (peak != 0 || start == 0 || end == 0)", "", "a peak of 0 has an end at 0"),
-    ("layout.rs", "&& peak <= end\n", "\n", "peak not above end"),
+    ("layout.rs", " && peak <= end &&", " &&", "peak not above end"),
     ("layout.rs", "HIGHEST_LEVEL: u64 = 64;", "HIGHEST_LEVEL: u64 = 65;", "levels 0 to 64"),
     ("layout.rs", "&& !(flat && hill.opened == 0)", "&& (!flat || hill.opened < 1_000_000)",
      "a flat hill has opened one"),
@@ -210,8 +210,8 @@ PLANS = [
     ("run.rs", "l: figure(Some(-FAR)),",
      "l: hill_at(row, line.i).unclosed_at(line.lowest + 1).record.floor,",
      "slip: the floor applied once to a whole run"),
-    ("run.rs", "h: figure(Some(FAR)),",
-     "h: hill_at(row, line.i).unclosed_at(line.lowest + 1).record.ceiling,",
+    ("run.rs", "h: figure(Some(FAR)) }",
+     "h: hill_at(row, line.i).unclosed_at(line.lowest + 1).record.ceiling }",
      "slip: the ceiling applied once to a whole run"),
     ("run.rs", "a: all_on_the_way(row, line),", "a: figure(Some(0)),",
      "mode 3: a adds all on the way"),

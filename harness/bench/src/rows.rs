@@ -65,7 +65,15 @@ fn along_the_plan(mode: Mode, out: &mut [u8]) {
     let merge = seconds(200, || {
         black_box(tulghimo::raw::merge_row(black_box(&row), out));
     });
-    println!("row {:<18} {:>9} {:>9.2} {:>9.2} {:>7.2} {:>7.2}", mode.number(), lines, plan * 1e6, runs * 1e6, work * 1e6, merge * 1e6);
+    println!(
+        "row {:<18} {:>9} {:>9.2} {:>9.2} {:>7.2} {:>7.2}",
+        mode.number(),
+        lines,
+        plan * 1e6,
+        runs * 1e6,
+        work * 1e6,
+        merge * 1e6
+    );
 }
 
 pub fn bench() {

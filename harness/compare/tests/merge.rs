@@ -190,7 +190,8 @@ fn all_orders_of_small_logs() {
                     for c in b..=log.len() {
                         let cuts = [0, a, b, c, log.len()];
                         let row: Vec<Vec<u8>> = cuts.windows(2).map(|two| summary(&log[two[0]..two[1]], mode)).collect();
-                        let joined = |from: usize, to: usize| encode(&reference::summary::summary_of(mode, &log[cuts[from]..cuts[to]]));
+                        let joined =
+                            |from: usize, to: usize| encode(&reference::summary::summary_of(mode, &log[cuts[from]..cuts[to]]));
                         assert_eq!(all_orders(&row, &[1, 2, 3, 4], &joined), 12);
                     }
                 }
@@ -269,7 +270,14 @@ fn opened_at_its_edge_in_two() {
             for opened in [0, 1, 50_000, 50_001, 99_999, 100_000, 100_001] {
                 let opened = if fault == 9 { 100_001 } else { opened };
                 let bad = spoilt(mode, fault, 2, 3, opened);
-                for other in [bad.clone(), blank(mode), spoilt(mode, 8, 3, 2, 50_000), spoilt(mode, 7, 0, 0, 100_001), hill(&mut rng, mode, (3, 1, 2), 99_999), hill(&mut rng, mode, (5, 1, 2), 1)] {
+                for other in [
+                    bad.clone(),
+                    blank(mode),
+                    spoilt(mode, 8, 3, 2, 50_000),
+                    spoilt(mode, 7, 0, 0, 100_001),
+                    hill(&mut rng, mode, (3, 1, 2), 99_999),
+                    hill(&mut rng, mode, (5, 1, 2), 1),
+                ] {
                     both_agree(&bytes_of(&[bad.clone(), other.clone()]));
                     both_agree(&bytes_of(&[other.clone(), bad.clone()]));
                     both_agree(&bytes_of(&[other, blank(mode), bad.clone()]));

@@ -13,11 +13,7 @@ pub fn unsigned(bytes: &[u8]) -> u64 {
 pub fn signed(bytes: &[u8]) -> i64 {
     let range = 1i128 << (8 * bytes.len());
     let number = i128::from(unsigned(bytes));
-    let number = if number < range / 2 {
-        number
-    } else {
-        number - range
-    };
+    let number = if number < range / 2 { number } else { number - range };
     number as i64
 }
 

@@ -3,8 +3,8 @@
 //! untouched, a result is written at its front and "bytes after it stay".
 
 use crate::gate::{
-    question_1, question_12, question_2, question_3, question_4, question_5, question_6,
-    questions_7_to_11_of_log, questions_7_to_11_of_row,
+    question_1, question_12, question_2, question_3, question_4, question_5, question_6, questions_7_to_11_of_log,
+    questions_7_to_11_of_row,
 };
 use crate::layout::encode;
 use crate::merge;
@@ -24,14 +24,7 @@ pub fn read(chunk: &[u8]) -> Result<[i64; 6], u8> {
     let (record, length) = read_first(chunk).ok_or(3)?;
     let (length, depth) = (length as i64, record.depth() as i64);
     Ok(match record {
-        Record::Open(open) => [
-            OPEN as i64,
-            length,
-            depth,
-            open.value,
-            open.floor,
-            open.ceiling,
-        ],
+        Record::Open(open) => [OPEN as i64, length, depth, open.value, open.floor, open.ceiling],
         Record::Close { .. } => [CLOSE as i64, length, depth, 0, 0, 0],
     })
 }

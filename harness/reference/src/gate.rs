@@ -50,10 +50,7 @@ pub fn question_5(pieces: &[&[u8]]) -> Result<Vec<Summary>, u8> {
 
 /// "6. Are all of one mode?"
 pub fn question_6(summaries: &[Summary]) -> Result<(), u8> {
-    if summaries
-        .iter()
-        .all(|summary| summary.mode == summaries[0].mode)
-    {
+    if summaries.iter().all(|summary| summary.mode == summaries[0].mode) {
         Ok(())
     } else {
         Err(6)

@@ -111,11 +111,7 @@ fn is_hill(mode: Mode, bytes: &[u8]) -> bool {
 /// "levels are 0 to 64 with peak not above start or end, a peak of 0 has start or
 /// end 0"
 fn levels_fit(start: u64, peak: u64, end: u64) -> bool {
-    start <= HIGHEST_LEVEL
-        && end <= HIGHEST_LEVEL
-        && peak <= start
-        && peak <= end
-        && (peak != 0 || start == 0 || end == 0)
+    start <= HIGHEST_LEVEL && end <= HIGHEST_LEVEL && peak <= start && peak <= end && (peak != 0 || start == 0 || end == 0)
 }
 
 /// The clauses about opened, the middle, the records and the range of values.
@@ -144,14 +140,7 @@ fn records_fit(hill: &Hill) -> bool {
 /// 2^32 - 1, and opened is at least the unclosed records."
 fn range_fits(mode: Mode, hill: &Hill) -> bool {
     let right = hill.right.iter().map(|unclosed| unclosed.held);
-    let values: Vec<i64> = hill
-        .left
-        .iter()
-        .copied()
-        .chain([hill.middle])
-        .chain(right)
-        .flatten()
-        .collect();
+    let values: Vec<i64> = hill.left.iter().copied().chain([hill.middle]).chain(right).flatten().collect();
     let unclosed = hill.right.len() as u64;
     match mode {
         Mode::Net | Mode::Heaviest | Mode::Eaten => {
@@ -159,9 +148,7 @@ fn range_fits(mode: Mode, hill: &Hill) -> bool {
             let grams = i128::from(GRAMS);
             grams * i128::from(unclosed) + absolute <= grams * i128::from(hill.opened)
         }
-        Mode::Stamp => {
-            values.iter().all(|value| (0..1 << 32).contains(value)) && hill.opened >= unclosed
-        }
+        Mode::Stamp => values.iter().all(|value| (0..1 << 32).contains(value)) && hill.opened >= unclosed,
     }
 }
 
@@ -179,20 +166,14 @@ fn read_hill(mode: Mode, bytes: &[u8]) -> Hill {
         opened: unsigned(&bytes[12..16]),
         left: (0..start - peak).map(|k| value(16 + 8 * k)).collect(),
         middle: value(middle_offset),
-        right: (0..end - peak)
-            .map(|k| read_unclosed(mode, &bytes[middle_offset + 8 + 20 * k..]))
-            .collect(),
+        right: (0..end - peak).map(|k| read_unclosed(mode, &bytes[middle_offset + 8 + 20 * k..])).collect(),
     }
 }
 
 /// Value, floor, ceiling (32 bits each) and held figures (64 bits).
 fn read_unclosed(mode: Mode, bytes: &[u8]) -> Unclosed {
     Unclosed {
-        record: Grams {
-            value: signed(&bytes[0..4]),
-            floor: signed(&bytes[4..8]),
-            ceiling: signed(&bytes[8..12]),
-        },
+        record: Grams { value: signed(&bytes[0..4]), floor: signed(&bytes[4..8]), ceiling: signed(&bytes[8..12]) },
         held: loaded(mode, signed(&bytes[12..20])),
     }
 }

@@ -12,9 +12,7 @@ pub const MOST_OPENED: u64 = 100_000;
 ///
 /// "each record starts at the level where the one before it ended"
 pub fn neighbours_meet(records: &[Record]) -> bool {
-    records
-        .windows(2)
-        .all(|pair| pair[0].end_level() == pair[1].start_level())
+    records.windows(2).all(|pair| pair[0].end_level() == pair[1].start_level())
 }
 
 /// Question 8: "Is every level between records above 0?"
@@ -22,10 +20,7 @@ pub fn neighbours_meet(records: &[Record]) -> bool {
 /// Two records that do not meet have no level between them; they have fault 7,
 /// which is lower.
 pub fn levels_between_above_0(records: &[Record]) -> bool {
-    records
-        .windows(2)
-        .filter(|pair| pair[0].end_level() == pair[1].start_level())
-        .all(|pair| pair[0].end_level() > 0)
+    records.windows(2).filter(|pair| pair[0].end_level() == pair[1].start_level()).all(|pair| pair[0].end_level() > 0)
 }
 
 /// The number of records opened.
@@ -83,9 +78,7 @@ pub fn closer(records: &[Record], place: usize) -> Option<usize> {
 pub fn held(records: &[Record], place: usize) -> Vec<usize> {
     let depth = records[place].depth();
     let end = closer(records, place).unwrap_or(records.len());
-    (place + 1..end)
-        .filter(|&later| records[later].is_open() && records[later].depth() == depth + 1)
-        .collect()
+    (place + 1..end).filter(|&later| records[later].is_open() && records[later].depth() == depth + 1).collect()
 }
 
 /// For each place, whether a record that these records open holds it.
@@ -101,7 +94,5 @@ pub fn held_by_some(records: &[Record]) -> Vec<bool> {
 
 /// The places of the open records, in log order.
 pub fn opens(records: &[Record]) -> Vec<usize> {
-    (0..records.len())
-        .filter(|&place| records[place].is_open())
-        .collect()
+    (0..records.len()).filter(|&place| records[place].is_open()).collect()
 }

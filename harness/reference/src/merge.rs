@@ -12,10 +12,7 @@ pub fn merge(left: &Summary, right: &Summary) -> Summary {
         (_, Case::Blank) => left.case.clone(),
         _ => merge_records(left, right),
     };
-    Summary {
-        mode: left.mode,
-        case,
-    }
+    Summary { mode: left.mode, case }
 }
 
 /// "Of two that are not blank, if one is spoilt or the join has fault 7, 8 or 9,
@@ -25,19 +22,10 @@ fn merge_records(left: &Summary, right: &Summary) -> Case {
     let (start, left_end, left_opened) = left.ends().expect("a record");
     let (right_start, end, right_opened) = right.ends().expect("a record");
     let opened = left_opened + right_opened;
-    let faults = [
-        own_fault(left),
-        own_fault(right),
-        join_fault(left_end, right_start, opened),
-    ];
+    let faults = [own_fault(left), own_fault(right), join_fault(left_end, right_start, opened)];
     match (faults.into_iter().flatten().min(), &left.case, &right.case) {
         (None, Case::Hill(l), Case::Hill(r)) => Case::Hill(merge_hills(left.mode, l, r)),
-        (Some(fault), _, _) => Case::Spoilt(Spoilt {
-            fault,
-            start,
-            end,
-            opened: opened.min(MORE_OPENED),
-        }),
+        (Some(fault), _, _) => Case::Spoilt(Spoilt { fault, start, end, opened: opened.min(MORE_OPENED) }),
         _ => unreachable!("a spoilt summary has a fault, a blank one was left out"),
     }
 }
@@ -74,14 +62,9 @@ fn merge_hills(mode: Mode, l: &Hill, r: &Hill) -> Hill {
         peak,
         end: r.end,
         opened: l.opened + r.opened,
-        left: (peak + 1..=l.start)
-            .rev()
-            .map(|level| left_value(mode, l, r, level, outcome))
-            .collect(),
+        left: (peak + 1..=l.start).rev().map(|level| left_value(mode, l, r, level, outcome)).collect(),
         middle: middle_value(mode, l, r, outcome),
-        right: (peak + 1..=r.end)
-            .map(|level| right_value(mode, l, r, level, outcome))
-            .collect(),
+        right: (peak + 1..=r.end).map(|level| right_value(mode, l, r, level, outcome)).collect(),
     }
 }
 
@@ -130,10 +113,7 @@ fn right_value(mode: Mode, l: &Hill, r: &Hill, level: usize, outcome: Held) -> U
         r.unclosed_at(level)
     } else if level == r.peak {
         let unclosed = l.unclosed_at(level);
-        Unclosed {
-            record: unclosed.record,
-            held: combine(mode, &[unclosed.held, outcome, r.middle]),
-        }
+        Unclosed { record: unclosed.record, held: combine(mode, &[unclosed.held, outcome, r.middle]) }
     } else {
         l.unclosed_at(level)
     }

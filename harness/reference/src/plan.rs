@@ -24,9 +24,7 @@ pub fn plan_by_levels(row: &[Summary]) -> Vec<Line> {
     let mut lines = Vec::new();
     for j in 0..row.len() {
         for i in (0..j).rev() {
-            let depths: Vec<usize> = (0..=DEEPEST)
-                .filter(|&depth| is_joined(row, i, j, depth))
-                .collect();
+            let depths: Vec<usize> = (0..=DEEPEST).filter(|&depth| is_joined(row, i, j, depth)).collect();
             lines.extend(line(i, j, &depths));
         }
     }
@@ -36,9 +34,7 @@ pub fn plan_by_levels(row: &[Summary]) -> Vec<Line> {
 /// Whether the record of a depth that i leaves open is closed in j: j closes one of
 /// that depth, and no chunk between does.
 fn is_joined(row: &[Summary], i: usize, j: usize, depth: usize) -> bool {
-    leaves_open(&row[i], depth)
-        && closes(&row[j], depth)
-        && !(i + 1..j).any(|between| closes(&row[between], depth))
+    leaves_open(&row[i], depth) && closes(&row[j], depth) && !(i + 1..j).any(|between| closes(&row[between], depth))
 }
 
 /// A hill has an unclosed record of each depth from its peak up to below its end.
@@ -61,12 +57,7 @@ fn closes(summary: &Summary, depth: usize) -> bool {
 /// The line of a join whose records have these depths, rising; none if there are
 /// none.
 fn line(i: usize, j: usize, depths: &[usize]) -> Option<Line> {
-    Some(Line {
-        i,
-        j,
-        lowest: *depths.iter().min()?,
-        highest: *depths.iter().max()?,
-    })
+    Some(Line { i, j, lowest: *depths.iter().min()?, highest: *depths.iter().max()? })
 }
 
 /// The plan of a cut log, from its records: who closes whom in the uncut log.
@@ -75,11 +66,8 @@ pub fn plan_by_records(chunks: &[Vec<Record>]) -> Vec<Line> {
     let mut lines = Vec::new();
     for j in 0..chunks.len() {
         for i in (0..j).rev() {
-            let depths: Vec<usize> = joins
-                .iter()
-                .filter(|join| join.opened_in == i && join.closed_in == j)
-                .map(|join| join.depth)
-                .collect();
+            let depths: Vec<usize> =
+                joins.iter().filter(|join| join.opened_in == i && join.closed_in == j).map(|join| join.depth).collect();
             lines.extend(line(i, j, &depths));
         }
     }
@@ -104,11 +92,7 @@ pub fn joins_by_records(chunks: &[Vec<Record>]) -> Vec<Joined> {
     let mut joins = Vec::new();
     for place in crate::log::opens(&log) {
         if let Some(last) = closer(&log, place) {
-            joins.push(Joined {
-                opened_in: chunk_of[place],
-                closed_in: chunk_of[last],
-                depth: log[place].depth(),
-            });
+            joins.push(Joined { opened_in: chunk_of[place], closed_in: chunk_of[last], depth: log[place].depth() });
         }
     }
     joins.retain(|join| join.opened_in != join.closed_in);

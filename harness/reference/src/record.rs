@@ -103,12 +103,7 @@ fn fields(record: &[u8]) -> Record {
             floor: signed(&record[10..14]),
             ceiling: signed(&record[14..18]),
         }),
-        10 => Record::Open(Open {
-            depth,
-            value: signed(&record[6..10]),
-            floor: DEFAULT_FLOOR,
-            ceiling: DEFAULT_CEILING,
-        }),
+        10 => Record::Open(Open { depth, value: signed(&record[6..10]), floor: DEFAULT_FLOOR, ceiling: DEFAULT_CEILING }),
         _ => Record::Close { depth },
     }
 }

@@ -85,8 +85,6 @@ impl Stretches {
 
     /// The row as it stands: each stretch's own summary.
     pub fn row(&self) -> Vec<Vec<u8>> {
-        (0..self.count())
-            .map(|place| self.joined(place, 1))
-            .collect()
+        (0..self.count()).map(|place| self.joined(place, 1)).collect()
     }
 }

@@ -63,31 +63,20 @@ pub fn run_of(row: &[Summary], line: &Line) -> Run {
     let figure = |x: Held| figure_of_join(row, line, x);
     match row[line.i].mode {
         Mode::Net => Run::Net { a: figure(Some(0)) },
-        Mode::Heaviest => Run::Heaviest {
-            z: figure(None),
-            a: greatest_beside(row, line),
-            b: values_down_to(row, line, line.highest),
-        },
+        Mode::Heaviest => {
+            Run::Heaviest { z: figure(None), a: greatest_beside(row, line), b: values_down_to(row, line, line.highest) }
+        }
         // "where a adds all values and combined figures on the way and l, h are the
         // ends of what it can give"
-        Mode::Eaten => Run::Eaten {
-            a: all_on_the_way(row, line),
-            l: figure(Some(-FAR)),
-            h: figure(Some(FAR)),
-        },
-        Mode::Stamp => Run::Stamp {
-            m: modulo_2_32(figure(Some(1)) - figure(Some(0))),
-            q: figure(Some(0)),
-        },
+        Mode::Eaten => Run::Eaten { a: all_on_the_way(row, line), l: figure(Some(-FAR)), h: figure(Some(FAR)) },
+        Mode::Stamp => Run::Stamp { m: modulo_2_32(figure(Some(1)) - figure(Some(0))), q: figure(Some(0)) },
     }
 }
 
 /// The values of the join's records from its lowest depth to the given one, added.
 fn values_down_to(row: &[Summary], line: &Line, depth: usize) -> i64 {
     let i = hill_at(row, line.i);
-    (line.lowest..=depth)
-        .map(|depth| i.unclosed_at(depth + 1).record.value)
-        .sum()
+    (line.lowest..=depth).map(|depth| i.unclosed_at(depth + 1).record.value).sum()
 }
 
 /// Mode 2's A: the greatest figure of a line that leaves the join beside x, at any
@@ -105,9 +94,7 @@ fn greatest_beside(row: &[Summary], line: &Line) -> Held {
 /// Mode 3's a: "all values and combined figures on the way" added.
 fn all_on_the_way(row: &[Summary], line: &Line) -> i64 {
     let (i, j) = (hill_at(row, line.i), hill_at(row, line.j));
-    let figures: i64 = (line.lowest..=line.highest)
-        .filter_map(|depth| beside(Mode::Eaten, i, j, depth + 1))
-        .sum();
+    let figures: i64 = (line.lowest..=line.highest).filter_map(|depth| beside(Mode::Eaten, i, j, depth + 1)).sum();
     values_down_to(row, line, line.highest) + figures
 }
 
@@ -138,10 +125,7 @@ pub fn join_by_records(mode: Mode, chunks: &[Vec<Record>], line: &Line) -> (Held
     }
     let lies_in = |place: usize| (chunk_of[place], chunk_of[closer(&log, place).unwrap()]);
     let record_at = |depth: usize| {
-        opens(&log)
-            .into_iter()
-            .find(|&place| log[place].depth() == depth && lies_in(place) == (line.i, line.j))
-            .unwrap()
+        opens(&log).into_iter().find(|&place| log[place].depth() == depth && lies_in(place) == (line.i, line.j)).unwrap()
     };
     // "those records held directly by its highest-depth record that lie neither wholly
     // in i nor wholly in j"

@@ -107,14 +107,9 @@ fn hill_of(mode: Mode, records: &[Record]) -> Hill {
         peak,
         end,
         opened: log::opened(records),
-        left: (peak + 1..=start)
-            .rev()
-            .map(|level| value_at(mode, records, &loose, level))
-            .collect(),
+        left: (peak + 1..=start).rev().map(|level| value_at(mode, records, &loose, level)).collect(),
         middle: value_at(mode, records, &loose, peak),
-        right: (peak + 1..=end)
-            .map(|level| unclosed_below(mode, records, level))
-            .collect(),
+        right: (peak + 1..=end).map(|level| unclosed_below(mode, records, level)).collect(),
     }
 }
 
@@ -128,10 +123,7 @@ fn peak_of(records: &[Record]) -> usize {
 /// by none that the chunk opens".
 fn loose(records: &[Record]) -> Vec<usize> {
     let is_held = log::held_by_some(records);
-    log::opens(records)
-        .into_iter()
-        .filter(|&place| log::closer(records, place).is_some() && !is_held[place])
-        .collect()
+    log::opens(records).into_iter().filter(|&place| log::closer(records, place).is_some() && !is_held[place]).collect()
 }
 
 /// "A left or middle value combines the records at its level" that are loose. "A
@@ -157,10 +149,7 @@ fn unclosed_below(mode: Mode, records: &[Record], level: usize) -> Unclosed {
         .filter(|&later| log::closer(records, later).is_some())
         .map(|later| Some(figure_by_holding(mode, records, later)))
         .collect();
-    Unclosed {
-        record: grams(&open_at(records, place)),
-        held: combine(mode, &parts),
-    }
+    Unclosed { record: grams(&open_at(records, place)), held: combine(mode, &parts) }
 }
 
 /// What finish answers of one summary: its figure, or the lowest fault of 7 to 11.

@@ -14,11 +14,7 @@ pub struct Tree {
 
 /// The value, floor and ceiling of an open record.
 pub fn grams(open: &Open) -> Grams {
-    Grams {
-        value: open.value,
-        floor: open.floor,
-        ceiling: open.ceiling,
-    }
+    Grams { value: open.value, floor: open.floor, ceiling: open.ceiling }
 }
 
 /// The open record at a place. Only asked of places that hold one.
@@ -40,10 +36,7 @@ pub fn tree_of(log: &[Record]) -> Tree {
 /// depth d to the first close element at depth d forms a subtree."
 pub fn subtree(records: &[Record], place: usize) -> Tree {
     let last = closer(records, place).expect("a record that is closed");
-    Tree {
-        record: grams(&open_at(records, place)),
-        held: forest(&records[place + 1..last]),
-    }
+    Tree { record: grams(&open_at(records, place)), held: forest(&records[place + 1..last]) }
 }
 
 /// Lemma 1, second half: such sequences one after another form "a sequence of
@@ -61,12 +54,8 @@ fn forest(records: &[Record]) -> Vec<Tree> {
 /// The traversal of a tree whose root has the given depth: its open record, the
 /// trees it holds one depth further down, its close record.
 pub fn write(tree: &Tree, depth: usize) -> Vec<Record> {
-    let mut records = vec![Record::Open(Open {
-        depth,
-        value: tree.record.value,
-        floor: tree.record.floor,
-        ceiling: tree.record.ceiling,
-    })];
+    let mut records =
+        vec![Record::Open(Open { depth, value: tree.record.value, floor: tree.record.floor, ceiling: tree.record.ceiling })];
     for part in &tree.held {
         records.extend(write(part, depth + 1));
     }
@@ -76,11 +65,7 @@ pub fn write(tree: &Tree, depth: usize) -> Vec<Record> {
 
 /// METR 2006-64, Definition 2: "h (Node a [t1, .., tn]) = a ⊕ (h t1 ⊗ .. ⊗ h tn)".
 pub fn figure(mode: Mode, tree: &Tree) -> i64 {
-    let parts: Vec<Held> = tree
-        .held
-        .iter()
-        .map(|part| Some(figure(mode, part)))
-        .collect();
+    let parts: Vec<Held> = tree.held.iter().map(|part| Some(figure(mode, part))).collect();
     through(mode, &tree.record, combine(mode, &parts))
 }
 
@@ -92,22 +77,12 @@ pub fn log_figure(mode: Mode, log: &[Record]) -> i64 {
 
 /// The figure of each opened record's own subtree, with its place, in log order.
 pub fn figures(mode: Mode, log: &[Record]) -> Vec<(usize, i64)> {
-    crate::log::opens(log)
-        .into_iter()
-        .map(|place| (place, figure(mode, &subtree(log, place))))
-        .collect()
+    crate::log::opens(log).into_iter().map(|place| (place, figure(mode, &subtree(log, place)))).collect()
 }
 
 /// The figure of the record opened at `place`, straight from the log: "v is a
 /// record's value; its held records come in log order".
 pub fn figure_by_holding(mode: Mode, records: &[Record], place: usize) -> i64 {
-    let parts: Vec<Held> = held(records, place)
-        .into_iter()
-        .map(|later| Some(figure_by_holding(mode, records, later)))
-        .collect();
-    through(
-        mode,
-        &grams(&open_at(records, place)),
-        combine(mode, &parts),
-    )
+    let parts: Vec<Held> = held(records, place).into_iter().map(|later| Some(figure_by_holding(mode, records, later))).collect();
+    through(mode, &grams(&open_at(records, place)), combine(mode, &parts))
 }

@@ -71,8 +71,5 @@ fn middle_of_one_hill(row: &[Summary]) -> Held {
 
 /// "the sum of highest - lowest + 1 over the plan"
 pub fn levels_folded(lines: &[Line]) -> usize {
-    lines
-        .iter()
-        .map(|line| line.highest - line.lowest + 1)
-        .sum()
+    lines.iter().map(|line| line.highest - line.lowest + 1).sum()
 }

@@ -12,22 +12,12 @@ pub struct Sample {
 
 /// A full open record.
 fn open(depth: usize, value: i64, floor: i64, ceiling: i64) -> Vec<u8> {
-    encode_full(&Open {
-        depth,
-        value,
-        floor,
-        ceiling,
-    })
+    encode_full(&Open { depth, value, floor, ceiling })
 }
 
 /// A record of full length that holds the given ones.
 fn around(depth: usize, value: i64, floor: i64, ceiling: i64, held: &[Vec<u8>]) -> Vec<u8> {
-    [
-        open(depth, value, floor, ceiling),
-        held.concat(),
-        encode_close(depth),
-    ]
-    .concat()
+    [open(depth, value, floor, ceiling), held.concat(), encode_close(depth)].concat()
 }
 
 /// A short record that holds nothing.
@@ -55,46 +45,18 @@ fn well_formed() -> Vec<Sample> {
              some with returns; full and short records",
             weekday(),
         ),
-        sample(
-            "returns.log",
-            "two tanks with pellets sent back: one above its ceiling, one below its floor",
-            returns(),
-        ),
-        sample(
-            "quiet.log",
-            "a site of three raceways with two tanks each, where nothing was fed",
-            quiet(),
-        ),
-        sample(
-            "deep.log",
-            "64 records of one gram, each holding the next: depth 0 to 63",
-            deep(),
-        ),
+        sample("returns.log", "two tanks with pellets sent back: one above its ceiling, one below its floor", returns()),
+        sample("quiet.log", "a site of three raceways with two tanks each, where nothing was fed", quiet()),
+        sample("deep.log", "64 records of one gram, each holding the next: depth 0 to 63", deep()),
     ]
 }
 
 fn refused() -> Vec<Sample> {
     vec![
-        sample(
-            "level-gap.log",
-            "log D without its first close: neighbours do not meet",
-            level_gap(),
-        ),
-        sample(
-            "two-days.log",
-            "log D twice over: level 0 between two records",
-            log_d().repeat(2),
-        ),
-        sample(
-            "cut-short.log",
-            "the quiet day without its last record: ends above level 0",
-            cut_short(),
-        ),
-        sample(
-            "unreadable.log",
-            "log D with its last byte missing",
-            unreadable(),
-        ),
+        sample("level-gap.log", "log D without its first close: neighbours do not meet", level_gap()),
+        sample("two-days.log", "log D twice over: level 0 between two records", log_d().repeat(2)),
+        sample("cut-short.log", "the quiet day without its last record: ends above level 0", cut_short()),
+        sample("unreadable.log", "log D with its last byte missing", unreadable()),
         sample("empty.log", "no bytes", Vec::new()),
     ]
 }
@@ -102,13 +64,7 @@ fn refused() -> Vec<Sample> {
 /// Document 01: "open 0 value 10 floor 0 ceiling 100; open 1 value 5 floor 0 ceiling
 /// 4; close 1; open 1 value -3 floor 0 ceiling 100; close 1; close 0".
 fn log_d() -> Vec<u8> {
-    around(
-        0,
-        10,
-        0,
-        100,
-        &[around(1, 5, 0, 4, &[]), around(1, -3, 0, 100, &[])],
-    )
+    around(0, 10, 0, 100, &[around(1, 5, 0, 4, &[]), around(1, -3, 0, 100, &[])])
 }
 
 /// Depth 0 the site, 1 raceways, 2 tanks, 3 meals, 4 drops. A tank eats 9,000 grams
@@ -191,13 +147,7 @@ pub fn page(samples: &[Sample]) -> String {
     );
     for sample in samples {
         let line = String::from_utf8(day_text(&sample.bytes)).expect("text");
-        page.push_str(&format!(
-            "| `{}` | {} | {} | `{}` |\n",
-            sample.name,
-            sample.bytes.len(),
-            sample.what,
-            line.trim_end()
-        ));
+        page.push_str(&format!("| `{}` | {} | {} | `{}` |\n", sample.name, sample.bytes.len(), sample.what, line.trim_end()));
     }
     page.push_str(
         "\n`cargo run -p samples -- ../samples`, from `harness/`, writes the files and this \

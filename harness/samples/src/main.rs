@@ -6,10 +6,7 @@ use std::path::Path;
 
 fn main() -> std::io::Result<()> {
     let Some(directory) = std::env::args().nth(1) else {
-        return Err(Error::new(
-            ErrorKind::InvalidInput,
-            "usage: samples DIRECTORY",
-        ));
+        return Err(Error::new(ErrorKind::InvalidInput, "usage: samples DIRECTORY"));
     };
     let directory = Path::new(&directory);
     std::fs::create_dir_all(directory)?;

@@ -45,10 +45,7 @@ fn lines_worked_out_by_hand() {
 #[test]
 fn the_deep_log() {
     let samples = all();
-    let deep = samples
-        .iter()
-        .find(|sample| sample.name == "deep.log")
-        .unwrap();
+    let deep = samples.iter().find(|sample| sample.name == "deep.log").unwrap();
     // 64 records of one gram; the stamp adds the powers of 31 from 0 to 63.
     let mut stamp: u32 = 0;
     for _ in 0..64 {

@@ -66,32 +66,15 @@ pub fn hill(rng: &mut Rng, mode: Mode, levels: &Levels, opened: u64) -> Hill {
     let mut next = || values.next().expect("a value for each place");
     let left = (peak..start).map(|_| next()).collect();
     let middle = next();
-    let right = (peak..end)
-        .map(|_| Unclosed {
-            record: record(rng),
-            held: next(),
-        })
-        .collect();
-    Hill {
-        start,
-        peak,
-        end,
-        opened,
-        left,
-        middle,
-        right,
-    }
+    let right = (peak..end).map(|_| Unclosed { record: record(rng), held: next() }).collect();
+    Hill { start, peak, end, opened, left, middle, right }
 }
 
 /// The value, floor and ceiling of a readable record.
 fn record(rng: &mut Rng) -> Grams {
     let values = rng.pick(&VALUES);
     let (one, other) = (grams(rng, values), grams(rng, values));
-    Grams {
-        value: grams(rng, values),
-        floor: one.min(other),
-        ceiling: one.max(other),
-    }
+    Grams { value: grams(rng, values), floor: one.min(other), ceiling: one.max(other) }
 }
 
 /// The 64-bit values of a hill: left, middle, held. In modes 1 to 3 their absolute
@@ -128,11 +111,7 @@ fn value_within(rng: &mut Rng, mode: Mode, grams_left: &mut i64, style: usize) -
     if rng.one_in(4) {
         return nothing(mode);
     }
-    let most = if style == 1 {
-        (*grams_left).min(30)
-    } else {
-        *grams_left / rng.pick(&[1, 2, 10, 100])
-    };
+    let most = if style == 1 { (*grams_left).min(30) } else { *grams_left / rng.pick(&[1, 2, 10, 100]) };
     let value = rng.between(-most, most);
     *grams_left -= value.abs();
     Some(value)
@@ -142,16 +121,7 @@ fn value_within(rng: &mut Rng, mode: Mode, grams_left: &mut i64, style: usize) -
 pub fn spoilt(rng: &mut Rng, start: usize, end: usize) -> Spoilt {
     let fault = rng.pick(&[7, 8, 9]);
     let any = rng.below(100_002) as u64;
-    Spoilt {
-        fault,
-        start,
-        end,
-        opened: if fault == 9 {
-            100_001
-        } else {
-            rng.pick(&[0, 1, 99_999, 100_000, 100_001, any])
-        },
-    }
+    Spoilt { fault, start, end, opened: if fault == 9 { 100_001 } else { rng.pick(&[0, 1, 99_999, 100_000, 100_001, any]) } }
 }
 
 /// Any summary that question 5 accepts.
@@ -233,8 +203,5 @@ fn row_levels(rng: &mut Rng, hills: usize) -> Vec<Levels> {
     let mut meeting: Vec<usize> = (1..hills).map(|_| 1 + rng.below(highest)).collect();
     meeting.insert(0, 0);
     meeting.push(0);
-    meeting
-        .windows(2)
-        .map(|pair| levels_between(rng, pair[0], pair[1]))
-        .collect()
+    meeting.windows(2).map(|pair| levels_between(rng, pair[0], pair[1])).collect()
 }

@@ -2,10 +2,7 @@
 
 use super::Rng;
 use crate::mode::Mode;
-use crate::record::{
-    encode_close, encode_full, encode_short, Open, Record, DEEPEST, DEFAULT_CEILING, DEFAULT_FLOOR,
-    GRAMS,
-};
+use crate::record::{encode_close, encode_full, encode_short, Open, Record, DEEPEST, DEFAULT_CEILING, DEFAULT_FLOOR, GRAMS};
 use crate::replay::{Call, Step, Stretches};
 
 /// How the tree of a log looks.
@@ -23,13 +20,7 @@ pub enum Shape {
     Any,
 }
 
-pub const SHAPES: [Shape; 5] = [
-    Shape::Flat,
-    Shape::Bushy,
-    Shape::Deep,
-    Shape::Caterpillar,
-    Shape::Any,
-];
+pub const SHAPES: [Shape; 5] = [Shape::Flat, Shape::Bushy, Shape::Deep, Shape::Caterpillar, Shape::Any];
 
 /// From where values, floors and ceilings are drawn.
 #[derive(Clone, Copy, Debug, PartialEq, Eq)]
@@ -63,12 +54,7 @@ pub fn open(rng: &mut Rng, depth: usize, values: Values) -> Open {
         2 => (one, one),
         _ => (one.min(other), one.max(other)),
     };
-    Open {
-        depth,
-        value,
-        floor,
-        ceiling,
-    }
+    Open { depth, value, floor, ceiling }
 }
 
 /// A well-formed log of about `opened` opened records, at least one.
@@ -95,13 +81,7 @@ pub fn any_log(rng: &mut Rng, most_opened: usize) -> Vec<Record> {
 
 /// Opens and closes at random until `opened` are opened, then closes down to level
 /// 0. Where both are possible, `favour` opens come on one close.
-fn walk(
-    rng: &mut Rng,
-    values: Values,
-    opened: usize,
-    deepest: usize,
-    favour: usize,
-) -> Vec<Record> {
+fn walk(rng: &mut Rng, values: Values, opened: usize, deepest: usize, favour: usize) -> Vec<Record> {
     let mut records = vec![Record::Open(open(rng, 0, values))];
     let mut level = 1;
     let mut left_to_open = opened.saturating_sub(1);
@@ -149,14 +129,7 @@ fn leaves(rng: &mut Rng, values: Values, depth: usize, records: &mut Vec<Record>
 
 /// A flat well-formed log with exactly `opened` opened records of one gram each.
 pub fn flat(opened: usize) -> Vec<Record> {
-    let one_gram = |depth| {
-        Record::Open(Open {
-            depth,
-            value: 1,
-            floor: DEFAULT_FLOOR,
-            ceiling: DEFAULT_CEILING,
-        })
-    };
+    let one_gram = |depth| Record::Open(Open { depth, value: 1, floor: DEFAULT_FLOOR, ceiling: DEFAULT_CEILING });
     let mut records = vec![one_gram(0)];
     for _ in 1..opened {
         records.push(one_gram(1));
@@ -256,10 +229,7 @@ pub fn cut(rng: &mut Rng, records: &[Record], count: usize) -> Vec<Vec<Record>> 
     let mut places: Vec<usize> = (1..count).map(|_| rng.below(records.len() + 1)).collect();
     places.extend([0, records.len()]);
     places.sort_unstable();
-    places
-        .windows(2)
-        .map(|pair| records[pair[0]..pair[1]].to_vec())
-        .collect()
+    places.windows(2).map(|pair| records[pair[0]..pair[1]].to_vec()).collect()
 }
 
 /// A well-formed log in `count` chunks, 2 to 64, with as many joins as there can be:
@@ -284,10 +254,7 @@ pub fn longest_plan(rng: &mut Rng, count: usize) -> Vec<Vec<Record>> {
 /// A list of merges on the row of these chunks, each possible on the row as it then
 /// stands. Buffers are exact, one short, empty, longer, or of any length.
 pub fn merge_list(rng: &mut Rng, mode: Mode, chunks: &[Vec<Record>]) -> Vec<Step> {
-    let mut row = Stretches {
-        mode,
-        stretches: chunks.to_vec(),
-    };
+    let mut row = Stretches { mode, stretches: chunks.to_vec() };
     let mut steps = Vec::new();
     while row.count() > 1 && !rng.one_in(40) {
         let call = rng.pick(&[Call::Merge, Call::MergeRow]);
@@ -299,12 +266,7 @@ pub fn merge_list(rng: &mut Rng, mode: Mode, chunks: &[Vec<Record>]) -> Vec<Step
         let exact = row.joined(place, count).len();
         let any = rng.below(2000);
         let capacity = rng.pick(&[exact, exact, exact + 1, exact + any, exact - 1, 0, any]);
-        let step = Step {
-            call,
-            place,
-            count,
-            capacity,
-        };
+        let step = Step { call, place, count, capacity };
         let _ = row.step(&step);
         steps.push(step);
     }

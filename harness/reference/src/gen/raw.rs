@@ -24,10 +24,7 @@ pub fn close(depth: u16) -> Vec<u8> {
 
 /// 16-bit numbers.
 pub fn words(numbers: &[u16]) -> Vec<u8> {
-    numbers
-        .iter()
-        .flat_map(|number| number.to_le_bytes())
-        .collect()
+    numbers.iter().flat_map(|number| number.to_le_bytes()).collect()
 }
 
 pub fn blank(mode: u16) -> Vec<u8> {
@@ -100,14 +97,7 @@ pub fn nothing(mode: u16) -> i64 {
 /// Log D: "open 0 value 10 floor 0 ceiling 100; open 1 value 5 floor 0 ceiling 4;
 /// close 1; open 1 value -3 floor 0 ceiling 100; close 1; close 0".
 pub fn log_d() -> Vec<Vec<u8>> {
-    vec![
-        open(0, 10, 0, 100),
-        open(1, 5, 0, 4),
-        close(1),
-        open(1, -3, 0, 100),
-        close(1),
-        close(0),
-    ]
+    vec![open(0, 10, 0, 100), open(1, 5, 0, 4), close(1), open(1, -3, 0, 100), close(1), close(0)]
 }
 
 /// A well-formed log of 65,536 bytes: the first record takes 10 + 6, each of the 4,095

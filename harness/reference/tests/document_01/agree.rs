@@ -1,9 +1,9 @@
 //! The parts of the reference agree with each other, on random logs and cuts.
 
-use reference::gen::raw::spoilt;
 use reference::calls;
 use reference::gen::logs::{all_shapes, any_log, cut, encode_mixed, of_shape, open, with_fault};
 use reference::gen::logs::{flat, Values, VALUES};
+use reference::gen::raw::spoilt;
 use reference::gen::Rng;
 use reference::layout::{decode, encode, is_summary};
 use reference::log::{fault, held, opened};
@@ -135,12 +135,8 @@ fn every_record_of_a_chunk_is_counted_in_its_hill() {
                 continue;
             };
             let slopes = hill.left.iter().chain([&hill.middle]).flatten();
-            let sum: i64 = slopes.sum::<i64>()
-                + hill
-                    .right
-                    .iter()
-                    .map(|unclosed| unclosed.record.value + unclosed.held.unwrap())
-                    .sum::<i64>();
+            let sum: i64 =
+                slopes.sum::<i64>() + hill.right.iter().map(|unclosed| unclosed.record.value + unclosed.held.unwrap()).sum::<i64>();
             let values: i64 = chunk
                 .iter()
                 .filter_map(|record| match record {
@@ -162,9 +158,7 @@ fn check_plan(mode: Mode, log: &[Record], chunks: &[Vec<Record>]) {
     assert!(lines.len() <= 2 * chunks.len() - 3);
     let joins = joins_by_records(chunks);
     assert_eq!(levels_folded(&lines), joins.len());
-    assert!(lines
-        .windows(2)
-        .all(|pair| (pair[0].j, pair[1].i) < (pair[1].j, pair[0].i)));
+    assert!(lines.windows(2).all(|pair| (pair[0].j, pair[1].i) < (pair[1].j, pair[0].i)));
     let worked = work(&row);
     assert_eq!(worked.figure, Some(log_figure(mode, log)));
     assert_eq!(worked.joins, lines.len());
@@ -233,11 +227,7 @@ fn faults_agree_along_every_way() {
         let number = [7, 8, 10, 11][round % 4];
         let log = with_fault(&mut rng, number);
         assert_eq!(fault(&log), Some(number));
-        assert_eq!(
-            calls::day(&encode_mixed(&mut rng, &log)),
-            Err(number),
-            "{log:?}"
-        );
+        assert_eq!(calls::day(&encode_mixed(&mut rng, &log)), Err(number), "{log:?}");
         let count = 2 + rng.below(8);
         let chunks = cut(&mut rng, &log, count);
         for mode in Mode::ALL {
@@ -274,10 +264,7 @@ fn a_plan_of_2p_minus_3_lines() {
     let log = of_shape(&mut rng, &shape, Values::Small);
     let chunks = [&log[..2], &log[2..4], &log[4..]].map(<[Record]>::to_vec);
     let lines = plan_by_records(&chunks);
-    let numbers: Vec<_> = lines
-        .iter()
-        .map(|line| [line.i, line.j, line.lowest, line.highest])
-        .collect();
+    let numbers: Vec<_> = lines.iter().map(|line| [line.i, line.j, line.lowest, line.highest]).collect();
     assert_eq!(numbers, [[0, 1, 1, 1], [1, 2, 1, 1], [0, 2, 0, 0]]);
     assert_eq!(plan_by_levels(&row_of(Mode::Stamp, &chunks)), lines);
 }

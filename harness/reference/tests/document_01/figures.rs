@@ -48,10 +48,7 @@ fn levels_of_one_record() {
     for depth in 0..64 {
         for mode in MODES {
             let none = nothing(mode);
-            let down = Hill {
-                right: vec![(7, -8, 9, none)],
-                ..Hill::empty(mode, depth, depth, depth + 1, 1)
-            };
+            let down = Hill { right: vec![(7, -8, 9, none)], ..Hill::empty(mode, depth, depth, depth + 1, 1) };
             let opened = open(depth, 7, -8, 9);
             assert_eq!(summarise(&opened, mode.into(), 44), Ok(down.bytes()));
             let up = Hill::empty(mode, depth + 1, depth, depth, 0);
@@ -65,16 +62,7 @@ fn levels_of_one_record() {
 fn the_first_close_of_its_depth_closes() {
     // 1 holds 2 and 8, 2 holds 4. Heaviest 1 + the greater of 2 + 4 and 8; stamp
     // 1 + 31 × (2 + 31 × 4 + 8).
-    let log = [
-        short(0, 1),
-        short(1, 2),
-        short(2, 4),
-        close(2),
-        close(1),
-        short(1, 8),
-        close(1),
-        close(0),
-    ];
+    let log = [short(0, 1), short(1, 2), short(2, 4), close(2), close(1), short(1, 8), close(1), close(0)];
     assert_eq!(day(&log.concat()), Ok([15, 9, 15, 4155]));
 }
 
@@ -82,19 +70,9 @@ fn the_first_close_of_its_depth_closes() {
 fn held_by_a_record_that_no_close_follows() {
     // open 1 holds the closed 2 and the unclosed 4, which holds the closed 8. Of held
     // records only the closed ones count yet.
-    let chunk = [
-        open(1, 1, -9, 9),
-        short(2, 2),
-        close(2),
-        open(2, 4, -8, 8),
-        short(3, 8),
-        close(3),
-    ];
+    let chunk = [open(1, 1, -9, 9), short(2, 2), close(2), open(2, 4, -8, 8), short(3, 8), close(3)];
     for mode in MODES {
-        let hill = Hill {
-            right: vec![(1, -9, 9, 2), (4, -8, 8, 8)],
-            ..Hill::empty(mode, 1, 1, 3, 4)
-        };
+        let hill = Hill { right: vec![(1, -9, 9, 2), (4, -8, 8, 8)], ..Hill::empty(mode, 1, 1, 3, 4) };
         assert_eq!(summarise(&chunk.concat(), mode.into(), AMPLE), Ok(hill.bytes()));
     }
 }
@@ -117,11 +95,7 @@ fn records_held_by_none_that_the_chunk_opens() {
     ];
     // 3 + 4 + 6; the greater of 7 and 6; 3 + 31 × 4 + 6.
     for (mode, left, middle) in [(1, -2, 13), (2, 5, 7), (3, -2, 13), (4, 4_294_967_294, 133)] {
-        let hill = Hill {
-            left: vec![left],
-            middle,
-            ..Hill::empty(mode, 2, 1, 1, 5)
-        };
+        let hill = Hill { left: vec![left], middle, ..Hill::empty(mode, 2, 1, 1, 5) };
         assert_eq!(summarise(&chunk.concat(), mode.into(), AMPLE), Ok(hill.bytes()));
     }
 }
@@ -130,26 +104,14 @@ fn records_held_by_none_that_the_chunk_opens() {
 fn a_merge_closes_deepest_first() {
     // Unclosed: 10, which holds 1 so far, and in it 5 within 0 and 8, which holds 2. The
     // right adds 4 at level 2, closes both, and adds 6 at level 1 between.
-    let left = Hill {
-        right: vec![(10, 0, 15, 1), (5, 0, 8, 2)],
-        ..Hill::empty(3, 0, 0, 2, 4)
-    };
-    let right = Hill {
-        left: vec![4, 6],
-        ..Hill::empty(3, 2, 0, 0, 3)
-    };
+    let left = Hill { right: vec![(10, 0, 15, 1), (5, 0, 8, 2)], ..Hill::empty(3, 0, 0, 2, 4) };
+    let right = Hill { left: vec![4, 6], ..Hill::empty(3, 2, 0, 0, 3) };
     // 5 + 2 + 4 is lowered to 8; 10 + 1 + 8 + 6 to 15.
-    let both = Hill {
-        middle: 15,
-        ..Hill::empty(3, 0, 0, 0, 7)
-    };
+    let both = Hill { middle: 15, ..Hill::empty(3, 0, 0, 0, 7) };
     assert_eq!(merge(&left.bytes(), &right.bytes(), 24), Ok(both.bytes()));
     // Net: 10 + 1 + (5 + 2 + 4) + 6.
     let [left, right] = [left, right].map(|hill| Hill { mode: 1, ..hill }.bytes());
-    let both = Hill {
-        middle: 28,
-        ..Hill::empty(1, 0, 0, 0, 7)
-    };
+    let both = Hill { middle: 28, ..Hill::empty(1, 0, 0, 0, 7) };
     assert_eq!(merge(&left, &right, 24), Ok(both.bytes()));
 }
 
@@ -165,21 +127,9 @@ fn stamps_wrap() {
 #[test]
 fn floors_and_ceilings_bind() {
     // 3 + 5 lowered to 6; that and -9 raised to -2: 1 + 6 - 2 = 5, raised to 7.
-    let bytes = [
-        open(0, 1, 7, 8),
-        open(1, 3, 0, 6),
-        short(2, 5),
-        close(2),
-        close(1),
-        open(1, -9, -2, 2),
-        close(1),
-        close(0),
-    ];
+    let bytes = [open(0, 1, 7, 8), open(1, 3, 0, 6), short(2, 5), close(2), close(1), open(1, -9, -2, 2), close(1), close(0)];
     // net 1 + 3 + 5 - 9 = 0; heaviest 1 + 3 + 5.
-    assert_eq!(
-        day(&bytes.concat()).map(|figures| [figures[0], figures[1], figures[2]]),
-        Ok([0, 9, 7])
-    );
+    assert_eq!(day(&bytes.concat()).map(|figures| [figures[0], figures[1], figures[2]]), Ok([0, 9, 7]));
 }
 
 #[test]
@@ -197,16 +147,7 @@ fn a_run_of_the_greatest_depth() {
             middle: nothing(mode),
             right: vec![(1, -1_000_000_000, 1_000_000_000, 2); 64],
         };
-        let up = Hill {
-            mode,
-            start: 64,
-            peak: 0,
-            end: 0,
-            opened: 192,
-            left: vec![3; 64],
-            middle: nothing(mode),
-            right: vec![],
-        };
+        let up = Hill { mode, start: 64, peak: 0, end: 0, opened: 192, left: vec![3; 64], middle: nothing(mode), right: vec![] };
         [down.bytes(), up.bytes()].concat()
     };
     let run = |mode: u16| runs(&slopes(mode), 30).unwrap();
@@ -222,10 +163,7 @@ fn a_run_of_the_greatest_depth() {
     // the ceiling binds: from -10^9 + 63 × 6 to 10^9.
     assert_eq!(run(3), bytes(3, [384, -1_000_000_000 + 378, 1_000_000_000]));
     for mode in 1..=4 {
-        assert_eq!(
-            plan(&slopes(mode), 12),
-            Ok(words(&[12, 19, 0, 1, 0, 63]))
-        );
+        assert_eq!(plan(&slopes(mode), 12), Ok(words(&[12, 19, 0, 1, 0, 63])));
     }
 }
 
@@ -242,32 +180,11 @@ fn nothing_beside_x_in_mode_2() {
         middle: nothing(2),
         right: vec![(10, 0, 9, nothing(2))],
     };
-    let middle = Hill {
-        mode: 2,
-        start: 1,
-        peak: 1,
-        end: 1,
-        opened: 1,
-        left: vec![],
-        middle: -3,
-        right: vec![],
-    };
-    let up = Hill {
-        mode: 2,
-        start: 1,
-        peak: 0,
-        end: 0,
-        opened: 0,
-        left: vec![nothing(2)],
-        middle: nothing(2),
-        right: vec![],
-    };
+    let middle = Hill { mode: 2, start: 1, peak: 1, end: 1, opened: 1, left: vec![], middle: -3, right: vec![] };
+    let up = Hill { mode: 2, start: 1, peak: 0, end: 0, opened: 0, left: vec![nothing(2)], middle: nothing(2), right: vec![] };
     let row = [down.bytes(), middle.bytes(), up.bytes()];
     let expected = [10i64, i64::MIN, 10].map(i64::to_le_bytes).concat();
-    assert_eq!(
-        runs(&row.concat(), 30),
-        Ok([words(&[30, 20, 2]), expected].concat())
-    );
+    assert_eq!(runs(&row.concat(), 30), Ok([words(&[30, 20, 2]), expected].concat()));
     assert_eq!(work(&row.concat()), Ok((7, 1, 1)));
 }
 

@@ -58,9 +58,7 @@ fn merging_is_the_rewriting_of_the_report() {
         let mode = rng.pick(&Mode::ALL);
         let two = neighbours(&mut rng, mode, 2, 1000);
         let merged = merge(&two[0], &two[1]);
-        if let (Case::Hill(left), Case::Hill(right), Case::Hill(both)) =
-            (&two[0].case, &two[1].case, &merged.case)
-        {
+        if let (Case::Hill(left), Case::Hill(right), Case::Hill(both)) = (&two[0].case, &two[1].case, &merged.case) {
             assert!(is_merge(mode, left, right, both), "{left:?} {right:?}");
             hills += 1;
         }
@@ -111,10 +109,7 @@ fn rows_with_faults_agree_with_their_merge() {
         assert_eq!(fault(&row), number, "{row:?}");
         seen[usize::from(number.unwrap_or(0))] += 1;
     }
-    assert!(
-        [7, 8, 9, 11].iter().all(|&number| seen[number] > 30),
-        "{seen:?}"
-    );
+    assert!([7, 8, 9, 11].iter().all(|&number| seen[number] > 30), "{seen:?}");
 }
 
 /// Any x for a run: near 0, at the ends of what figures reach, or nothing.
@@ -153,14 +148,7 @@ fn work_runs_and_merge_agree_on_forged_rows() {
         }
         let bytes: Vec<u8> = row.iter().flat_map(encode).collect();
         assert_eq!(pieces(&bytes).len(), count);
-        assert_eq!(
-            calls::work(&bytes),
-            Ok((
-                stored(worked.figure),
-                worked.joins as i64,
-                worked.levels as i64
-            ))
-        );
+        assert_eq!(calls::work(&bytes), Ok((stored(worked.figure), worked.joins as i64, worked.levels as i64)));
     }
 }
 

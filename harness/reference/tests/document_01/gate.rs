@@ -6,47 +6,18 @@ use reference::gen::raw::{blank, close, log_d, nothing, open, short, spoilt, Hil
 
 /// A hill that begins or ends elsewhere than at level 0: "open 0".
 fn open_hill(mode: u16) -> Vec<u8> {
-    Hill {
-        mode,
-        start: 0,
-        peak: 0,
-        end: 1,
-        opened: 1,
-        left: vec![],
-        middle: nothing(mode),
-        right: vec![(1, 0, 9, nothing(mode))],
-    }
-    .bytes()
+    Hill { mode, start: 0, peak: 0, end: 1, opened: 1, left: vec![], middle: nothing(mode), right: vec![(1, 0, 9, nothing(mode))] }
+        .bytes()
 }
 
 /// The hill of "close 0".
 fn close_hill(mode: u16) -> Vec<u8> {
-    Hill {
-        mode,
-        start: 1,
-        peak: 0,
-        end: 0,
-        opened: 0,
-        left: vec![nothing(mode)],
-        middle: nothing(mode),
-        right: vec![],
-    }
-    .bytes()
+    Hill { mode, start: 1, peak: 0, end: 0, opened: 0, left: vec![nothing(mode)], middle: nothing(mode), right: vec![] }.bytes()
 }
 
 /// A closed record alone, at level 0.
 fn whole_hill(mode: u16, opened: u32, figure: i64) -> Vec<u8> {
-    Hill {
-        mode,
-        start: 0,
-        peak: 0,
-        end: 0,
-        opened,
-        left: vec![],
-        middle: figure,
-        right: vec![],
-    }
-    .bytes()
+    Hill { mode, start: 0, peak: 0, end: 0, opened, left: vec![], middle: figure, right: vec![] }.bytes()
 }
 
 /// Plan, runs and work answer the same refusal, into any buffer.
@@ -85,10 +56,7 @@ fn question_3_before_faults_and_12() {
     let chunk = [short(0, 1), short(0, 1), close(64)].concat();
     assert_eq!(summarise(&chunk, 1, 0), Err(3));
     assert_eq!(day(&chunk), Err(3));
-    assert_eq!(
-        read(&chunk),
-        Ok([1, 10, 0, 1, -1_000_000_000, 1_000_000_000])
-    );
+    assert_eq!(read(&chunk), Ok([1, 10, 0, 1, -1_000_000_000, 1_000_000_000]));
 }
 
 #[test]
@@ -126,10 +94,7 @@ fn question_4_before_5() {
 #[test]
 fn question_5_before_6() {
     let broken = whole_hill(1, 0, 0);
-    for row in [
-        [blank(1), blank(2), broken.clone()].concat(),
-        [broken.clone(), blank(2)].concat(),
-    ] {
+    for row in [[blank(1), blank(2), broken.clone()].concat(), [broken.clone(), blank(2)].concat()] {
         assert_row_refused(&row, 5);
         assert_eq!(merge_row(&row, 0), Err(5));
     }
@@ -145,11 +110,7 @@ fn question_5_before_6() {
 
 #[test]
 fn question_6_before_the_faults_and_12() {
-    for (one, other) in [
-        (blank(1), blank(2)),
-        (blank(3), spoilt(4, 7, 0, 0, 0)),
-        (spoilt(1, 7, 0, 0, 0), whole_hill(2, 1, 1)),
-    ] {
+    for (one, other) in [(blank(1), blank(2)), (blank(3), spoilt(4, 7, 0, 0, 0)), (spoilt(1, 7, 0, 0, 0), whole_hill(2, 1, 1))] {
         assert_eq!(merge(&one, &other, 0), Err(6));
         let row = [one.clone(), one, other].concat();
         assert_eq!(merge_row(&row, 0), Err(6));
@@ -168,26 +129,14 @@ fn faults_of_a_row_lowest_first() {
         ([open_hill(1), blank(1)].concat(), 11),
         ([blank(1), close_hill(1)].concat(), 11),
         // A fault inside a spoilt one, and a lower one at a join.
-        (
-            [spoilt(1, 8, 0, 3, 9), spoilt(1, 9, 5, 0, 100_001)].concat(),
-            7,
-        ),
-        (
-            [spoilt(1, 9, 0, 0, 100_001), whole_hill(1, 1, 1)].concat(),
-            8,
-        ),
+        ([spoilt(1, 8, 0, 3, 9), spoilt(1, 9, 5, 0, 100_001)].concat(), 7),
+        ([spoilt(1, 9, 0, 0, 100_001), whole_hill(1, 1, 1)].concat(), 8),
         // A fault inside a spoilt one, and a higher one at a join.
         ([spoilt(1, 7, 0, 0, 0), whole_hill(1, 1, 1)].concat(), 7),
-        (
-            [spoilt(1, 8, 2, 3, 1), spoilt(1, 9, 3, 1, 100_001)].concat(),
-            8,
-        ),
+        ([spoilt(1, 8, 2, 3, 1), spoilt(1, 9, 3, 1, 100_001)].concat(), 8),
         // 9 before 11; blanks between do not part neighbours.
         ([spoilt(1, 9, 2, 3, 100_001), blank(1)].concat(), 9),
-        (
-            [whole_hill(1, 1, 1), blank(1), whole_hill(1, 1, 1)].concat(),
-            8,
-        ),
+        ([whole_hill(1, 1, 1), blank(1), whole_hill(1, 1, 1)].concat(), 8),
         ([open_hill(1), blank(1), open_hill(1)].concat(), 7),
         ([blank(1), blank(1)].concat(), 10),
     ];
@@ -202,28 +151,13 @@ fn faults_of_a_row_lowest_first() {
 fn opened_is_counted_over_the_row() {
     // 99,999 + 1 records are taken, one more is not. Together: closed records at
     // level 1 inside one that is open at first.
-    let inner = |opened: u32| {
-        Hill {
-            mode: 4,
-            start: 1,
-            peak: 1,
-            end: 1,
-            opened,
-            left: vec![],
-            middle: 7,
-            right: vec![],
-        }
-        .bytes()
-    };
+    let inner = |opened: u32| Hill { mode: 4, start: 1, peak: 1, end: 1, opened, left: vec![], middle: 7, right: vec![] }.bytes();
     let row = |opened| [open_hill(4), inner(opened), close_hill(4)].concat();
     // 1 + 31 × 7 = 218, by one join of one level.
     assert_eq!(work(&row(99_999)), Ok((218, 1, 1)));
     assert_eq!(merge_row(&row(99_999), 24), Ok(whole_hill(4, 100_000, 218)));
     assert_row_refused(&row(100_000), 9);
-    assert_eq!(
-        merge_row(&row(100_000), 16),
-        Ok(spoilt(4, 9, 0, 0, 100_001))
-    );
+    assert_eq!(merge_row(&row(100_000), 16), Ok(spoilt(4, 9, 0, 0, 100_001)));
 }
 
 #[test]
@@ -241,24 +175,12 @@ fn a_spoilt_result_takes_its_ends_and_counts_from_both_sides() {
         ((8, 4, 1, 60_000), (8, 1, 64, 60_000), (8, 4, 64, 100_001)),
     ];
     for (left, right, merged) in cases {
-        let bytes = |(fault, start, end, opened): (u16, u16, u16, u32)| {
-            spoilt(2, fault, start, end, opened)
-        };
-        assert_eq!(
-            merge(&bytes(left), &bytes(right), 16),
-            Ok(bytes(merged)),
-            "{left:?} {right:?}"
-        );
+        let bytes = |(fault, start, end, opened): (u16, u16, u16, u32)| spoilt(2, fault, start, end, opened);
+        assert_eq!(merge(&bytes(left), &bytes(right), 16), Ok(bytes(merged)), "{left:?} {right:?}");
     }
     // A hill beside a spoilt one gives its levels and its count.
-    assert_eq!(
-        merge(&open_hill(2), &spoilt(2, 8, 1, 7, 3), 16),
-        Ok(spoilt(2, 8, 0, 7, 4))
-    );
-    assert_eq!(
-        merge(&spoilt(2, 8, 7, 2, 3), &close_hill(2), 16),
-        Ok(spoilt(2, 7, 7, 0, 3))
-    );
+    assert_eq!(merge(&open_hill(2), &spoilt(2, 8, 1, 7, 3), 16), Ok(spoilt(2, 8, 0, 7, 4)));
+    assert_eq!(merge(&spoilt(2, 8, 7, 2, 3), &close_hill(2), 16), Ok(spoilt(2, 7, 7, 0, 3)));
 }
 
 #[test]
@@ -290,10 +212,7 @@ fn question_12_comes_last_and_exact_fits() {
 #[test]
 fn finish_gives_the_stored_middle() {
     assert_eq!(finish(&whole_hill(1, 3, -5)), Ok(-5));
-    assert_eq!(
-        finish(&whole_hill(1, 100_000, 100_000_000_000_000)),
-        Ok(100_000_000_000_000)
-    );
+    assert_eq!(finish(&whole_hill(1, 100_000, 100_000_000_000_000)), Ok(100_000_000_000_000));
     // A mode 2 hill whose middle is nothing, which no chunk makes.
     let row = [whole_hill(2, 1, nothing(2)), blank(2)].concat();
     assert_eq!(finish(&whole_hill(2, 1, nothing(2))), Ok(i64::MIN));

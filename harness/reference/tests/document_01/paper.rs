@@ -3,9 +3,7 @@
 //! which has this file too.
 
 use crate::calls::{day, day_text, finish, merge, merge_row, plan, read, runs, summarise, work};
-use reference::gen::raw::{
-    blank, close, log_d, longest_log, nothing, open, short, spoilt, words, Hill,
-};
+use reference::gen::raw::{blank, close, log_d, longest_log, nothing, open, short, spoilt, words, Hill};
 
 const MODES: [u16; 4] = [1, 2, 3, 4];
 const AMPLE: usize = 4096;
@@ -70,16 +68,7 @@ fn hills_of_d(mode: u16) -> [Hill; 2] {
         middle: none,
         right: vec![(10, 0, 100, none), (5, 0, 4, none)],
     };
-    let right = Hill {
-        mode,
-        start: 2,
-        peak: 0,
-        end: 0,
-        opened: 1,
-        left: vec![none, of_last],
-        middle: none,
-        right: vec![],
-    };
+    let right = Hill { mode, start: 2, peak: 0, end: 0, opened: 1, left: vec![none, of_last], middle: none, right: vec![] };
     [left, right]
 }
 
@@ -181,26 +170,13 @@ fn the_small_faulty_logs() {
 #[test]
 fn close_1_alone() {
     // From level 2 to its peak and end, level 1; nothing opened.
-    let hill = Hill {
-        mode: 2,
-        start: 2,
-        peak: 1,
-        end: 1,
-        opened: 0,
-        left: vec![nothing(2)],
-        middle: nothing(2),
-        right: vec![],
-    };
+    let hill = Hill { mode: 2, start: 2, peak: 1, end: 1, opened: 0, left: vec![nothing(2)], middle: nothing(2), right: vec![] };
     assert_eq!(summary(&[close(1)], 2), hill.bytes());
 }
 
 #[test]
 fn depth_63_and_64() {
-    assert_eq!(
-        read(&open(63, 1, 2, 3)),
-        Ok([1, 18, 63, 1, 2, 3]),
-        "depth 63 read"
-    );
+    assert_eq!(read(&open(63, 1, 2, 3)), Ok([1, 18, 63, 1, 2, 3]), "depth 63 read");
     assert_eq!(read(&close(63)), Ok([2, 6, 63, 0, 0, 0]));
     assert_eq!(read(&open(64, 1, 2, 3)), Err(3), "64 gives 3");
     assert_eq!(read(&short(64, 1)), Err(3));
@@ -310,10 +286,7 @@ fn how_many_pieces() {
             assert_eq!(plan(&row, 0), answer.map(|()| vec![]), "{count} pieces");
             assert_eq!(runs(&row, 0), answer.map(|()| vec![]));
             assert_eq!(work(&row), answer.map(|()| (figure, 0, 0)));
-            assert_eq!(
-                merge_row(&row, 24),
-                answer.map(|()| summary(&log_d(), mode))
-            );
+            assert_eq!(merge_row(&row, 24), answer.map(|()| summary(&log_d(), mode)));
         }
     }
 }
@@ -350,18 +323,9 @@ fn slip_floor_and_ceiling_applied_once_to_a_run() {
 #[test]
 fn slip_the_join_of_neighbours_that_share_no_open_record() {
     // Chunk 1 closes what chunk 0 opened, chunk 2 opens another: 1 and 2 share none.
-    let chunks = [
-        vec![short(0, 1), short(1, 2)],
-        vec![close(1)],
-        vec![short(1, 3)],
-        vec![close(1), close(0)],
-    ];
+    let chunks = [vec![short(0, 1), short(1, 2)], vec![close(1)], vec![short(1, 3)], vec![close(1), close(0)]];
     let row: Vec<Vec<u8>> = chunks.iter().map(|chunk| summary(chunk, 1)).collect();
-    let lines = [
-        words(&[12, 19, 0, 1, 1, 1]),
-        words(&[12, 19, 2, 3, 1, 1]),
-        words(&[12, 19, 0, 3, 0, 0]),
-    ];
+    let lines = [words(&[12, 19, 0, 1, 1, 1]), words(&[12, 19, 2, 3, 1, 1]), words(&[12, 19, 0, 3, 0, 0])];
     assert_eq!(plan(&row.concat(), 36), Ok(lines.concat()));
     assert_eq!(work(&row.concat()), Ok((6, 3, 3)));
 }
@@ -370,16 +334,7 @@ fn slip_the_join_of_neighbours_that_share_no_open_record() {
 fn slip_the_level_at_the_peak_counted_on_both_slopes() {
     // close 1, a closed record at level 1, open 1: from level 2 to the peak 1 to 2.
     let chunk = [close(1), short(1, 4), close(1), open(1, 7, -8, 9)];
-    let hill = Hill {
-        mode: 1,
-        start: 2,
-        peak: 1,
-        end: 2,
-        opened: 2,
-        left: vec![0],
-        middle: 4,
-        right: vec![(7, -8, 9, 0)],
-    };
+    let hill = Hill { mode: 1, start: 2, peak: 1, end: 2, opened: 2, left: vec![0], middle: 4, right: vec![(7, -8, 9, 0)] };
     assert_eq!(summary(&chunk, 1), hill.bytes());
     assert_eq!(hill.bytes().len(), 52);
 }

@@ -18,16 +18,7 @@ fn accepted(bytes: &[u8]) -> bool {
 
 /// A hill with both slopes: levels 5, 3, 4. One unclosed record, five opened.
 fn hill(mode: u16) -> Hill {
-    Hill {
-        mode,
-        start: 5,
-        peak: 3,
-        end: 4,
-        opened: 5,
-        left: vec![1, 2],
-        middle: 3,
-        right: vec![(4, 5, 6, 7)],
-    }
+    Hill { mode, start: 5, peak: 3, end: 4, opened: 5, left: vec![1, 2], middle: 3, right: vec![(4, 5, 6, 7)] }
 }
 
 #[test]
@@ -183,13 +174,7 @@ fn opened_of_a_hill() {
     for mode in 1..=4 {
         for level in [0, 1, 64] {
             // "not 0 if start = peak = end"
-            for (opened, expected) in [
-                (0, false),
-                (1, true),
-                (100_000, true),
-                (100_001, false),
-                (u32::MAX, false),
-            ] {
+            for (opened, expected) in [(0, false), (1, true), (100_000, true), (100_001, false), (u32::MAX, false)] {
                 let bytes = Hill::empty(mode, level, level, level, opened).bytes();
                 assert_eq!(accepted(&bytes), expected, "{mode}: {level} {opened}");
             }
@@ -267,12 +252,9 @@ fn values_in_modes_1_to_3() {
 fn values_at_the_greatest_bound() {
     for mode in 1..=3 {
         let mut hill = Hill::empty(mode, 0, 0, 0, 100_000);
-        for (middle, expected) in [
-            (100_000 * GRAMS, true),
-            (100_000 * GRAMS + 1, false),
-            (-100_000 * GRAMS, true),
-            (-100_000 * GRAMS - 1, false),
-        ] {
+        for (middle, expected) in
+            [(100_000 * GRAMS, true), (100_000 * GRAMS + 1, false), (-100_000 * GRAMS, true), (-100_000 * GRAMS - 1, false)]
+        {
             hill.middle = middle;
             assert_eq!(accepted(&hill.bytes()), expected);
         }
@@ -282,15 +264,9 @@ fn values_at_the_greatest_bound() {
 #[test]
 fn values_in_mode_4() {
     for place in 0..5 {
-        for (value, expected) in [
-            (0, true),
-            (1, true),
-            (4_294_967_295, true),
-            (4_294_967_296, false),
-            (-1, false),
-            (i64::MIN, false),
-            (i64::MAX, false),
-        ] {
+        for (value, expected) in
+            [(0, true), (1, true), (4_294_967_295, true), (4_294_967_296, false), (-1, false), (i64::MIN, false), (i64::MAX, false)]
+        {
             let mut hill = Hill::empty(4, 3, 1, 3, 2);
             match place {
                 0 | 1 => hill.left[place] = value,

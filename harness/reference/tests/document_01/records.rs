@@ -1,7 +1,7 @@
 //! "Records": what is readable, levels, faults, who closes and holds whom.
 
-use reference::gen::raw::{close, open, short, words};
 use reference::calls::read;
+use reference::gen::raw::{close, open, short, words};
 use reference::log::{closer, fault, held};
 use reference::record::{encode_close, encode_full, encode_short, records_of, Open, Record};
 use reference::tree::{figure_by_holding, figures};
@@ -12,10 +12,7 @@ const GREATEST: i32 = 1_000_000_000;
 #[test]
 fn fields_of_a_first_record() {
     assert_eq!(read(&open(3, 1, -2, 7)), Ok([1, 18, 3, 1, -2, 7]));
-    assert_eq!(
-        read(&short(3, -1)),
-        Ok([1, 10, 3, -1, -1_000_000_000, 1_000_000_000])
-    );
+    assert_eq!(read(&short(3, -1)), Ok([1, 10, 3, -1, -1_000_000_000, 1_000_000_000]));
     assert_eq!(read(&close(3)), Ok([2, 6, 3, 0, 0, 0]));
 }
 
@@ -57,15 +54,9 @@ fn grams_at_both_ends() {
     let near = [LEAST, LEAST + 1, -1, 0, 1, GREATEST - 1, GREATEST];
     for value in near {
         let as_value = i64::from(value);
-        assert_eq!(
-            read(&open(0, value, LEAST, GREATEST)).map(|fields| fields[3]),
-            Ok(as_value)
-        );
+        assert_eq!(read(&open(0, value, LEAST, GREATEST)).map(|fields| fields[3]), Ok(as_value));
         assert_eq!(read(&short(0, value)).map(|fields| fields[3]), Ok(as_value));
-        assert_eq!(
-            read(&open(0, 0, value, value)).map(|fields| (fields[4], fields[5])),
-            Ok((as_value, as_value))
-        );
+        assert_eq!(read(&open(0, 0, value, value)).map(|fields| (fields[4], fields[5])), Ok((as_value, as_value)));
     }
     for value in far {
         assert_eq!(read(&open(0, value, 0, 0)), Err(3));
@@ -77,12 +68,7 @@ fn grams_at_both_ends() {
 
 #[test]
 fn the_reference_writes_what_the_paper_lays_out() {
-    let record = Open {
-        depth: 63,
-        value: -1_000_000_000,
-        floor: -2,
-        ceiling: 70_000,
-    };
+    let record = Open { depth: 63, value: -1_000_000_000, floor: -2, ceiling: 70_000 };
     assert_eq!(encode_full(&record), open(63, LEAST, -2, 70_000));
     assert_eq!(encode_short(5, -7), short(5, -7));
     assert_eq!(encode_close(62), close(62));
@@ -107,12 +93,7 @@ fn log(text: &str) -> Vec<Record> {
             if word.starts_with(')') {
                 return Record::Close { depth };
             }
-            let record = Open {
-                depth,
-                value,
-                floor: -1_000_000_000,
-                ceiling: 1_000_000_000,
-            };
+            let record = Open { depth, value, floor: -1_000_000_000, ceiling: 1_000_000_000 };
             value *= 2;
             Record::Open(record)
         })
@@ -176,9 +157,6 @@ fn every_record_has_a_figure_of_its_own() {
     assert_eq!(figures(Heaviest, &whole), [(0, 9), (1, 6), (2, 4), (5, 8)]);
     assert_eq!(figures(Eaten, &whole), [(0, 15), (1, 6), (2, 4), (5, 8)]);
     // 2 + 31 × 4 = 126; 1 + 31 × (126 + 8) = 4155.
-    assert_eq!(
-        figures(Stamp, &whole),
-        [(0, 4155), (1, 126), (2, 4), (5, 8)]
-    );
+    assert_eq!(figures(Stamp, &whole), [(0, 4155), (1, 126), (2, 4), (5, 8)]);
     assert_eq!(figure_by_holding(Stamp, &whole, 1), 126);
 }

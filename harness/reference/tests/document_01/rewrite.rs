@@ -33,9 +33,7 @@ fn rewrite(mode: Mode, tokens: &mut Vec<Token>) -> bool {
     for place in 0..tokens.len() {
         let (count, value) = match tokens[place..] {
             [Token::Value(one), Token::Value(other), ..] => (2, combine(mode, &[one, other])),
-            [Token::Open(record), Token::Value(held), Token::Close, ..] => {
-                (3, Some(through(mode, &record, held)))
-            }
+            [Token::Open(record), Token::Value(held), Token::Close, ..] => (3, Some(through(mode, &record, held))),
             _ => continue,
         };
         tokens.splice(place..place + count, [Token::Value(value)]);

@@ -1,10 +1,10 @@
 //! A row: how it is cut into pieces, how it is merged half with half, and demand 3's
 //! row under lists of merges.
 
-use reference::gen::raw::{blank, spoilt};
 use reference::calls::{finish, summarise, work};
 use reference::gen::forged::neighbours;
 use reference::gen::logs::{any_log, cut, encode_mixed, merge_list, with_fault};
+use reference::gen::raw::{blank, spoilt};
 use reference::gen::Rng;
 use reference::log::fault;
 use reference::merge::merge;
@@ -28,10 +28,7 @@ fn pieces_of_a_row() {
     for length in 0..6 {
         let rest = [vec![length, 0], vec![0; 9]].concat();
         assert_eq!(lengths(&rest), [11]);
-        assert_eq!(
-            lengths(&[blank(1), rest.clone(), blank(1)].concat()),
-            [6, 17]
-        );
+        assert_eq!(lengths(&[blank(1), rest.clone(), blank(1)].concat()), [6, 17]);
         assert_eq!(lengths(&[length, 0]), [2]);
     }
     // "or runs past the end"
@@ -65,10 +62,7 @@ fn halves_of_a_row() {
 
 /// The row of demand 3: what summarise writes for the chunks.
 fn first_row(rng: &mut Rng, mode: Mode, chunks: &[Vec<Record>]) -> Vec<Vec<u8>> {
-    chunks
-        .iter()
-        .map(|chunk| summarise(&encode_mixed(rng, chunk), mode.number(), 4096).unwrap())
-        .collect()
+    chunks.iter().map(|chunk| summarise(&encode_mixed(rng, chunk), mode.number(), 4096).unwrap()).collect()
 }
 
 /// Demand 3 on one log, cut, mode and list.
@@ -78,10 +72,7 @@ fn demand_3(rng: &mut Rng, log: &[Record], most_chunks: usize) {
     let chunks = cut(rng, log, count);
     let row = first_row(rng, mode, &chunks);
     let steps = merge_list(rng, mode, &chunks);
-    let mut stretches = Stretches {
-        mode,
-        stretches: chunks,
-    };
+    let mut stretches = Stretches { mode, stretches: chunks };
     assert_eq!(row, stretches.row(), "summarise");
     let expected: Vec<_> = steps.iter().map(|step| stretches.step(step)).collect();
     let (answers, last_row) = replay(row.clone(), &steps);
