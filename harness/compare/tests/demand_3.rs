@@ -19,8 +19,12 @@ fn outcome(mode: Mode, log: &[Record]) -> Result<i64, u8> {
     fault(log).map_or_else(|| Ok(log_figure(mode, log)), Err)
 }
 
-/// Plan and work of the row before any merge.
+/// Plan and work of the row before any merge. They take 2 to 64 summaries.
 fn before_any_merge(mode: Mode, chunks: &[Vec<Record>], row: &[u8]) {
+    if !(2..=64).contains(&chunks.len()) {
+        assert_eq!((calls::work(row), calls::plan(row, AMPLE)), (Err(4), Err(4)));
+        return;
+    }
     let outcome = outcome(mode, &chunks.concat());
     let lines = plan_by_records(chunks);
     let worked = outcome.map(|figure| (figure, lines.len() as i64, levels_folded(&lines) as i64));
@@ -98,10 +102,10 @@ fn one_list_on_two_days() {
     assert_eq!(finished, Some(Err(8)));
 }
 
-/// The claim on a log cut at random, with a list of merges drawn at random. Whether it had a refusal, and whether one was left.
-fn random_claim(rng: &mut Rng, log: &[Record], most_chunks: usize) -> (bool, bool) {
+/// The claim on a log cut at random into so many chunks, with a list of merges drawn at random. Whether it had a refusal, and whether
+/// one was left.
+fn random_claim(rng: &mut Rng, log: &[Record], count: usize) -> (bool, bool) {
     let mode = rng.pick(&Mode::ALL);
-    let count = 2 + rng.below(most_chunks - 1);
     let chunks = logs::cut(rng, log, count);
     let steps = logs::merge_list(rng, mode, &chunks);
     let bytes: Vec<Vec<u8>> = chunks.iter().map(|chunk| logs::encode_mixed(rng, chunk)).collect();
@@ -116,7 +120,8 @@ fn lists_on_well_formed_logs() {
     for round in 0..600 {
         let (opened, most) = if round % 20 == 0 { (300, 64) } else { (40, 9) };
         let log = logs::any_log(&mut rng, opened);
-        let (refused, finished) = random_claim(&mut rng, &log, most);
+        let count = 2 + rng.below(most - 1);
+        let (refused, finished) = random_claim(&mut rng, &log, count);
         with_refusals += usize::from(refused);
         to_one += usize::from(finished);
     }
@@ -130,7 +135,21 @@ fn lists_on_logs_with_a_fault() {
         for _ in 0..150 {
             let log = logs::with_fault(&mut rng, number);
             assert_eq!(fault(&log), Some(number));
-            random_claim(&mut rng, &log, 9);
+            let count = 1 + rng.below(9);
+            random_claim(&mut rng, &log, count);
         }
     }
+}
+
+#[test]
+fn lists_on_rows_that_no_one_call_takes() {
+    let mut rng = Rng::new(0xd33);
+    let mut to_one = 0;
+    for count in [1, 65, 66, 100, 150, 200] {
+        for _ in 0..20 {
+            let log = logs::any_log(&mut rng, 200);
+            to_one += usize::from(random_claim(&mut rng, &log, count).1);
+        }
+    }
+    assert!(to_one > 60, "{to_one}");
 }

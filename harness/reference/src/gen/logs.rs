@@ -252,7 +252,7 @@ pub fn longest_plan(rng: &mut Rng, count: usize) -> Vec<Vec<Record>> {
 }
 
 /// A list of merges on the row of these chunks, each possible on the row as it then
-/// stands. Buffers are exact, one short, empty, longer, or of any length.
+/// stands: one call takes 64 summaries at most. Buffers are exact, one short, empty, longer, or of any length.
 pub fn merge_list(rng: &mut Rng, mode: Mode, chunks: &[Vec<Record>]) -> Vec<Step> {
     let mut row = Stretches { mode, stretches: chunks.to_vec() };
     let mut steps = Vec::new();
@@ -260,7 +260,7 @@ pub fn merge_list(rng: &mut Rng, mode: Mode, chunks: &[Vec<Record>]) -> Vec<Step
         let call = rng.pick(&[Call::Merge, Call::MergeRow]);
         let count = match call {
             Call::Merge => 2,
-            Call::MergeRow => 2 + rng.below(row.count() - 1).min(rng.below(64)),
+            Call::MergeRow => 2 + rng.below(row.count() - 1).min(rng.below(63)),
         };
         let place = rng.below(row.count() - count + 1);
         let exact = row.joined(place, count).len();
