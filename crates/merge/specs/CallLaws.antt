@@ -1,30 +1,29 @@
 -- The questions of the calls, one for each way out. Assumes nothing.
 use mathlib.Core.Path.{_≡_, refl, ap, sym, subst, _∙_}
 use mathlib.Core.Bool.{Bool, true, false, _&&_}
-use mathlib.Core.List.{List, [], _∷_, map}
+use mathlib.Core.List.{List, [], _∷_}
 use Prim.Native.Nat.{ℕ, _-_, _≤_, _<_, min}
 use native.Mathlib.Omega.{arith}
 use lib.Dec.{eqb}
 use lib.ListN.{length, take, drop, length-drop}
 use borrow.Author.Tests.{eq-eqb, ne-eqb}
-use Rattle.gate.specs.Outcome.{Outcome, refused, result, question, onward, written, bufferAfter}
+use Rattle.gate.specs.Outcome.{Outcome, refused, result, onward, written, bufferAfter}
 use Rattle.gate.specs.Answers.{writtenAnswer, lengthAnswered}
 use Rattle.gate.specs.declared.Written.{Written}
 use Rattle.number.specs.Laws.{part-rest}
 use Rattle.row.specs.Row.{firstLength, rowPieces}
 use Rattle.row.specs.Laws.{first-within, pieces-nil, pieces-next}
 use Rattle.summary.specs.Judge.{modeAt}
-use Rattle.summary.specs.Decode.{decode}
 use Rattle.summary.specs.Decide.{isSummary}
 use Rattle.summary.specs.Accepted.{IsSummaryIn}
 use Rattle.summary.specs.Outcomes.{mergeOutcome}
-use Rattle.outcome.specs.Outcomes.{allSummaries, allOf, firstMode, Summaries, askRow, mergedBytes, mergeRowOutcome}
-use Rattle.outcome.specs.Laws.{AllIn, ask-4, ask-all, two-to-64, too-many, too-few}
-use Rattle.outcome.specs.Through.{all-in as all-of}
+use Rattle.outcome.specs.Outcomes.{allSummaries, allOf, firstMode, modeOfAll, Summaries, mergedBytes, mergeRowOutcome}
+use Rattle.outcome.specs.Laws.{mode-5, mode-6, mode-all, ask-4, ask-mode, two-to-64, too-many, too-few}
+use Rattle.outcome.specs.Through.{mode-in}
 use Rattle.judge.specs.declared.Piece.{Piece}
 use Rattle.judge.specs.Laws.{Judges}
 use Rattle.emit.specs.Emitted.{Answers}
-use Rattle.merge.specs.RowAsks.{Row, rowSummary, rowMerged, modeOfAll, Passed}
+use Rattle.merge.specs.RowAsks.{Row, rowSummary, rowMerged, Passed}
 
 -- ---- a call that is refused, and one that is not
 
@@ -101,8 +100,7 @@ module _ {row s : List ℕ} {m : ℕ} {t : Bool} (h : Passed row s m t) where
   }
 
   pub pass-5 : allSummaries (rowPieces s) ≡ false → modeOfAll (rowPieces row) ≡ refused 5
-  unfolding modeOfAll
-  pass-5 n = rw (sym (h .summaries) ∙ n)
+  pass-5 n = mode-5 (rowPieces row) (sym (h .summaries) ∙ n)
 
   none-left : length s ≤ 0 → rowPieces s ≡ []
   none-left l = go s l
@@ -118,16 +116,10 @@ module _ {row s : List ℕ} {m : ℕ} {t : Bool} (h : Passed row s m t) where
   same-is l = sym (and-true t) ∙ sym (ap (λ (ps : List (List ℕ)). t && allOf m ps) (none-left l)) ∙ h .modes
 
   pub pass-6 : length s ≤ 0 → t ≡ false → modeOfAll (rowPieces row) ≡ refused 6
-  unfolding modeOfAll
-  pass-6 l n = rw (all-passed l, sym (same-is l) ∙ n)
+  pass-6 l n = mode-6 (rowPieces row) (all-passed l) (sym (same-is l) ∙ n)
 
   pub pass-all : length s ≤ 0 → t ≡ true → modeOfAll (rowPieces row) ≡ result m
-  unfolding modeOfAll
-  pass-all l y = rw (all-passed l, sym (same-is l) ∙ y) (ap result (sym (h .mode-is)))
-
-pub first-5 : (ps : List (List ℕ)) → allSummaries ps ≡ false → modeOfAll ps ≡ refused 5
-unfolding modeOfAll
-first-5 ps n = rw n
+  pass-all l y = mode-all (rowPieces row) (all-passed l) (sym (same-is l) ∙ y) ∙ ap result (sym (h .mode-is))
 
 -- ---- merging a row: 4, 5, 6
 
@@ -149,33 +141,13 @@ module _ (row : List ℕ) (cap : ℕ) {n : ℕ} (e : n ≡ min 65 (length (rowPi
         go (b ∷ s) e = omega arith
 
     pub row-refused : {k : ℕ} → refused k ≡ modeOfAll (rowPieces row) → mergeRowOutcome row cap ≡ refused k
-    unfolding mergeRowOutcome modeOfAll askRow
-    row-refused {k} q =
-        rw (two-to-64 (rowPieces row) (omega arith) (omega arith))
-        (go (allSummaries (rowPieces row)) (allOf (firstMode (rowPieces row)) (rowPieces row)) q)
-      where
-        go : (x y : Bool) → refused k ≡ question 5 x (question 6 y (result (firstMode (rowPieces row)))) →
-            onward (question 5 x (question 6 y (result (record { mode = firstMode (rowPieces row); row = map (decode (firstMode (rowPieces row))) (rowPieces row) })))) (λ s. written cap (mergedBytes s)) ≡ refused k
-        go false y q = cc
-        go true false q = cc
-        go true true q = cc
+    unfolding mergeRowOutcome
+    row-refused q = ap (λ (o : Outcome Summaries). onward o (λ s. written cap (mergedBytes s))) (ask-mode (rowPieces row) (two-to-64 (rowPieces row) (omega arith) (omega arith)) (sym q))
 
     module _ {m : ℕ} (q : result m ≡ modeOfAll (rowPieces row)) where
-      all-in : AllIn m (rowPieces row)
-      unfolding modeOfAll
-      all-in = go (allSummaries (rowPieces row)) refl (allOf (firstMode (rowPieces row)) (rowPieces row)) refl q
-        where
-          go : (x : Bool) → allSummaries (rowPieces row) ≡ x → (y : Bool) → allOf (firstMode (rowPieces row)) (rowPieces row) ≡ y →
-              result m ≡ question 5 x (question 6 y (result (firstMode (rowPieces row)))) → AllIn m (rowPieces row)
-          go true ex true ey q =
-              let f : firstMode (rowPieces row) ≡ m = cc in
-              subst (λ (k : ℕ). AllIn k (rowPieces row)) f (all-of (firstMode (rowPieces row)) (rowPieces row) ex ey)
-          go true ex false ey q = let z : _≡_ {A = ℕ} 0 1 = cc in absurd (omega arith)
-          go false ex y ey q = let z : _≡_ {A = ℕ} 0 1 = cc in absurd (omega arith)
-
       pub is-row : Row m row n
-      is-row = record { all = all-in; count-is = omega arith; some = omega arith; few = hi }
+      is-row = record { all = mode-in (rowPieces row) (sym q); count-is = omega arith; some = omega arith; few = hi }
 
       pub row-is : mergeRowOutcome row cap ≡ written cap (rowMerged m row)
       unfolding mergeRowOutcome mergedBytes rowSummary
-      row-is = ap (λ (o : Outcome Summaries). onward o (λ s. written cap (mergedBytes s))) (ask-all m (rowPieces row) all-in (omega arith) (omega arith))
+      row-is = ap (λ (o : Outcome Summaries). onward o (λ s. written cap (mergedBytes s))) (ask-mode (rowPieces row) (two-to-64 (rowPieces row) (omega arith) (omega arith)) (sym q))

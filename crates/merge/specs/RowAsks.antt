@@ -4,7 +4,6 @@ use mathlib.Core.Bool.{Bool, _&&_}
 use mathlib.Core.List.{List, map}
 use Prim.Native.Nat.{ℕ, _*_, _^_, _≤_}
 use lib.ListN.{length, take}
-use Rattle.gate.specs.Outcome.{Outcome, refused, result, question}
 use Rattle.row.specs.Row.{rowPieces}
 use Rattle.figure.specs.Mode.{modeOf}
 use Rattle.hill.specs.Row.{mergeRow}
@@ -12,8 +11,6 @@ use Rattle.summary.specs.Layout.{SummaryIn, encode}
 use Rattle.summary.specs.Decode.{decode}
 use Rattle.outcome.specs.Outcomes.{allSummaries, allOf, firstMode}
 use Rattle.outcome.specs.Laws.{AllIn}
-use Rattle.merge.specs.declared.OneMode.{OneMode}
-use Rattle.merge.specs.declared.OneMode.the-variants as one
 
 -- The row's pieces are summaries in mode m, as many as count says: at least one, and at most 64.
 pub record Row (m : ℕ) (row : List ℕ) (count : ℕ) : Type 0 where
@@ -41,15 +38,6 @@ pub record Front (w o : List ℕ) (n : ℕ) : Type 0 where
   pub is : take n o ≡ w
   pub count : n ≡ length (take n o)
   pub inside : n ≤ length o
-
--- Questions 5 and 6 of a row's pieces, and their mode.
-unfoldable pub modeOfAll : List (List ℕ) → Outcome ℕ
-modeOfAll ps = question 5 (allSummaries ps) (question 6 (allOf (firstMode ps) ps) (result (firstMode ps)))
-
--- What the answer says.
-abbrev pub modeAnswer : OneMode → Outcome ℕ
-modeAnswer (one.Mode m) = result m
-modeAnswer (one.Refused n) = refused n
 
 -- Of the row's pieces, those before the bytes `rest` are summaries, and t says whether they are all of mode m, the first one's.
 pub record Passed (row rest : List ℕ) (m : ℕ) (t : Bool) : Type 0 where

@@ -18,14 +18,16 @@ ghost use Rattle.summary.specs.Accepted.{IsSummaryIn};
 ghost use Rattle.summary.specs.Outcomes.{mergeBytes, mergeOutcome};
 ghost use Rattle.slopes.specs.Arrays.{arrays};
 ghost use Rattle.emit.specs.Emitted.{Answers};
-ghost use Rattle.outcome.specs.Outcomes.{mergeRowOutcome};
+ghost use Rattle.outcome.specs.Outcomes.{modeOfAll, mergeRowOutcome};
+ghost use Rattle.outcome.specs.Answers.{modeAnswer};
 ghost use Rattle.fault.specs.Fault.{verdictOf};
 ghost use Rattle.merge.specs.Side.{SaysPart, SaysOf, FewOpened};
 ghost use Rattle.merge.specs.Asks.{Arrays64, Kept, Keeps};
-ghost use Rattle.merge.specs.RowAsks.{Front, Row, Room, rowSummary, rowMerged, modeOfAll, modeAnswer};
+ghost use Rattle.merge.specs.RowAsks.{Front, Row, Room, rowSummary, rowMerged};
 use gate::Written;
 use judge::Head;
 use judge::Judged;
+use outcome::OneMode;
 use slopes::Counts;
 
 // What a summary that is not blank says before its slopes, in one form for a spoilt one and a hill. `fault` is fault::NONE in a hill; a spoilt
@@ -36,12 +38,6 @@ struct Numbers {
     peak: u16,
     end: u16,
     opened: u32,
-}
-
-// The mode of a row's pieces, or the refusal. `modeAnswer` says what each case means.
-enum OneMode {
-    Mode(u16),
-    Refused(u8),
 }
 
 // One side of a merge. Blank: a chunk with no record, which adds nothing. Part: a spoilt summary or a hill. Those two are one case here, since

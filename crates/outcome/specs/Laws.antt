@@ -17,7 +17,7 @@ use Rattle.summary.specs.Judge.{IsSummary, isBlank, isSpoilt, isHill}
 use Rattle.summary.specs.Decode.{decode}
 use Rattle.summary.specs.DecideLaws.{decide-summary}
 use Rattle.summary.specs.Accepted.{IsSummaryIn, encoded, decode-encode}
-use Rattle.outcome.specs.Outcomes.{twoTo64, allSummaries, allOf, firstMode, Summaries, askRow, askLog, mergedBytes, planBytes, runsBytes, workAlong, mergeRowOutcome, planOutcome, runsOutcome, workOutcome}
+use Rattle.outcome.specs.Outcomes.{twoTo64, allSummaries, allOf, firstMode, modeOfAll, Summaries, askRow, askLog, mergedBytes, planBytes, runsBytes, workAlong, mergeRowOutcome, planOutcome, runsOutcome, workOutcome}
 
 -- ---- one question after another
 
@@ -26,17 +26,19 @@ module _ (ps : List (List ℕ)) where
   unfolding askRow
   ask-4 a = rw a
 
-  pub ask-5 : twoTo64 ps ≡ true → allSummaries ps ≡ false → askRow ps ≡ refused 5
-  unfolding askRow
-  ask-5 a b = rw (a, b)
+  pub mode-5 : allSummaries ps ≡ false → modeOfAll ps ≡ refused 5
+  mode-5 b = rw b
 
-  pub ask-6 : twoTo64 ps ≡ true → allSummaries ps ≡ true → allOf (firstMode ps) ps ≡ false → askRow ps ≡ refused 6
-  unfolding askRow
-  ask-6 a b c = rw (a, b, c)
+  pub mode-6 : allSummaries ps ≡ true → allOf (firstMode ps) ps ≡ false → modeOfAll ps ≡ refused 6
+  mode-6 b c = rw (b, c)
 
-  pub ask-none : twoTo64 ps ≡ true → allSummaries ps ≡ true → allOf (firstMode ps) ps ≡ true → askRow ps ≡ result (record { mode = firstMode ps; row = map (decode (firstMode ps)) ps })
+  pub mode-all : allSummaries ps ≡ true → allOf (firstMode ps) ps ≡ true → modeOfAll ps ≡ result (firstMode ps)
+  mode-all b c = rw (b, c)
+
+  -- what 5 and 6 find, where 4 has a "yes"
+  pub ask-mode : twoTo64 ps ≡ true → {o : Outcome ℕ} → modeOfAll ps ≡ o → askRow ps ≡ onward o (λ m. result (record { mode = m; row = map (decode m) ps }))
   unfolding askRow
-  ask-none a b c = rw (a, b, c)
+  ask-mode a e = rw a (ap (λ (o : Outcome ℕ). onward o (λ m. result (record { mode = m; row = map (decode m) ps }))) e)
 
 pub two-to-64 : (ps : List (List ℕ)) → 2 ≤ length ps → length ps ≤ 64 → twoTo64 ps ≡ true
 unfolding twoTo64
@@ -58,7 +60,7 @@ AllIn m [] = Unit {0}
 AllIn m (p ∷ ps) = IsSummaryIn m p × AllIn m ps
 
 module _ (m : ℕ) where
-  all-summaries : (ps : List (List ℕ)) → AllIn m ps → allSummaries ps ≡ true
+  pub all-summaries : (ps : List (List ℕ)) → AllIn m ps → allSummaries ps ≡ true
   all-summaries [] a = refl
   all-summaries (p ∷ ps) a = rw (decide-summary p .to (a .0 .is), all-summaries ps (a .1))
 
@@ -74,8 +76,7 @@ module _ (m : ℕ) where
   pub ask-all : (ps : List (List ℕ)) → AllIn m ps → 2 ≤ length ps → length ps ≤ 64 → askRow ps ≡ result (record { mode = m; row = map (decode m) ps })
   ask-all ps a l h =
       let e : firstMode ps ≡ m = first-mode ps a l in
-      ask-none ps (two-to-64 ps l h) (all-summaries ps a) (subst (λ (k : ℕ). allOf k ps ≡ true) (sym e) (all-of ps a)) ∙
-      ap (λ (k : ℕ). result (record { mode = k; row = map (decode k) ps })) e
+      ask-mode ps (two-to-64 ps l h) (mode-all ps (all-summaries ps a) (subst (λ (k : ℕ). allOf k ps ≡ true) (sym e) (all-of ps a)) ∙ ap result e)
 
   -- Lent end to end, they are the row's pieces.
   own-length : (b : List ℕ) → IsSummary b → OwnLength b

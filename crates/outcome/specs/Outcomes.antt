@@ -41,6 +41,10 @@ abbrev pub firstMode : List (List ℕ) → ℕ
 firstMode [] = 0
 firstMode (p ∷ ps) = modeAt p
 
+-- Questions 5 and 6, and the mode that all are of.
+abbrev pub modeOfAll : List (List ℕ) → Outcome ℕ
+modeOfAll pieces = question 5 (allSummaries pieces) (question 6 (allOf (firstMode pieces) pieces) (result (firstMode pieces)))
+
 -- A row of summaries in one mode.
 pub record Summaries : Type 0 where
   pub mode : ℕ
@@ -48,10 +52,7 @@ pub record Summaries : Type 0 where
 
 -- Questions 4, 5 and 6, asked of a row's pieces.
 unfoldable pub askRow : List (List ℕ) → Outcome Summaries
-askRow pieces =
-    question 4 (twoTo64 pieces)
-    (question 5 (allSummaries pieces)
-    (question 6 (allOf (firstMode pieces) pieces) (result (record { mode = firstMode pieces; row = map (decode (firstMode pieces)) pieces }))))
+askRow pieces = question 4 (twoTo64 pieces) (onward (modeOfAll pieces) (λ m. result (record { mode = m; row = map (decode m) pieces })))
 
 -- Questions 7 to 11, "several faults: the lowest".
 unfoldable pub askLog : Summaries → Outcome Summaries

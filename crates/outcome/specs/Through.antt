@@ -7,7 +7,7 @@ use native.Mathlib.Omega.{arith}
 use lib.Dec.{leb, eqb}
 use lib.ListN.{length, length-map, length-append}
 use borrow.Author.Tests.{eqb-true, leb-true}
-use Rattle.gate.specs.Outcome.{result, question}
+use Rattle.gate.specs.Outcome.{result, question, onward}
 use Rattle.number.specs.Bytes.{bytesOf}
 use Rattle.figure.specs.Mode.{modeOf}
 use Rattle.hill.specs.Verdict.{Verdict, pass, refuse}
@@ -27,7 +27,7 @@ use Rattle.plan_work.specs.Runs.{slopesOf}
 use Rattle.plan_work.specs.Gate.{rowFault}
 use Rattle.plan_work.specs.Fair.{ValidRow}
 use Rattle.plan_work.specs.GateExact.{mergeAll, finish-row, fair-row}
-use Rattle.outcome.specs.Outcomes.{twoTo64, allSummaries, allOf, firstMode, Summaries, askRow, askLog, lineBytes, linesBytes, planBytes}
+use Rattle.outcome.specs.Outcomes.{twoTo64, allSummaries, allOf, firstMode, modeOfAll, Summaries, askRow, askLog, lineBytes, linesBytes, planBytes}
 use Rattle.outcome.specs.Laws.{AllIn}
 
 and-left : (a b : Bool) → a && b ≡ true → a ≡ true
@@ -47,6 +47,14 @@ all-in m (p ∷ ps) g s = (
   all-in m ps (and-right (isSummary p) (allSummaries ps) g) (and-right (eqb m (modeAt p)) (allOf m ps) s),
 )
 
+pub mode-in : (ps : List (List ℕ)) {m : ℕ} → modeOfAll ps ≡ result m → AllIn m ps
+mode-in ps {m} q = go (allSummaries ps) refl (allOf (firstMode ps) ps) refl q
+  where
+    go : (x : Bool) → allSummaries ps ≡ x → (y : Bool) → allOf (firstMode ps) ps ≡ y → question 5 x (question 6 y (result (firstMode ps))) ≡ result m → AllIn m ps
+    go true ex true ey q = let f : firstMode ps ≡ m = cc in subst (λ (k : ℕ). AllIn k ps) f (all-in (firstMode ps) ps ex ey)
+    go true ex false ey q = let z : _≡_ {A = ℕ} 0 1 = cc in absurd (omega arith)
+    go false ex y ey q = let z : _≡_ {A = ℕ} 0 1 = cc in absurd (omega arith)
+
 -- 2 to 64 summaries of one mode.
 pub record Found (ps : List (List ℕ)) (s : Summaries) : Type 0 where
   pub some : 2 ≤ length ps
@@ -59,7 +67,7 @@ unfolding askRow twoTo64
 ask-found ps s e = go (twoTo64 ps) refl (allSummaries ps) refl (allOf (firstMode ps) ps) refl e
   where
     go : (x : Bool) → twoTo64 ps ≡ x → (y : Bool) → allSummaries ps ≡ y → (z : Bool) → allOf (firstMode ps) ps ≡ z →
-        question 4 x (question 5 y (question 6 z (result (record { mode = firstMode ps; row = map (decode (firstMode ps)) ps })))) ≡ result s → Found ps s
+        question 4 x (onward (question 5 y (question 6 z (result (firstMode ps)))) (λ m. result (record { mode = m; row = map (decode m) ps }))) ≡ result s → Found ps s
     go true ex true ey true ez e = record {
       some = leb-true 2 (length ps) (and-left (leb 2 (length ps)) (leb (length ps) 64) ex);
       few = leb-true (length ps) 64 (and-right (leb 2 (length ps)) (leb (length ps) 64) ex);

@@ -1,6 +1,6 @@
 -- The questions of a row, one after the other. Assumes nothing.
 use mathlib.Core.Path.{_≡_, refl, sym, ap, subst, _∙_}
-use mathlib.Core.Bool.{Bool, true, false}
+use mathlib.Core.Bool.{true, false}
 use mathlib.Core.List.{List, [], _∷_, map}
 use Prim.Native.Nat.{ℕ, zero, suc, _≤_, _<_, min}
 use native.Mathlib.Omega.{arith}
@@ -13,14 +13,14 @@ use Rattle.summary.specs.Decode.{decode}
 use Rattle.join_plan.specs.Plan.{Line, planOfRow}
 use Rattle.join_plan.specs.Scan.{plan}
 use Rattle.plan_work.specs.Gate.{rowFault}
-use Rattle.outcome.specs.Outcomes.{Summaries, twoTo64, allSummaries, allOf, firstMode, askRow, askLog}
-use Rattle.outcome.specs.Laws.{ask-4, ask-5, ask-6, ask-none, two-to-64, too-few, too-many, AllIn}
-use Rattle.outcome.specs.Through.{all-in}
+use Rattle.outcome.specs.Outcomes.{twoTo64, modeOfAll, Summaries, askRow, askLog}
+use Rattle.outcome.specs.Laws.{ask-4, ask-mode, two-to-64, too-few, too-many, AllIn, all-summaries}
+use Rattle.outcome.specs.Through.{mode-in}
 use Rattle.row_plan.specs.Arrays.{levelsIn, Kept}
 use Rattle.fault.specs.Fault.{noFault, verdictOf}
 use Rattle.fault.specs.Laws.{clear, found}
 use Rattle.row_plan.specs.Told.{toldsFrom, faultOf}
-use Rattle.row_plan.specs.Notes.{Whole, AllJudged}
+use Rattle.row_plan.specs.Notes.{Whole, AllNoted, NotedAll}
 use Rattle.row_plan.specs.ScanLaws.{length-lines}
 use Rattle.row_plan.specs.RowLaws.{row-fault, row-plan, row-room}
 use Rattle.row_plan.specs.Asks.{askAll, summariesIn, Through}
@@ -43,49 +43,45 @@ module _ (row : List ℕ) (count : ℕ) (e : count ≡ min 65 (length (rowPieces
   in-number : twoTo64 (rowPieces row) ≡ true
   in-number = two-to-64 (rowPieces row) (omega arith) (omega arith)
 
-  pub not-5 : allSummaries (rowPieces row) ≡ false → askAll row ≡ refused 5
-  not-5 g = ap (λ (o : Outcome Summaries). onward o askLog) (ask-5 (rowPieces row) in-number g)
+  pub not-one : {n : ℕ} → refused n ≡ modeOfAll (rowPieces row) → askAll row ≡ refused n
+  not-one q = ap (λ (o : Outcome Summaries). onward o askLog) (ask-mode (rowPieces row) in-number (sym q))
 
-  module _ {m : ℕ} {same : Bool} {states starts peaks ends openeds : List ℕ} (j : AllJudged m same (rowPieces row) states starts peaks ends openeds) where
-    pub not-6 : same ≡ false → askAll row ≡ refused 6
-    not-6 s = ap (λ (o : Outcome Summaries). onward o askLog) (ask-6 (rowPieces row) in-number (j .good) (j .same-mode ∙ s))
+  module _ {m : ℕ} {states starts peaks ends openeds : List ℕ} (q : result m ≡ modeOfAll (rowPieces row)) (j : NotedAll (rowPieces row) states starts peaks ends openeds) where
+    all-of : AllIn m (rowPieces row)
+    all-of = mode-in (rowPieces row) (sym q)
 
-    module _ (s : same ≡ true) where
-      mode-is : firstMode (rowPieces row) ≡ m
-      mode-is = j .mode (omega arith)
+    all-noted : AllNoted (rowPieces row) states starts peaks ends openeds
+    all-noted = j .noted (all-summaries m (rowPieces row) all-of)
 
-      all-of : AllIn m (rowPieces row)
-      all-of = all-in m (rowPieces row) (j .good) (subst (λ (k : ℕ). allOf k (rowPieces row) ≡ true) mode-is (j .same-mode ∙ s))
+    asked : askRow (rowPieces row) ≡ result (summariesIn m (rowPieces row))
+    asked = ask-mode (rowPieces row) in-number (sym q)
 
-      asked : askRow (rowPieces row) ≡ result (summariesIn m (rowPieces row))
-      asked = ask-none (rowPieces row) in-number (j .good) (j .same-mode ∙ s) ∙ ap (λ (k : ℕ). result (summariesIn k (rowPieces row))) mode-is
+    log-asked : (v : Verdict) → rowFault (map (decode m) (rowPieces row)) ≡ v → askAll row ≡ outcome v (summariesIn m (rowPieces row))
+    unfolding askLog
+    log-asked v q = ap (λ (o : Outcome Summaries). onward o askLog) asked ∙ ap (λ (x : Verdict). outcome x (summariesIn m (rowPieces row))) q
 
-      log-asked : (v : Verdict) → rowFault (map (decode m) (rowPieces row)) ≡ v → askAll row ≡ outcome v (summariesIn m (rowPieces row))
-      unfolding askLog
-      log-asked v q = ap (λ (o : Outcome Summaries). onward o askLog) asked ∙ ap (λ (x : Verdict). outcome x (summariesIn m (rowPieces row))) q
+    fault-is : (f : ℕ) → verdictOf f ≡ faultOf (toldsFrom states starts ends openeds 0 count) → rowFault (map (decode m) (rowPieces row)) ≡ verdictOf f
+    fault-is f q = sym (row-fault m (rowPieces row) all-of states starts peaks ends openeds all-noted count count-is) ∙ sym q
 
-      fault-is : (f : ℕ) → verdictOf f ≡ faultOf (toldsFrom states starts ends openeds 0 count) → rowFault (map (decode m) (rowPieces row)) ≡ verdictOf f
-      fault-is f q = sym (row-fault m (rowPieces row) all-of states starts peaks ends openeds (j .noted) count count-is) ∙ sym q
+    pub faulty : (f : ℕ) → verdictOf f ≡ faultOf (toldsFrom states starts ends openeds 0 count) → f < noFault → askAll row ≡ refused f
+    faulty f q h = log-asked (refuse f) (fault-is f q ∙ found f h)
 
-      pub faulty : (f : ℕ) → verdictOf f ≡ faultOf (toldsFrom states starts ends openeds 0 count) → f < noFault → askAll row ≡ refused f
-      faulty f q h = log-asked (refuse f) (fault-is f q ∙ found f h)
-
-      pub through : (f : ℕ) → verdictOf f ≡ faultOf (toldsFrom states starts ends openeds 0 count) → noFault ≤ f → Through row count m states starts peaks ends openeds
-      through f q h =
-          let v : rowFault (map (decode m) (rowPieces row)) ≡ pass = fault-is f q ∙ clear f h in
-          let p : plan (levelsIn starts peaks ends) count ≡ planOfRow (map (decode m) (rowPieces row)) = row-plan m (rowPieces row) all-of states starts peaks ends openeds (j .noted) count count-is in
-          record {
-            asked = log-asked pass v;
-            long = count-is;
-            some = a;
-            few = b;
-            all = all-of;
-            faultless = v;
-            whole = j .whole;
-            noted = j .noted;
-            plan-is = p;
-            room = subst (λ (l : List Line). length l ≤ 128) (sym p) (row-room m (rowPieces row) all-of (omega (arith, count-is)) (omega (arith, count-is)) v);
-          }
+    pub through : (f : ℕ) → verdictOf f ≡ faultOf (toldsFrom states starts ends openeds 0 count) → noFault ≤ f → Through row count m states starts peaks ends openeds
+    through f q h =
+        let v : rowFault (map (decode m) (rowPieces row)) ≡ pass = fault-is f q ∙ clear f h in
+        let p : plan (levelsIn starts peaks ends) count ≡ planOfRow (map (decode m) (rowPieces row)) = row-plan m (rowPieces row) all-of states starts peaks ends openeds all-noted count count-is in
+        record {
+          asked = log-asked pass v;
+          long = count-is;
+          some = a;
+          few = b;
+          all = all-of;
+          faultless = v;
+          whole = j .whole;
+          noted = all-noted;
+          plan-is = p;
+          room = subst (λ (l : List Line). length l ≤ 128) (sym p) (row-room m (rowPieces row) all-of (omega (arith, count-is)) (omega (arith, count-is)) v);
+        }
 
 -- ---- what a call goes on with
 

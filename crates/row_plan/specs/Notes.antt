@@ -1,6 +1,6 @@
 -- What is noted of a row's pieces. Definitions only.
 use mathlib.Core.Path.{_≡_}
-use mathlib.Core.Bool.{Bool, true, false}
+use mathlib.Core.Bool.{true}
 use mathlib.Core.List.{List, []}
 use Prim.Native.Nat.{ℕ, _≤_, _<_}
 use lib.ListN.{length, getD, set}
@@ -9,10 +9,8 @@ use Rattle.judge.specs.declared.Head.the-variants.{Blank, Spoilt, Hill}
 use Rattle.judge.specs.declared.SpoiltHead.{SpoiltHead}
 use Rattle.judge.specs.declared.HillHead.{HillHead}
 use Rattle.judge.specs.Judged.{headAt}
-use Rattle.outcome.specs.Outcomes.{allSummaries, allOf, firstMode}
+use Rattle.outcome.specs.Outcomes.{allSummaries}
 use Rattle.row_plan.specs.declared.pieces.Note.{Note}
-use Rattle.row_plan.specs.declared.pieces.Pieces.{Pieces}
-use Rattle.row_plan.specs.declared.pieces.Pieces.the-variants.{Of, NotAll}
 use Rattle.row_plan.specs.Arrays.{Noted}
 use Rattle.row_plan.specs.Told.{blankState, hillState, Few}
 
@@ -69,14 +67,7 @@ pub record Whole (states starts peaks ends openeds : List ℕ) : Type 0 where
 abbrev pub AllNoted : List (List ℕ) → (states starts peaks ends openeds : List ℕ) → Type 0
 AllNoted ps states starts peaks ends openeds = (i : ℕ) → i < length ps → noteIn states starts peaks ends openeds i ≡ noteOf (headAt (getD ps i []))
 
--- Questions 5 and 6 of a row's pieces.
-pub record AllJudged (m : ℕ) (same : Bool) (ps : List (List ℕ)) (states starts peaks ends openeds : List ℕ) : Type 0 where
-  pub good : allSummaries ps ≡ true
-  pub mode : 0 < length ps → firstMode ps ≡ m
-  pub same-mode : allOf (firstMode ps) ps ≡ same
+-- The arrays after the pieces were judged, which ends at one that is no summary.
+pub record NotedAll (ps : List (List ℕ)) (states starts peaks ends openeds : List ℕ) : Type 0 where
   pub whole : Whole states starts peaks ends openeds
-  pub noted : AllNoted ps states starts peaks ends openeds
-
-abbrev pub Judged : Pieces → List (List ℕ) → (states starts peaks ends openeds : List ℕ) → Type 0
-Judged (Of m same) ps states starts peaks ends openeds = AllJudged m same ps states starts peaks ends openeds
-Judged NotAll ps states starts peaks ends openeds = allSummaries ps ≡ false
+  pub noted : allSummaries ps ≡ true → AllNoted ps states starts peaks ends openeds

@@ -1,6 +1,6 @@
 -- One piece more is judged and noted. Assumes nothing.
 use mathlib.Core.Path.{_≡_, refl, sym, ap, _∙_}
-use mathlib.Core.Bool.{Bool, true, false, cond, _&&_}
+use mathlib.Core.Bool.{Bool, true, false, true≢false, cond, _&&_}
 use mathlib.Core.List.{List, [], _∷_}
 use Prim.Native.Nat.{ℕ, zero, suc, _+_, _-_, _≤_, _<_}
 use native.Mathlib.Numerals.{add-one}
@@ -10,6 +10,7 @@ use borrow.Author.Count.{below-more}
 use borrow.Author.Tests.{eq-eqb, ne-eqb}
 use lib.ListN.{length, getD, set, take, drop, length-set, drop-of-length-le}
 use lib.Seq.{getD-set-same, getD-set-other, drop-cons}
+use Rattle.gate.specs.Outcome.{refused, result}
 use Rattle.number.specs.Laws.{part-rest}
 use Rattle.row.specs.Row.{firstLength, rowPieces}
 use Rattle.row.specs.Laws.{pieces-next, pieces-nil}
@@ -20,9 +21,10 @@ use Rattle.judge.specs.declared.Head.the-variants.{Blank, Spoilt, Hill}
 use Rattle.judge.specs.declared.Piece.{Piece}
 use Rattle.judge.specs.Judged.{headAt}
 use Rattle.judge.specs.Laws.{head-blank, head-spoilt, head-hill, Judges}
-use Rattle.outcome.specs.Outcomes.{allSummaries, allOf, firstMode}
+use Rattle.outcome.specs.Outcomes.{allSummaries, allOf, firstMode, modeOfAll}
+use Rattle.outcome.specs.Laws.{mode-5, mode-6, mode-all}
 use Rattle.row_plan.specs.declared.pieces.Note.{Note}
-use Rattle.row_plan.specs.Notes.{Fits, noteOf, noteIn, Stored, Whole, AllJudged}
+use Rattle.row_plan.specs.Notes.{Fits, noteOf, noteIn, Stored, Whole, NotedAll}
 
 -- ---- the numbers of a summary are in range
 
@@ -133,8 +135,11 @@ module _ (row : List ℕ) (count : ℕ) (states starts peaks ends openeds rest :
   pub this-piece : (first : ℕ) → first ≡ firstLength rest → take first rest ≡ getD ps k []
   this-piece first e = ap (λ (n : ℕ). take n rest) e ∙ ap (λ (l : List (List ℕ)). getD l 0 []) two-ways
 
-  pub judging-not : (first : ℕ) → first ≡ firstLength rest → isSummary (take first rest) ≡ false → allSummaries ps ≡ false
-  judging-not first e n = v .good ∙ ap allSummaries next-piece ∙ ap (λ (t : Bool). t && allSummaries (drop (suc k) ps)) (ap isSummary (sym (this-piece first e)) ∙ n)
+  not-all : (first : ℕ) → first ≡ firstLength rest → isSummary (take first rest) ≡ false → allSummaries ps ≡ false
+  not-all first e n = v .good ∙ ap allSummaries next-piece ∙ ap (λ (t : Bool). t && allSummaries (drop (suc k) ps)) (ap isSummary (sym (this-piece first e)) ∙ n)
+
+  pub judging-not : (first : ℕ) → first ≡ firstLength rest → isSummary (take first rest) ≡ false → (refused 5 ≡ modeOfAll ps) × NotedAll ps states starts peaks ends openeds
+  judging-not first e n = let f = not-all first e n in (sym (mode-5 ps f), record { whole = v .whole; noted = λ t. absurd (true≢false (sym t ∙ f)) })
 
   both : (a b c : Bool) → (a && (b && c)) ≡ ((a && b) && c)
   both true b c = refl
@@ -169,18 +174,26 @@ module _ (row : List ℕ) (count : ℕ) (states starts peaks ends openeds rest :
             (λ i l. stored-other n k s (v .whole) i l ∙ v .noted i l) (stored-here n k s (v .whole) (omega arith) ∙ note-here ∙ ap (λ (x : List ℕ). noteOf (headAt x)) here) i (omega arith);
       }
 
-pub judging-end : (row : List ℕ) (count : ℕ) (states starts peaks ends openeds rest : List ℕ) (k mode : ℕ) (same : Bool) → Judging row count states starts peaks ends openeds rest k mode same → length (rowPieces row) ≡ count → count ≤ k →
-    AllJudged mode same (rowPieces row) states starts peaks ends openeds
-judging-end row count states starts peaks ends openeds rest k mode same v long h =
-    let none : drop k (rowPieces row) ≡ [] = drop-of-length-le (rowPieces row) {i = k} (omega arith) in
-    record {
-      good = v .good ∙ ap allSummaries none;
-      mode = λ l. v .mode-is (omega (arith, v .near));
-      same-mode = v .same-is ∙ ap (λ (l : List (List ℕ)). same && allOf (firstMode (rowPieces row)) l) none ∙ and-true same;
-      whole = v .whole;
-      noted = λ i l. v .noted i (omega (arith, v .near));
-    }
-  where
-    and-true : (t : Bool) → (t && true) ≡ t
-    and-true true = refl
-    and-true false = refl
+module _ (row : List ℕ) (count : ℕ) (states starts peaks ends openeds rest : List ℕ) (k mode : ℕ) (same : Bool) (v : Judging row count states starts peaks ends openeds rest k mode same)
+    (long : length (rowPieces row) ≡ count) (some : 0 < count) (h : count ≤ k) where
+  none : drop k (rowPieces row) ≡ []
+  none = drop-of-length-le (rowPieces row) {i = k} (omega arith)
+
+  all-good : allSummaries (rowPieces row) ≡ true
+  all-good = v .good ∙ ap allSummaries none
+
+  all-same : allOf (firstMode (rowPieces row)) (rowPieces row) ≡ same
+  all-same = v .same-is ∙ ap (λ (l : List (List ℕ)). same && allOf (firstMode (rowPieces row)) l) none ∙ and-true same
+    where
+      and-true : (t : Bool) → (t && true) ≡ t
+      and-true true = refl
+      and-true false = refl
+
+  all-noted : NotedAll (rowPieces row) states starts peaks ends openeds
+  all-noted = record { whole = v .whole; noted = λ _ i l. v .noted i (omega (arith, v .near)) }
+
+  pub judging-mode : same ≡ true → (result mode ≡ modeOfAll (rowPieces row)) × NotedAll (rowPieces row) states starts peaks ends openeds
+  judging-mode s = (sym (mode-all (rowPieces row) all-good (all-same ∙ s) ∙ ap result (v .mode-is (omega arith))), all-noted)
+
+  pub judging-6 : same ≡ false → (refused 6 ≡ modeOfAll (rowPieces row)) × NotedAll (rowPieces row) states starts peaks ends openeds
+  judging-6 s = (sym (mode-6 (rowPieces row) all-good (all-same ∙ s)), all-noted)

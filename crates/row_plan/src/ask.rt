@@ -3,8 +3,8 @@ ghost use mathlib.Core.Path.{_≡_};
 ghost use Rattle.row_plan.specs.Notes.{Whole};
 ghost use Rattle.row_plan.specs.Asks.{Says};
 use super::faults::row_fault;
-use super::pieces::Pieces;
 use super::pieces::judge_pieces;
+use outcome::OneMode;
 
 // A row that is let through, with the number of its pieces and its mode; or the number of a question.
 pub enum Asked {
@@ -30,16 +30,15 @@ pub fn ask(
     if 64 < count {
         return Asked::Refused(4);
     }
-    let pieces = judge_pieces(row, count, states, starts, peaks, ends, opened);
-    let Pieces::Of(mode, same) = pieces else {
-        return Asked::Refused(5);
-    };
-    if !same {
-        return Asked::Refused(6);
+    let asked = judge_pieces(row, count, states, starts, peaks, ends, opened);
+    match asked {
+        OneMode::Refused(n) => Asked::Refused(n),
+        OneMode::Mode(mode) => {
+            let fault = row_fault(&*states, &*starts, &*ends, &*opened, count);
+            if fault < fault::NONE {
+                return Asked::Refused(fault);
+            }
+            Asked::Row(count, mode)
+        }
     }
-    let fault = row_fault(&*states, &*starts, &*ends, &*opened, count);
-    if fault < fault::NONE {
-        return Asked::Refused(fault);
-    }
-    Asked::Row(count, mode)
 }

@@ -5,7 +5,9 @@ ghost use Prim.Native.Nat.{_≤_, _<_};
 ghost use lib.Dec.{eqb};
 ghost use lib.ListN.{length, set};
 ghost use Rattle.row.specs.Row.{rowPieces};
-ghost use Rattle.row_plan.specs.Notes.{Fits, SpoiltFits, HillFits, noteOf, Stored, Whole, Judged as JudgedAll};
+ghost use Rattle.outcome.specs.Outcomes.{modeOfAll};
+ghost use Rattle.outcome.specs.Answers.{modeAnswer};
+ghost use Rattle.row_plan.specs.Notes.{Fits, SpoiltFits, HillFits, noteOf, Stored, Whole, NotedAll};
 use super::BLANK;
 use super::HILL;
 use super::NO_PEAK;
@@ -13,6 +15,7 @@ use judge::Head;
 use judge::HillHead;
 use judge::Judged;
 use judge::SpoiltHead;
+use outcome::OneMode;
 
 // What the plan and the questions read of a piece. Its state is BLANK, HILL or the fault of a spoilt one; its peak is NO_PEAK unless it is a hill.
 struct Note {
@@ -21,12 +24,6 @@ struct Note {
     peak: u8,
     end: u8,
     opened: u32,
-}
-
-// The mode of the first piece and whether all have it; or a piece is no summary.
-pub enum Pieces {
-    Of(u16, bool),
-    NotAll,
 }
 
 fn note_spoilt(s: SpoiltHead) -> Note
@@ -108,10 +105,11 @@ pub fn judge_pieces(
     peaks: &mut [u8; 64],
     ends: &mut [u8; 64],
     opened: &mut [u32; 64],
-) -> Pieces
-    requires { ⌜ (length (rowPieces (now row)) ≡ count) × (count ≤ 64) ⌝ }
+) -> OneMode
+    requires { ⌜ (length (rowPieces (now row)) ≡ count) × (0 < count) × (count ≤ 64) ⌝ }
     requires { ⌜ Whole (now states) (now starts) (now peaks) (now ends) (now opened) ⌝ }
-    ensures { λ r. ⌜ JudgedAll r (rowPieces (now (row .entry))) (now (states .exit)) (now (starts .exit)) (now (peaks .exit)) (now (ends .exit)) (now (opened .exit)) ⌝ }
+    ensures answer { λ r. ⌜ modeAnswer r ≡ modeOfAll (rowPieces (now (row .entry))) ⌝ }
+    ensures notes { λ _. ⌜ NotedAll (rowPieces (now (row .entry))) (now (states .exit)) (now (starts .exit)) (now (peaks .exit)) (now (ends .exit)) (now (opened .exit)) ⌝ }
 {
     let mut rest = row;
     let mut k: usize = 0;
@@ -121,7 +119,7 @@ pub fn judge_pieces(
         let first = row::first_length(rest);
         let judged = judge::judge(&rest[..first]);
         let Judged::Summary(piece) = judged else {
-            return Pieces::NotAll;
+            return OneMode::Refused(5);
         };
         let m = piece.mode;
         let head = piece.head;
@@ -131,5 +129,8 @@ pub fn judge_pieces(
         rest = &rest[first..];
         k += 1;
     }
-    Pieces::Of(mode, same)
+    if same {
+        return OneMode::Mode(mode);
+    }
+    OneMode::Refused(6)
 }

@@ -1,6 +1,6 @@
 -- `merge::merge_row` meets its contract: each question in its order, then the pieces are merged. Assumes nothing.
 use Rattle.merge.specs.CallLaws.{refusal, answered, few-4, many-4, some-bytes, row-refused, is-row, row-is}
-use Rattle.merge.specs.RowAsks.{modeAnswer}
+use Rattle.outcome.specs.Answers.{modeAnswer}
 use lib.ListN.{length}
 use denote.Ref.{now}
 use mathlib.Core.Path.{sym, ap, _∙_}

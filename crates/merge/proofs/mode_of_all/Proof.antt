@@ -1,7 +1,8 @@
 -- `merge::mode_of_all` meets its contract: each turn passes one piece. Assumes nothing.
-use Rattle.merge.specs.CallLaws.{judged-mode, first-5, not-5, inside, shorter, pass-first, pass-next, pass-5, pass-6, pass-all}
+use Rattle.merge.specs.CallLaws.{judged-mode, not-5, inside, shorter, pass-first, pass-next, pass-5, pass-6, pass-all}
 use Rattle.merge.specs.RowAsks.{Passed}
 use Rattle.judge.specs.Laws.{judges, judges-not}
+use Rattle.outcome.specs.Laws.{mode-5}
 use Rattle.row.specs.Row.{rowPieces}
 use lib.ListN.{length, take, length-take}
 use denote.Ref.{now}
@@ -35,7 +36,7 @@ enum-told c = search needs
 returns : tie.Need-returns Inv-loop μ-loop
 returns c = let a = c .before .before .before .before .before .before in
     let s = now (a .args .pieces) in
-    sym (first-5 (rowPieces s) (not-5 s (a .pre) (c .before .before .before .before .first-length .ensures) (judges-not (take (c .before .before .before .before .first-length .result) s) (c .before .before .judge .result) (c .before .before .judge .ensures) (c .enum-told .given .1))))
+    sym (mode-5 (rowPieces s) (not-5 s (a .pre) (c .before .before .before .before .first-length .ensures) (judges-not (take (c .before .before .before .before .first-length .result) s) (c .before .before .judge .result) (c .before .before .judge .ensures) (c .enum-told .given .1))))
 
 sub-rest : tie.Need-sub-rest Inv-loop μ-loop
 sub-rest c = let a = c .before .before .before .before .before .before .before in inside (now (a .args .pieces)) (a .pre) (c .before .before .before .before .before .first-length .ensures)

@@ -9,7 +9,7 @@ use Rattle.row.specs.Laws.{first-within}
 use Rattle.judge.specs.declared.Piece.{Piece}
 use Rattle.judge.specs.Laws.{judges, judges-not}
 use Rattle.row_plan.specs.Notes.{Fits}
-use Rattle.row_plan.specs.NotesLaws.{Judging, summary-fits, judging-start, judging-not, judging-next, judging-end}
+use Rattle.row_plan.specs.NotesLaws.{Judging, summary-fits, judging-start, judging-not, judging-next, judging-mode, judging-6}
 use borrow.Author.Needs.{needs}
 use Rattle.row_plan.proofs.pieces.judge_pieces.Statement.{statement}
 use Rattle.row_plan.proofs.pieces.judge_pieces.Tie as tie
@@ -80,13 +80,19 @@ loop-again c =
     let j = judges _ (c .before .before .before .before .before .before .before .before .before .before .before .before .judge .result) (c .before .before .before .before .before .before .before .before .before .before .before .before .judge .ensures) p (c .before .before .before .before .before .before .before .before .before .before .judged .given .1) in
     let st = c .before .before .store in
     judging-next (now (start .args .row)) (start .args .count) (l .states) (l .starts) (l .peaks) (l .ends) (l .opened) (now (l .rest)) (l .k) (l .mode) (l .same) (l .inv) (start .pre .0 .0) (c .before .before .before .before .before .before .before .before .before .before .before .before .before .before .before .loop-test .taken) (c .before .before .before .before .before .before .before .before .before .before .before .before .before .before .first-length .result) (p .mode) _ p (c .before .before .before .before .before .before .before .before .note-of .result) (st .last .1 .1 .0) (st .last .1 .1 .1 .0) (st .last .1 .1 .1 .1 .0) (st .last .1 .1 .1 .1 .1 .0) (st .last .1 .1 .1 .1 .1 .1 .0)
-    (c .before .before .before .before .before .before .before .before .before .before .before .before .before .before .first-length .ensures) (start .pre .0 .1) j refl (c .before .before .before .before .before .before .before .before .note-of .ensures) (st .ensures) (c .before .first-mode .ensures)
+    (c .before .before .before .before .before .before .before .before .before .before .before .before .before .before .first-length .ensures) (start .pre .0 .2) j refl (c .before .before .before .before .before .before .before .before .note-of .ensures) (st .ensures) (c .before .first-mode .ensures)
 
 returns-2 : tie.Need-returns-2 Inv-loop μ-loop
 returns-2 c =
-    let start = c .before .before .before in
-    let l = c .before .loop in
-    judging-end (now (start .args .row)) (start .args .count) (l .states) (l .starts) (l .peaks) (l .ends) (l .opened) (now (l .rest)) (l .k) (l .mode) (l .same) (l .inv) (start .pre .0 .0) (omega arith)
+    let start = c .before .before .before .before in
+    let l = c .before .before .loop in
+    judging-mode (now (start .args .row)) (start .args .count) (l .states) (l .starts) (l .peaks) (l .ends) (l .opened) (now (l .rest)) (l .k) (l .mode) (l .same) (l .inv) (start .pre .0 .0) (start .pre .0 .1) (c .before .loop-test .left) (c .if1 .taken)
+
+returns-3 : tie.Need-returns-3 Inv-loop μ-loop
+returns-3 c =
+    let start = c .before .before .before .before in
+    let l = c .before .before .loop in
+    judging-6 (now (start .args .row)) (start .args .count) (l .states) (l .starts) (l .peaks) (l .ends) (l .opened) (now (l .rest)) (l .k) (l .mode) (l .same) (l .inv) (start .pre .0 .0) (start .pre .0 .1) (c .before .loop-test .left) (c .if1 .left)
 
 pub judge-pieces-spec : {M : Type 1} → statement M
 judge-pieces-spec =
@@ -110,4 +116,5 @@ judge-pieces-spec =
     add-k
     loop-less
     loop-again
-    returns-2)
+    returns-2
+    returns-3)
