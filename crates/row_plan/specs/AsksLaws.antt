@@ -19,7 +19,7 @@ use Rattle.outcome.specs.Through.{mode-in}
 use Rattle.row_plan.specs.Arrays.{levelsIn, Kept}
 use Rattle.fault.specs.Fault.{noFault, verdictOf}
 use Rattle.fault.specs.Laws.{clear, found}
-use Rattle.row_plan.specs.Told.{toldsFrom, faultOf}
+use Rattle.row_plan.specs.Told.{toldsFrom, toldFault}
 use Rattle.row_plan.specs.Notes.{Whole, AllNoted, NotedAll}
 use Rattle.row_plan.specs.ScanLaws.{length-lines}
 use Rattle.row_plan.specs.RowLaws.{row-fault, row-plan, row-room}
@@ -60,13 +60,13 @@ module _ (row : List ℕ) (count : ℕ) (e : count ≡ min 65 (length (rowPieces
     unfolding askLog
     log-asked v q = ap (λ (o : Outcome Summaries). onward o askLog) asked ∙ ap (λ (x : Verdict). outcome x (summariesIn m (rowPieces row))) q
 
-    fault-is : (f : ℕ) → verdictOf f ≡ faultOf (toldsFrom states starts ends openeds 0 count) → rowFault (map (decode m) (rowPieces row)) ≡ verdictOf f
+    fault-is : (f : ℕ) → verdictOf f ≡ toldFault (toldsFrom states starts ends openeds 0 count) → rowFault (map (decode m) (rowPieces row)) ≡ verdictOf f
     fault-is f q = sym (row-fault m (rowPieces row) all-of states starts peaks ends openeds all-noted count count-is) ∙ sym q
 
-    pub faulty : (f : ℕ) → verdictOf f ≡ faultOf (toldsFrom states starts ends openeds 0 count) → f < noFault → askAll row ≡ refused f
+    pub faulty : (f : ℕ) → verdictOf f ≡ toldFault (toldsFrom states starts ends openeds 0 count) → f < noFault → askAll row ≡ refused f
     faulty f q h = log-asked (refuse f) (fault-is f q ∙ found f h)
 
-    pub through : (f : ℕ) → verdictOf f ≡ faultOf (toldsFrom states starts ends openeds 0 count) → noFault ≤ f → Through row count m states starts peaks ends openeds
+    pub through : (f : ℕ) → verdictOf f ≡ toldFault (toldsFrom states starts ends openeds 0 count) → noFault ≤ f → Through row count m states starts peaks ends openeds
     through f q h =
         let v : rowFault (map (decode m) (rowPieces row)) ≡ pass = fault-is f q ∙ clear f h in
         let p : plan (levelsIn starts peaks ends) count ≡ planOfRow (map (decode m) (rowPieces row)) = row-plan m (rowPieces row) all-of states starts peaks ends openeds all-noted count count-is in

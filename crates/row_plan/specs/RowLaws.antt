@@ -22,7 +22,7 @@ use Rattle.plan_work.specs.RowLevels.{plan-row}
 use Rattle.outcome.specs.Laws.{AllIn}
 use Rattle.outcome.specs.Through.{few-lines}
 use Rattle.row_plan.specs.Arrays.{levelsFrom, levelsIn}
-use Rattle.row_plan.specs.Told.{Told, tells, toldOf, toldFrom, toldIn, toldsFrom, faultOf}
+use Rattle.row_plan.specs.Told.{Told, tells, toldOf, toldFrom, toldIn, toldsFrom, toldFault}
 use Rattle.row_plan.specs.ToldLaws.{told-all, fault-row, own-hill, own-spoilt}
 use Rattle.fault.specs.Fault.{noFault}
 use Rattle.fault.specs.Laws.{clear, found}
@@ -108,9 +108,9 @@ module _ (m : ℕ) where
     abbrev row : List (SummaryIn m)
     row = map (decode m) ps
 
-    pub row-fault : (count : ℕ) → length ps ≡ count → faultOf (toldsFrom states starts ends openeds 0 count) ≡ rowFault row
+    pub row-fault : (count : ℕ) → length ps ≡ count → toldFault (toldsFrom states starts ends openeds 0 count) ≡ rowFault row
     row-fault count e =
-        ap faultOf (ap (toldsFrom states starts ends openeds 0) (sym e ∙ sym (length-map ps (decode m))) ∙ told-all states starts ends openeds row 0 each) ∙ fault-row row
+        ap toldFault (ap (toldsFrom states starts ends openeds 0) (sym e ∙ sym (length-map ps (decode m))) ∙ told-all states starts ends openeds row 0 each) ∙ fault-row row
       where
         each : (i : ℕ) → i < length row → toldIn states starts ends openeds (0 + i) ≡ toldOf (getD row i blank)
         each i h =

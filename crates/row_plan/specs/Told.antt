@@ -26,10 +26,10 @@ afterSome first last v o (nothing ∷ ts) = afterSome first last v o ts
 afterSome first last v o (tells w s e n ∷ ts) = afterSome first e (low v (low w (between last s))) (o + n) ts
 
 -- The lowest fault of a row.
-abbrev pub faultOf : List Told → Verdict
-faultOf [] = refuse 10
-faultOf (nothing ∷ ts) = faultOf ts
-faultOf (tells w s e n ∷ ts) = afterSome s e w n ts
+abbrev pub toldFault : List Told → Verdict
+toldFault [] = refuse 10
+toldFault (nothing ∷ ts) = toldFault ts
+toldFault (tells w s e n ∷ ts) = afterSome s e w n ts
 
 -- The state of a piece, as a byte: of a blank, of a hill, or the fault of a spoilt one.
 abbrev pub blankState : ℕ
@@ -57,7 +57,7 @@ pub record Few (openeds : List ℕ) : Type 0 where
 
 -- The pieces after those that a span has passed.
 unfoldable pub onwardFrom : Span → List Told → Verdict
-onwardFrom s ts = cond (s .seen) (afterSome (s .first) (s .last) (verdictOf (s .fault)) (s .opened) ts) (faultOf ts)
+onwardFrom s ts = cond (s .seen) (afterSome (s .first) (s .last) (verdictOf (s .fault)) (s .opened) ts) (toldFault ts)
 
 -- `pass`: a span has passed one piece more.
 pub record Passed (s : Span) (t : Told) (o : ℕ) (r : Span) : Type 0 where

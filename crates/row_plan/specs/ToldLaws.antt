@@ -14,7 +14,7 @@ use Rattle.fault.specs.Fault.{noFault, verdictOf}
 use Rattle.hill.specs.Summary.{Summary, Part, blank, part, verdict, start, end, opened}
 use Rattle.plan_work.specs.Gate.{partsOf, spoiltFault, joinFault, totalOpened, lastEnd, rowFault}
 use Rattle.row_plan.specs.declared.faults.Span.{Span}
-use Rattle.row_plan.specs.Told.{Told, tells, toldOf, afterSome, faultOf, toldFrom, toldIn, toldsFrom, Few, ownFault, onwardFrom, Passed}
+use Rattle.row_plan.specs.Told.{Told, tells, toldOf, afterSome, toldFault, toldFrom, toldIn, toldsFrom, Few, ownFault, onwardFrom, Passed}
 
 -- ---- one piece more
 
@@ -25,8 +25,8 @@ pub pass-blank : (s : Span) (state start end o : ℕ) → state ≡ 0 → Passed
 unfolding toldFrom onwardFrom
 pass-blank s state start end o e = record { is = λ ts. go (s .seen) ts; opened = omega arith }
   where
-    go : (b : Bool) (ts : List Told) → cond b (afterSome (s .first) (s .last) (verdictOf (s .fault)) (s .opened) ts) (faultOf ts)
-        ≡ cond b (afterSome (s .first) (s .last) (verdictOf (s .fault)) (s .opened) (toldFrom state start end o ∷ ts)) (faultOf (toldFrom state start end o ∷ ts))
+    go : (b : Bool) (ts : List Told) → cond b (afterSome (s .first) (s .last) (verdictOf (s .fault)) (s .opened) ts) (toldFault ts)
+        ≡ cond b (afterSome (s .first) (s .last) (verdictOf (s .fault)) (s .opened) (toldFrom state start end o ∷ ts)) (toldFault (toldFrom state start end o ∷ ts))
     go true ts = rw e
     go false ts = rw e
 
@@ -87,7 +87,7 @@ module _ {Fig R : Type 0} where
       regroup v (verdict b) (between (end a) (start b)) (spoiltFault (partsOf row)) (joinFault b (partsOf row)) (count (o + (opened b + totalOpened (partsOf row)))) (ends first (lastEnd b (partsOf row)))
 
   -- THE ROW'S FAULT
-  pub fault-row : (row : List (Summary Fig R)) → faultOf (map toldOf row) ≡ rowFault row
+  pub fault-row : (row : List (Summary Fig R)) → toldFault (map toldOf row) ≡ rowFault row
   fault-row [] = refl
   fault-row (blank ∷ row) = fault-row row
   fault-row (part a ∷ row) = after-some (start a) (verdict a) (opened a) a row ∙ ap (λ x. low x (ends (start a) (lastEnd a (partsOf row)))) (sym (low-assoc (verdict a) (spoiltFault (partsOf row)) (low (joinFault a (partsOf row)) (count (opened a + totalOpened (partsOf row))))))
@@ -97,12 +97,12 @@ module _ {Fig R : Type 0} where
 pub record Spanning (states starts ends openeds : List ℕ) (count : ℕ) (s : Span) (k : ℕ) : Type 0 where
   pub near : k ≤ count
   pub light : s .opened ≤ 100_001 * k
-  pub all : onwardFrom s (toldsFrom states starts ends openeds k (count - k)) ≡ faultOf (toldsFrom states starts ends openeds 0 count)
+  pub all : onwardFrom s (toldsFrom states starts ends openeds k (count - k)) ≡ toldFault (toldsFrom states starts ends openeds 0 count)
 
 module _ (states starts ends openeds : List ℕ) (count : ℕ) where
   pub span-start : Spanning states starts ends openeds count (span false 0 0 noFault 0) 0
   unfolding onwardFrom
-  span-start = record { near = omega arith; light = omega arith; all = ap (λ (n : ℕ). faultOf (toldsFrom states starts ends openeds 0 n)) (omega arith) }
+  span-start = record { near = omega arith; light = omega arith; all = ap (λ (n : ℕ). toldFault (toldsFrom states starts ends openeds 0 n)) (omega arith) }
 
   pub span-next : (s r : Span) (k : ℕ) → Few openeds → Spanning states starts ends openeds count s k → k < count → Passed s (toldIn states starts ends openeds k) (getD openeds k 0) r → Spanning states starts ends openeds count r (k + 1)
   span-next s r k f v h p =
@@ -111,7 +111,7 @@ module _ (states starts ends openeds : List ℕ) (count : ℕ) where
       ap (toldsFrom states starts ends openeds k) n ∙ told-next states starts ends openeds k (count - (k + 1)) ∙ ap (λ (i : ℕ). toldIn states starts ends openeds k ∷ toldsFrom states starts ends openeds i (count - (k + 1))) (sym (add-one k)) in
       record { near = omega arith; light = omega (arith, p .opened, f .each k, v .light); all = p .is (toldsFrom states starts ends openeds (k + 1) (count - (k + 1))) ∙ ap (onwardFrom s) (sym t) ∙ v .all }
 
-  pub span-end : (s : Span) (k : ℕ) → Spanning states starts ends openeds count s k → count ≤ k → onwardFrom s [] ≡ faultOf (toldsFrom states starts ends openeds 0 count)
+  pub span-end : (s : Span) (k : ℕ) → Spanning states starts ends openeds count s k → count ≤ k → onwardFrom s [] ≡ toldFault (toldsFrom states starts ends openeds 0 count)
   span-end s k v h =
       let n : count - k ≡ 0 = omega arith in
       ap (onwardFrom s) (sym (ap (toldsFrom states starts ends openeds k) n ∙ told-end states starts ends openeds k)) ∙ v .all

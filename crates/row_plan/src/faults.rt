@@ -4,7 +4,7 @@ ghost use mathlib.Core.List.{List, [], _∷_};
 ghost use Prim.Native.Nat.{_+_, _*_, _≤_, min};
 ghost use lib.ListN.{length, getD};
 ghost use Rattle.fault.specs.Fault.{verdictOf};
-ghost use Rattle.row_plan.specs.Told.{Told, toldFrom, toldsFrom, faultOf, onwardFrom, ownFault, Passed, Few};
+ghost use Rattle.row_plan.specs.Told.{Told, toldFrom, toldsFrom, toldFault, onwardFrom, ownFault, Passed, Few};
 use super::BLANK;
 use super::HILL;
 
@@ -86,7 +86,7 @@ pub fn row_fault(
 ) -> u8
     requires { ⌜ count ≤ 64 ⌝ }
     requires { ⌜ Few (now opened) ⌝ }
-    ensures { λ r. ⌜ verdictOf r ≡ faultOf (toldsFrom (now (states .entry)) (now (starts .entry)) (now (ends .entry)) (now (opened .entry)) 0 count) ⌝ }
+    ensures { λ r. ⌜ verdictOf r ≡ toldFault (toldsFrom (now (states .entry)) (now (starts .entry)) (now (ends .entry)) (now (opened .entry)) 0 count) ⌝ }
 {
     let mut s = Span {
         seen: false,

@@ -2,7 +2,7 @@
 ghost use mathlib.Core.Path.{_≡_};
 ghost use Prim.Native.Nat.{_+_, _≤_, _<_};
 ghost use lib.ListN.{length};
-ghost use Rattle.join_plan.specs.Scan.{plan as planOf};
+ghost use Rattle.join_plan.specs.Scan.{plan as scanned};
 ghost use Rattle.row_plan.specs.Arrays.{levelsIn, Sized, Noted, Kept, lineWithin, linesToIn};
 use super::higher;
 use super::lower;
@@ -82,8 +82,8 @@ pub fn scan(
     requires { ⌜ Noted (now starts) (now peaks) (now ends) ⌝ }
     requires { ⌜ Sized (now is) (now js) (now lows) (now highs) ⌝ }
     requires { ⌜ count ≤ 64 ⌝ }
-    requires { ⌜ length (planOf (levelsIn (now starts) (now peaks) (now ends)) count) ≤ 128 ⌝ }
-    ensures { λ r. ⌜ Kept (planOf (levelsIn (now (starts .entry)) (now (peaks .entry)) (now (ends .entry))) count) 0 (now (is .entry)) (now (js .entry)) (now (lows .entry)) (now (highs .entry))
+    requires { ⌜ length (scanned (levelsIn (now starts) (now peaks) (now ends)) count) ≤ 128 ⌝ }
+    ensures { λ r. ⌜ Kept (scanned (levelsIn (now (starts .entry)) (now (peaks .entry)) (now (ends .entry))) count) 0 (now (is .entry)) (now (js .entry)) (now (lows .entry)) (now (highs .entry))
         r (now (is .exit)) (now (js .exit)) (now (lows .exit)) (now (highs .exit)) ⌝ }
 {
     let mut n: usize = 0;

@@ -101,8 +101,8 @@ Outcomes m is js lows outs n i j level r = (highs : List ℕ) → Stores (modeOf
 
 -- ---- lines
 
-abbrev pub joined : Join → Line
-joined e = line (e .i) (e .j) (e .low) (e .high)
+abbrev pub joinLine : Join → Line
+joinLine e = line (e .i) (e .j) (e .low) (e .high)
 
 pub record Gives (row : List ℕ) (count m : ℕ) (ats starts peaks : List ℕ) (outs : List ℤ) (n : ℕ) (e : Join) : Type 0 where
   pub ready : Ready row count m ats starts peaks
@@ -113,14 +113,14 @@ pub record Gives (row : List ℕ) (count m : ℕ) (ats starts peaks : List ℕ) 
 
 -- The number r stores the x of the line e after the first n.
 abbrev pub Given : (row : List ℕ) (m : ℕ) (is js lows : List ℕ) (outs : List ℤ) (n : ℕ) (e : Join) (r : ℤ) → Type 0
-Given row m is js lows outs n e r = (highs : List ℕ) → Stores (modeOf m) r (given (modeOf m .algebra) (rowIn m row) (joined e) (doneIn (modeOf m) is js lows highs outs n))
+Given row m is js lows outs n e r = (highs : List ℕ) → Stores (modeOf m) r (given (modeOf m .algebra) (rowIn m row) (joinLine e) (doneIn (modeOf m) is js lows highs outs n))
 
 pub record WorksLine (row : List ℕ) (count m : ℕ) (ats starts peaks is js lows highs : List ℕ) (outs : List ℤ) (k : ℕ) (e : Join) : Type 0 where
   pub ready : Ready row count m ats starts peaks
   pub outcomes : OutsStored (modeOf m) outs k
-  pub levels : LineLevels m (rowPieces row) (joined e)
-  pub run-is : runLevels (modeOf m .algebra) (rowIn m row) (joined e) ≡ levelsOf row m (placeIn ats starts peaks (e .i)) (placeIn ats starts peaks (e .j)) (e .low) (suc (e .high) - e .low)
-  pub light : LineLight (modeOf m .algebra) (modeOf m .sizes) (rowIn m row) (joined e) (doneIn (modeOf m) is js lows highs outs k)
+  pub levels : LineLevels m (rowPieces row) (joinLine e)
+  pub run-is : runLevels (modeOf m .algebra) (rowIn m row) (joinLine e) ≡ levelsOf row m (placeIn ats starts peaks (e .i)) (placeIn ats starts peaks (e .j)) (e .low) (suc (e .high) - e .low)
+  pub light : LineLight (modeOf m .algebra) (modeOf m .sizes) (rowIn m row) (joinLine e) (doneIn (modeOf m) is js lows highs outs k)
 
 -- The first n lines are worked.
 pub record AllWorked (row : List ℕ) (m : ℕ) (is js lows highs : List ℕ) (outs : List ℤ) (n : ℕ) : Type 0 where

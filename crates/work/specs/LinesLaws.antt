@@ -37,7 +37,7 @@ use Rattle.run_level.specs.Along.{rowIn, Ready, Along, levelsOf}
 use Rattle.run_level.specs.AlongLaws.{line-levels-of, line-is}
 use Rattle.work.specs.declared.given.Join.{Join}
 use Rattle.work.specs.Stores.{Stores, stores-same, stores-is, own, size-is, size-stored}
-use Rattle.work.specs.Contracts.{most, Runs, doneIn, joined, Gives, Given, WorksLine, AllWorked}
+use Rattle.work.specs.Contracts.{most, Runs, doneIn, joinLine, Gives, Given, WorksLine, AllWorked}
 use Rattle.work.specs.RowLaws.{valid, row-light, noted-hill, middle-stored, IsWhole, no-hill}
 
 -- ---- one line
@@ -72,7 +72,7 @@ module _ {row : List ℕ} {count m : ℕ} {ats starts peaks is js lows highs : L
         (subst (Runs row m o c (e .low) (e .high)) (sym ey)
         (record {
           some = v .levels .some;
-          reads = line-reads (v .ready .let-through .through) (v .ready .begun) (joined e) (v .levels);
+          reads = line-reads (v .ready .let-through .through) (v .ready .begun) (joinLine e) (v .levels);
           opener-mode = v .levels .opener-mode;
           closer-mode = v .levels .closer-mode;
           stored = g highs .stored;
@@ -86,11 +86,11 @@ module _ {row : List ℕ} {count m : ℕ} {ats starts peaks is js lows highs : L
 
     -- Its outcome.
     pub line-stores : (p q : Place) (r s : ℤ) → p ≡ o → q ≡ c → s ≡ r → Stores M r (through (M .algebra) (levelsOf row m p q (e .low) (suc (e .high) - e .low)) (M .read y)) →
-        Stores M s (work (M .algebra) (rowIn m row) (joined e) (doneIn M is js lows highs outs k) .out)
+        Stores M s (work (M .algebra) (rowIn m row) (joinLine e) (doneIn M is js lows highs outs k) .out)
     line-stores p q r s ep eq es t =
-        let f : through (M .algebra) (levelsOf row m p q (e .low) (suc (e .high) - e .low)) (M .read y) ≡ through (M .algebra) (runLevels (M .algebra) (rowIn m row) (joined e)) (M .read x) =
+        let f : through (M .algebra) (levelsOf row m p q (e .low) (suc (e .high) - e .low)) (M .read y) ≡ through (M .algebra) (runLevels (M .algebra) (rowIn m row) (joinLine e)) (M .read x) =
         (λ i. through (M .algebra) (levelsOf row m (ep i) (eq i) (e .low) (suc (e .high) - e .low)) (M .read (ey i))) ∙ ap (λ (ls : List (Level (M .algebra))). through (M .algebra) ls (M .read x)) (sym (v .run-is)) in
-        stores-same M r s _ es (subst (Stores M r) (f ∙ ap (through (M .algebra) (runLevels (M .algebra) (rowIn m row) (joined e))) (g highs .reads)) t)
+        stores-same M r s _ es (subst (Stores M r) (f ∙ ap (through (M .algebra) (runLevels (M .algebra) (rowIn m row) (joinLine e))) (g highs .reads)) t)
 
 -- ---- all lines
 
@@ -150,7 +150,7 @@ module _ {row : List ℕ} {count m : ℕ} {ats starts peaks is js lows highs : L
       subst (LineLight (N .algebra) (N .sizes) R next) (sym (w .done .outcomes))
       (line-light (N .algebra) (N .sizes) R (valid (a .ready .let-through)) (N .laws) (N .commutative) (a .ready .let-through .through .faultless) these behind next in-plan (omega (arith, length-lines is js lows highs k, a .few)))
 
-  pub line-works : (e : Join) → joined e ≡ next → WorksLine row count m ats starts peaks is js lows highs outs k e
+  pub line-works : (e : Join) → joinLine e ≡ next → WorksLine row count m ats starts peaks is js lows highs outs k e
   line-works e q = record {
     ready = a .ready;
     outcomes = record {
@@ -168,7 +168,7 @@ module _ {row : List ℕ} {count m : ℕ} {ats starts peaks is js lows highs : L
       worked-append (N .algebra) R these (next ∷ []) [] ∙ ap (worked (N .algebra) R (next ∷ [])) (sym (w .done .outcomes)) ∙
       worked-cons (N .algebra) R next [] (doneIn N is js lows highs outs k) ∙ worked-nil (N .algebra) R _
 
-  pub working-next : (e : Join) (r s : ℤ) → joined e ≡ next → s ≡ r → Stores N r (work (N .algebra) R (joined e) (doneIn N is js lows highs outs k) .out) → Working row m is js lows highs n (set outs k s) (k + 1)
+  pub working-next : (e : Join) (r s : ℤ) → joinLine e ≡ next → s ≡ r → Stores N r (work (N .algebra) R (joinLine e) (doneIn N is js lows highs outs k) .out) → Working row m is js lows highs n (set outs k s) (k + 1)
   working-next e r s q es t = record {
     near = omega arith;
     sized = length-set outs k s ∙ w .sized;

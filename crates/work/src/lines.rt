@@ -6,7 +6,7 @@ ghost use Rattle.plan_work.specs.Work.{workOf, oneMiddle};
 ghost use Rattle.plan_work.specs.WorkLaws.{work};
 ghost use Rattle.work.specs.Stores.{Stores};
 ghost use Rattle.run_level.specs.Along.{rowIn, Ready, Along};
-ghost use Rattle.work.specs.Contracts.{joined, doneIn, WorksLine, AllWorked};
+ghost use Rattle.work.specs.Contracts.{joinLine, doneIn, WorksLine, AllWorked};
 use super::given::Join;
 use super::given::given;
 use super::given::read_middle;
@@ -29,7 +29,7 @@ fn work_line(
     e: Join,
 ) -> i64
     requires { ⌜ WorksLine (now row) count mode (now ats) (now starts) (now peaks) (now is) (now js) (now lows) (now highs) (now outs) k e ⌝ }
-    ensures { λ r. ⌜ Stores (modeOf mode) r (work (modeOf mode .algebra) (rowIn mode (now (row .entry))) (joined e) (doneIn (modeOf mode) (now (is .entry)) (now (js .entry)) (now (lows .entry)) (now (highs .entry)) (now (outs .entry)) k) .out) ⌝ }
+    ensures { λ r. ⌜ Stores (modeOf mode) r (work (modeOf mode .algebra) (rowIn mode (now (row .entry))) (joinLine e) (doneIn (modeOf mode) (now (is .entry)) (now (js .entry)) (now (lows .entry)) (now (highs .entry)) (now (outs .entry)) k) .out) ⌝ }
 {
     let x = given(
         row,
