@@ -102,8 +102,8 @@ LONGEST = short(0, 1) + 4095 * (short(1, 1) + close(1)) + close(0)
 # What tells each edit from the program.
 INPUTS = {
     "codec/deeper_dropped": merge(HEAD, TAIL),
+    "codec/held_for_left": summarise(1, D[36:]),
     "codec/held_over_ceiling": merge(hill(1, 0, 0, 1, 2, [], 0, [(10, 0, 100, 5)]), SHUT),
-    "codec/left_from_peak": summarise(1, D[36:]),
     "codec/middle_left_out": merge(HEAD, hill(1, 2, 1, 1, 1, [0], 7)),
     "codec/start_for_end": summarise(1, D[:36]),
     "day/end_level": call("day::figures", short(0, 1)),

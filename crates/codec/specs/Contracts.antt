@@ -12,7 +12,7 @@ use Rattle.figure.specs.Stored.{IsStored, sizeOf}
 use Rattle.hill.specs.Summary.{hill}
 use Rattle.hill.specs.Valid.{weightUp, weightDown, AllFine}
 use Rattle.hill.specs.Building.{push, join, closes}
-use Rattle.summary.specs.Layout.{i32Bytes, i64Bytes}
+use Rattle.summary.specs.Layout.{i64Bytes, recordBytes}
 use Rattle.summary.specs.Judge.{modeAt, riseAt, fallAt, leftAt, heldAt, IsHill}
 use Rattle.summary.specs.Decode.{amountsAt, leftsIn, rightsIn, hillIn}
 use Rattle.slopes.specs.declared.Counts.{Counts}
@@ -39,13 +39,13 @@ abbrev pub numbersBytes : List ℤ → ℕ → List ℕ
 numbersBytes xs zero = []
 numbersBytes xs (suc n) = numbersBytes xs n ++ i64Bytes (at xs n)
 
--- One record, and the first n records of four arrays, index 0 first.
-abbrev pub rowBytes : (v f c h : ℤ) → List ℕ
-rowBytes v f c h = i32Bytes v ++ (i32Bytes f ++ (i32Bytes c ++ i64Bytes h))
+-- One record with its held figures as they are stored, and the first n records of four arrays, index 0 first.
+abbrev pub storedRecord : (v f c h : ℤ) → List ℕ
+storedRecord v f c h = recordBytes (λ (x : ℤ). x) (record { value = v; floor = f; ceiling = c }, h)
 
-abbrev pub rowsBytes : (vs fs cs hs : List ℤ) → ℕ → List ℕ
-rowsBytes vs fs cs hs zero = []
-rowsBytes vs fs cs hs (suc n) = rowsBytes vs fs cs hs n ++ rowBytes (at vs n) (at fs n) (at cs n) (at hs n)
+abbrev pub recordsBytes : (vs fs cs hs : List ℤ) → ℕ → List ℕ
+recordsBytes vs fs cs hs zero = []
+recordsBytes vs fs cs hs (suc n) = recordsBytes vs fs cs hs n ++ storedRecord (at vs n) (at fs n) (at cs n) (at hs n)
 
 -- "Length 24 + 8 × (start - peak) + 20 × (end - peak)"
 abbrev pub hillLength : Counts → ℕ

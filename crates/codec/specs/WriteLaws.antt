@@ -20,7 +20,7 @@ use Rattle.summary.specs.Accepted.{encode-length}
 use Rattle.slopes.specs.declared.Counts.{Counts}
 use Rattle.slopes.specs.Arrays.{Arrays, at, ups, downs, slopesOf, Stored}
 use Rattle.slopes.specs.Laws.{rise-slopes, fall-slopes}
-use Rattle.codec.specs.Contracts.{Wrote, frontBytes, levelBytes, numbersBytes, rowBytes, rowsBytes, hillLength, Writes}
+use Rattle.codec.specs.Contracts.{Wrote, frontBytes, levelBytes, numbersBytes, storedRecord, recordsBytes, hillLength, Writes}
 
 -- ---- runs of stores
 
@@ -39,10 +39,10 @@ pub level-stores : (o o₁ o₂ o₃ o₄ : List ℕ) (x y z n : ℕ) → o₁ �
     → o₄ ≡ sets o 6 (levelBytes x y z n)
 level-stores o o₁ o₂ o₃ o₄ x y z n e₁ e₂ e₃ e₄ = e₄ ∙ simp (e₃, e₂, e₁, sets-append, length-bytesOf)
 
-pub row-stores : (o o₁ o₂ o₃ o₄ : List ℕ) (i : ℕ) (v f c h v′ f′ c′ h′ : ℤ) → v′ ≡ v → f′ ≡ f → c′ ≡ c → h′ ≡ h
+pub record-stores : (o o₁ o₂ o₃ o₄ : List ℕ) (i : ℕ) (v f c h v′ f′ c′ h′ : ℤ) → v′ ≡ v → f′ ≡ f → c′ ≡ c → h′ ≡ h
     → o₁ ≡ putAt 4 o i (ofZ w32 v′) → o₂ ≡ putAt 4 o₁ (i + 4) (ofZ w32 f′) → o₃ ≡ putAt 4 o₂ (i + 8) (ofZ w32 c′) → o₄ ≡ putAt 8 o₃ (i + 12) (ofZ w64 h′)
-    → o₄ ≡ sets o i (rowBytes v f c h)
-row-stores o o₁ o₂ o₃ o₄ i v f c h v′ f′ c′ h′ ev ef ec eh e₁ e₂ e₃ e₄ =
+    → o₄ ≡ sets o i (storedRecord v f c h)
+record-stores o o₁ o₂ o₃ o₄ i v f c h v′ f′ c′ h′ ev ef ec eh e₁ e₂ e₃ e₄ =
     e₄ ∙ simp (e₃, e₂, e₁, ev, ef, ec, eh)
     (ap (λ (l : List ℕ). sets (sets l (i + 8) (i32Bytes c)) (i + 12) (i64Bytes h)) (stores-next o i (i + 4) (i32Bytes v) (i32Bytes f) (simp length-bytesOf))
     ∙ ap (λ (l : List ℕ). sets l (i + 12) (i64Bytes h)) (stores-next o i (i + 8) (i32Bytes v ++ i32Bytes f) (i32Bytes c) (simp (length-append, length-bytesOf)))
@@ -55,20 +55,20 @@ length-numbers : (xs : List ℤ) (n : ℕ) → length (numbersBytes xs n) ≡ 8 
 length-numbers xs zero = refl
 length-numbers xs (suc n) = simp (length-append, length-numbers xs n, length-bytesOf) (omega arith)
 
-length-rows : (vs fs cs hs : List ℤ) (n : ℕ) → length (rowsBytes vs fs cs hs n) ≡ 20 * n
-length-rows vs fs cs hs zero = refl
-length-rows vs fs cs hs (suc n) = simp (length-append, length-rows vs fs cs hs n, length-bytesOf) (omega arith)
+length-records : (vs fs cs hs : List ℤ) (n : ℕ) → length (recordsBytes vs fs cs hs n) ≡ 20 * n
+length-records vs fs cs hs zero = refl
+length-records vs fs cs hs (suc n) = simp (length-append, length-records vs fs cs hs n, length-bytesOf) (omega arith)
 
 pub numbers-turn : (o₀ o o′ : List ℕ) (k i : ℕ) (xs : List ℤ) (x : ℤ) → x ≡ at xs i → o ≡ sets o₀ k (numbersBytes xs i) → o′ ≡ putAt 8 o (k + 8 * i) (ofZ w64 x)
     → o′ ≡ sets o₀ k (numbersBytes xs (i + 1))
 numbers-turn o₀ o o′ k i xs x ex e e′ =
     e′ ∙ rw (e, ex, add-one) (stores-next o₀ k (k + 8 * i) (numbersBytes xs i) (i64Bytes (at xs i)) (ap (λ (n : ℕ). k + n) (length-numbers xs i)))
 
-pub rows-turn : (o₀ o o′ : List ℕ) (k i : ℕ) (vs fs cs hs : List ℤ) (v f c h : ℤ) → v ≡ at vs i → f ≡ at fs i → c ≡ at cs i → h ≡ at hs i
-    → o ≡ sets o₀ k (rowsBytes vs fs cs hs i) → o′ ≡ sets o (k + 20 * i) (rowBytes v f c h) → o′ ≡ sets o₀ k (rowsBytes vs fs cs hs (i + 1))
-rows-turn o₀ o o′ k i vs fs cs hs v f c h ev ef ec eh e e′ =
+pub records-turn : (o₀ o o′ : List ℕ) (k i : ℕ) (vs fs cs hs : List ℤ) (v f c h : ℤ) → v ≡ at vs i → f ≡ at fs i → c ≡ at cs i → h ≡ at hs i
+    → o ≡ sets o₀ k (recordsBytes vs fs cs hs i) → o′ ≡ sets o (k + 20 * i) (storedRecord v f c h) → o′ ≡ sets o₀ k (recordsBytes vs fs cs hs (i + 1))
+records-turn o₀ o o′ k i vs fs cs hs v f c h ev ef ec eh e e′ =
     e′ ∙ rw (e, ev, ef, ec, eh, add-one)
-    (stores-next o₀ k (k + 20 * i) (rowsBytes vs fs cs hs i) (rowBytes (at vs i) (at fs i) (at cs i) (at hs i)) (ap (λ (n : ℕ). k + n) (length-rows vs fs cs hs i)))
+    (stores-next o₀ k (k + 20 * i) (recordsBytes vs fs cs hs i) (storedRecord (at vs i) (at fs i) (at cs i) (at hs i)) (ap (λ (n : ℕ). k + n) (length-records vs fs cs hs i)))
 
 -- ---- stored numbers are written as they are
 
@@ -78,14 +78,14 @@ module _ (M : Mode) where
   left-is ls zero s = refl
   left-is ls (suc n) s = ap₂ _++_ (left-is ls n (λ i l. s i (omega arith))) (ap i64Bytes (s n (omega arith)))
 
-  right-is : (vs fs cs hs : List ℤ) (n : ℕ) → ((i : ℕ) → i < n → IsStored M (at hs i)) → rightBytes (M .store) (downs M vs fs cs hs n) ≡ rowsBytes vs fs cs hs n
+  right-is : (vs fs cs hs : List ℤ) (n : ℕ) → ((i : ℕ) → i < n → IsStored M (at hs i)) → rightBytes (M .store) (downs M vs fs cs hs n) ≡ recordsBytes vs fs cs hs n
   unfolding IsStored
   right-is vs fs cs hs zero s = refl
   right-is vs fs cs hs (suc n) s =
-      ap₂ _++_ (right-is vs fs cs hs n (λ i l. s i (omega arith))) (ap (λ (h : ℤ). rowBytes (at vs n) (at fs n) (at cs n) h) (s n (omega arith)))
+      ap₂ _++_ (right-is vs fs cs hs n (λ i l. s i (omega arith))) (ap (λ (h : ℤ). storedRecord (at vs n) (at fs n) (at cs n) h) (s n (omega arith)))
 
   hill-is : (A : Arrays) (c : Counts) → Stored M A c
-      → hillBytes (M .store) (slopesOf M A c) ≡ numbersBytes (A .left) (c .nl) ++ (i64Bytes (c .mid) ++ rowsBytes (A .values) (A .floors) (A .ceilings) (A .held) (c .n))
+      → hillBytes (M .store) (slopesOf M A c) ≡ numbersBytes (A .left) (c .nl) ++ (i64Bytes (c .mid) ++ recordsBytes (A .values) (A .floors) (A .ceilings) (A .held) (c .n))
   unfolding IsStored
   hill-is A c s =
       ap₂ _++_ (left-is (A .left) (c .nl) (s .left)) (ap₂ _++_ (ap i64Bytes (s .mid)) (right-is (A .values) (A .floors) (A .ceilings) (A .held) (c .n) (s .held)))
@@ -127,18 +127,18 @@ module _ (m p n : ℕ) (A : Arrays) (c : Counts) (o : List ℕ) (ok : Writes (mo
   numbers : List ℕ
   numbers = numbersBytes (A .left) (c .nl)
 
-  rows : List ℕ
-  rows = rowsBytes (A .values) (A .floors) (A .ceilings) (A .held) (c .n)
+  records : List ℕ
+  records = recordsBytes (A .values) (A .floors) (A .ceilings) (A .held) (c .n)
 
-  said-is : bytesOf 2 (hillLength c) ++ (bytesOf 2 18 ++ (bytesOf 2 m ++ (levelBytes (p + c .nl) p (p + c .n) n ++ (numbers ++ (i64Bytes (c .mid) ++ rows))))) ≡ encode m said
-  unfolding said encode numbers rows
+  said-is : bytesOf 2 (hillLength c) ++ (bytesOf 2 18 ++ (bytesOf 2 m ++ (levelBytes (p + c .nl) p (p + c .n) n ++ (numbers ++ (i64Bytes (c .mid) ++ records))))) ≡ encode m said
+  unfolding said encode numbers records
   said-is = rw (hill-is (modeOf m) A c (ok .stored), rise-slopes (modeOf m) A c, fall-slopes (modeOf m) A c) (simp append-assoc)
 
   pub hill-written : (o₁ o₂ o₃ o₄ o₅ : List ℕ) (k x z r : ℕ) (mid : ℤ) → k ≡ hillLength c → x ≡ p + c .nl → z ≡ p + c .n → r ≡ hillLength c → mid ≡ c .mid
       → o₁ ≡ sets o 0 (frontBytes k 18 m) → o₂ ≡ sets o₁ 6 (levelBytes x p z n) → o₃ ≡ sets o₂ 16 (numbersBytes (A .left) (c .nl))
-      → o₄ ≡ putAt 8 o₃ (16 + 8 * c .nl) (ofZ w64 mid) → o₅ ≡ sets o₄ (24 + 8 * c .nl) (rowsBytes (A .values) (A .floors) (A .ceilings) (A .held) (c .n))
+      → o₄ ≡ putAt 8 o₃ (16 + 8 * c .nl) (ofZ w64 mid) → o₅ ≡ sets o₄ (24 + 8 * c .nl) (recordsBytes (A .values) (A .floors) (A .ceilings) (A .held) (c .n))
       → Wrote (encode m (part (whole p n (slopesOf (modeOf m) A c)))) o o₅ r
-  unfolding said numbers rows
+  unfolding said numbers records
   hill-written o₁ o₂ o₃ o₄ o₅ k x z r mid ek ex ez er em e₁ e₂ e₃ e₄ e₅ =
       let l = levelBytes (p + c .nl) p (p + c .n) n in
       let ll : length l ≡ 10 = simp (length-append, length-bytesOf) in
@@ -146,8 +146,8 @@ module _ (m p n : ℕ) (A : Arrays) (c : Counts) (o : List ℕ) (ok : Writes (mo
       let b₃ : o₃ ≡ sets o₁ 6 (l ++ numbers) = e₃ ∙ rw (e₂, ex, ez) (stores-next o₁ 6 16 l numbers (omega arith)) in
       let b₄ : o₄ ≡ sets o₁ 6 ((l ++ numbers) ++ i64Bytes (c .mid)) =
       e₄ ∙ rw (b₃, em) (stores-next o₁ 6 (16 + 8 * c .nl) (l ++ numbers) (i64Bytes (c .mid)) (omega (arith, length-append l numbers))) in
-      let b₅ : o₅ ≡ sets o₁ 6 (((l ++ numbers) ++ i64Bytes (c .mid)) ++ rows) =
-      e₅ ∙ rw b₄ (stores-next o₁ 6 (24 + 8 * c .nl) ((l ++ numbers) ++ i64Bytes (c .mid)) rows (omega (arith, length-append l numbers, length-append (l ++ numbers) (i64Bytes (c .mid)), length-bytesOf 8 (ofZ w64 (c .mid))))) in
-      let b : o₅ ≡ sets o₁ 6 (l ++ (numbers ++ (i64Bytes (c .mid) ++ rows))) = b₅ ∙ simp append-assoc in
+      let b₅ : o₅ ≡ sets o₁ 6 (((l ++ numbers) ++ i64Bytes (c .mid)) ++ records) =
+      e₅ ∙ rw b₄ (stores-next o₁ 6 (24 + 8 * c .nl) ((l ++ numbers) ++ i64Bytes (c .mid)) records (omega (arith, length-append l numbers, length-append (l ++ numbers) (i64Bytes (c .mid)), length-bytesOf 8 (ofZ w64 (c .mid))))) in
+      let b : o₅ ≡ sets o₁ 6 (l ++ (numbers ++ (i64Bytes (c .mid) ++ records))) = b₅ ∙ simp append-assoc in
       wrote (encode m said) o o₅ r (er ∙ sym said-length) (omega (arith, said-length, ok .fits))
-      (summary-stores o o₁ o₅ (l ++ (numbers ++ (i64Bytes (c .mid) ++ rows))) (hillLength c) 18 m (rw ek at e₁) b ∙ ap (sets o 0) said-is)
+      (summary-stores o o₁ o₅ (l ++ (numbers ++ (i64Bytes (c .mid) ++ records))) (hillLength c) 18 m (rw ek at e₁) b ∙ ap (sets o 0) said-is)

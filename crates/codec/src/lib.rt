@@ -13,7 +13,7 @@ ghost use Rattle.summary.specs.Judge.{riseAt};
 ghost use Rattle.summary.specs.Decode.{hillIn};
 ghost use Rattle.slopes.specs.Arrays.{Arrays, arrays, slopesOf, weightOf, StandsFor};
 ghost use Rattle.slopes.specs.declared.Counts.{Counts};
-ghost use Rattle.codec.specs.Contracts.{Wrote, frontBytes, levelBytes, numbersBytes, rowBytes, rowsBytes, Writes, Falls, Carried, Sinks, Sunk, LeavesOn, Stacked, Loads};
+ghost use Rattle.codec.specs.Contracts.{Wrote, frontBytes, levelBytes, numbersBytes, storedRecord, recordsBytes, Writes, Falls, Carried, Sinks, Sunk, LeavesOn, Stacked, Loads};
 use slopes::Counts;
 
 // ---- writing
@@ -76,9 +76,9 @@ fn put_numbers(xs: &[i64; 64], n: usize, out: &mut [u8], at: usize)
 }
 
 // One record, 20 bytes.
-fn put_row(out: &mut [u8], at: usize, value: i32, floor: i32, ceiling: i32, held: i64)
+fn put_record(out: &mut [u8], at: usize, value: i32, floor: i32, ceiling: i32, held: i64)
     requires { ⌜ at + 20 ≤ length (now out) ⌝ }
-    ensures { λ _. ⌜ now (out .exit) ≡ sets (now (out .entry)) at (rowBytes value floor ceiling held) ⌝ }
+    ensures { λ _. ⌜ now (out .exit) ≡ sets (now (out .entry)) at (storedRecord value floor ceiling held) ⌝ }
 {
     number::write_i32(out, at, value);
     number::write_i32(out, at + 4, floor);
@@ -87,7 +87,7 @@ fn put_row(out: &mut [u8], at: usize, value: i32, floor: i32, ceiling: i32, held
 }
 
 // The first n records, from `at` on.
-fn put_rows(
+fn put_records(
     values: &[i32; 64],
     floors: &[i32; 64],
     ceilings: &[i32; 64],
@@ -97,11 +97,11 @@ fn put_rows(
     at: usize,
 )
     requires { ⌜ (n ≤ 64) × (at + 20 * n ≤ length (now out)) ⌝ }
-    ensures { λ _. ⌜ now (out .exit) ≡ sets (now (out .entry)) at (rowsBytes (now (values .entry)) (now (floors .entry)) (now (ceilings .entry)) (now (held .entry)) n) ⌝ }
+    ensures { λ _. ⌜ now (out .exit) ≡ sets (now (out .entry)) at (recordsBytes (now (values .entry)) (now (floors .entry)) (now (ceilings .entry)) (now (held .entry)) n) ⌝ }
 {
     let mut i: usize = 0;
     while i < n {
-        put_row(out, at + 20 * i, values[i], floors[i], ceilings[i], held[i]);
+        put_record(out, at + 20 * i, values[i], floors[i], ceilings[i], held[i]);
         i += 1;
     }
 }
@@ -127,13 +127,13 @@ pub fn write_hill(
     let nl = c.nl;
     let n = c.n;
     let mid = c.mid;
-    let rows_at = 24 + 8 * nl;
-    let total = rows_at + 20 * n;
+    let records_at = 24 + 8 * nl;
+    let total = records_at + 20 * n;
     put_front(out, total as u16, 18, mode);
     put_levels(out, peak + (nl as u16), peak, peak + (n as u16), opened);
     put_numbers(left, nl, out, 16);
     number::write_i64(out, 16 + 8 * nl, mid);
-    put_rows(values, floors, ceilings, held, n, out, rows_at);
+    put_records(values, floors, ceilings, held, n, out, records_at);
     total
 }
 

@@ -19,11 +19,11 @@ A a = arrays (now (a .args .left)) (now (a .args .values)) (now (a .args .floors
 mid-is : (c : tie.After-struct-told) → toZ w64 (ofZ w64 (c .before .before .args .c .mid)) ≡ c .before .before .args .c .mid
 mid-is c = let h : mag (c .before .before .args .c .mid) < 2 ^ 63 = search needs in back w64 (c .before .before .args .c .mid) h
 
-mul-rows-at : tie.Need-mul-rows-at
-mul-rows-at c = search needs
+mul-records-at : tie.Need-mul-records-at
+mul-records-at c = search needs
 
-add-rows-at : tie.Need-add-rows-at
-add-rows-at c = search needs
+add-records-at : tie.Need-add-records-at
+add-records-at c = search needs
 
 mul-total : tie.Need-mul-total
 mul-total c = search needs
@@ -64,8 +64,8 @@ add-write-i64 c = search needs
 write-i64-requires : tie.Need-write-i64-requires
 write-i64-requires c κs = search needs
 
-put-rows-requires : tie.Need-put-rows-requires
-put-rows-requires c κs = search needs
+put-records-requires : tie.Need-put-records-requires
+put-records-requires c κs = search needs
 
 same-length : tie.Need-same-length
 same-length c = search needs
@@ -76,14 +76,14 @@ returns c =
     hill-written (a .args .mode) (a .args .peak) (a .args .opened) (A a) (a .args .c) (now (a .args .out)) (a .pre)
     (c .before .before .before .before .before .before .before .before .before .before .before .before .before .before .before .before .before .before .put-front .last .0) (c .before .before .before .before .before .before .before .before .before .before .before .before .before .before .put-levels .last .0) (c .before .before .before .before .before .before .before .before .before .before .put-numbers .last .1 .1 .0) (c .before .before .before .before .before .before .write-i64 .last .0) _ _ _ _ _ _
     refl refl refl refl (mid-is (c .before .before .before .before .before .before .before .before .before .before .before .before .before .before .before .before .before .before .before .before))
-    (c .before .before .before .before .before .before .before .before .before .before .before .before .before .before .before .before .before .before .put-front .ensures) (c .before .before .before .before .before .before .before .before .before .before .before .before .before .before .put-levels .ensures) (c .before .before .before .before .before .before .before .before .before .before .put-numbers .ensures) (c .before .before .before .before .before .before .write-i64 .ensures) (c .before .before .put-rows .ensures)
+    (c .before .before .before .before .before .before .before .before .before .before .before .before .before .before .before .before .before .before .put-front .ensures) (c .before .before .before .before .before .before .before .before .before .before .before .before .before .before .put-levels .ensures) (c .before .before .before .before .before .before .before .before .before .before .put-numbers .ensures) (c .before .before .before .before .before .before .write-i64 .ensures) (c .before .before .put-records .ensures)
 
 pub write-hill-spec : {M : Type 1} → statement M
 write-hill-spec =
     tie.close
     (tie.spec
-    mul-rows-at
-    add-rows-at
+    mul-records-at
+    add-records-at
     mul-total
     add-total
     cast-put-front
@@ -97,6 +97,6 @@ write-hill-spec =
     mul-write-i64
     add-write-i64
     write-i64-requires
-    put-rows-requires
+    put-records-requires
     same-length
     returns)

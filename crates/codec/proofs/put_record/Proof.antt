@@ -1,10 +1,10 @@
--- `codec::put_row` meets its contract. Assumes nothing.
+-- `codec::put_record` meets its contract. Assumes nothing.
 use denote.Ref.{now}
 use mir.Facts.{toZ-ofZ}
-use Rattle.codec.specs.WriteLaws.{row-stores}
+use Rattle.codec.specs.WriteLaws.{record-stores}
 use borrow.Author.Needs.{needs}
-use Rattle.codec.proofs.put_row.Statement.{statement}
-use Rattle.codec.proofs.put_row.Tie as tie
+use Rattle.codec.proofs.put_record.Statement.{statement}
+use Rattle.codec.proofs.put_record.Tie as tie
 
 write-i32-requires : tie.Need-write-i32-requires
 write-i32-requires c κs = search needs
@@ -33,13 +33,13 @@ same-length c = search needs
 returns : tie.Need-returns
 returns c =
     let a = c .before .before .before .before .before .before .before .before .before .before .before .before .before .before .before .before .before in
-    row-stores (now (a .args .out)) (c .before .before .before .before .before .before .before .before .before .before .before .before .before .before .write-i32 .last .0) (c .before .before .before .before .before .before .before .before .before .before .write-i322 .last .0) (c .before .before .before .before .before .before .write-i323 .last .0) _ (a .args .at)
+    record-stores (now (a .args .out)) (c .before .before .before .before .before .before .before .before .before .before .before .before .before .before .write-i32 .last .0) (c .before .before .before .before .before .before .before .before .before .before .write-i322 .last .0) (c .before .before .before .before .before .before .write-i323 .last .0) _ (a .args .at)
     (a .args .value) (a .args .floor) (a .args .ceiling) (a .args .held) _ _ _ _
     (toZ-ofZ (a .fits .value)) (toZ-ofZ (a .fits .floor)) (toZ-ofZ (a .fits .ceiling)) (toZ-ofZ (a .fits .held))
     (c .before .before .before .before .before .before .before .before .before .before .before .before .before .before .write-i32 .ensures) (c .before .before .before .before .before .before .before .before .before .before .write-i322 .ensures) (c .before .before .before .before .before .before .write-i323 .ensures) (c .before .before .write-i64 .ensures)
 
-pub put-row-spec : {M : Type 1} → statement M
-put-row-spec =
+pub put-record-spec : {M : Type 1} → statement M
+put-record-spec =
     tie.close
     (tie.spec
     write-i32-requires
