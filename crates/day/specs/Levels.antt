@@ -1,19 +1,22 @@
 -- The levels and faults that the pass over a log keeps, and that they are the log's. Assumes nothing.
 use mathlib.Core.Path.{_≡_, refl, sym, ap, _∙_}
-use mathlib.Core.Bool.{Bool, true, false}
+use mathlib.Core.Bool.{Bool, true, false, cond}
 use mathlib.Core.List.{List, [], _∷_, _++_}
-use Prim.Native.Nat.{ℕ, _≤_}
+use Prim.Native.Nat.{ℕ, _≤_, _<_}
 use native.Mathlib.Omega.{arith}
 use lib.Dec.{eqb}
 use lib.ListN.{length}
-use Rattle.hill.specs.Verdict.{Verdict, pass, low, ask, between, count, ends}
+use Rattle.gate.specs.Outcome.{refused, result}
+use Rattle.hill.specs.Verdict.{Verdict, pass, refuse, low, ask, between, count, ends}
 use Rattle.hill.specs.VerdictLaws.{low-pass, low-comm, low-assoc, low-fst, low-snd, between-pass, count-few}
 use Rattle.hill.specs.Log.{Record, startLevel, endLevel, endOf, openedOf, joints, logFault}
 use Rattle.hill.specs.Growth.{grown, opened-few}
+use Rattle.hill.specs.Finish.{outcome}
 use Rattle.figure.specs.FourModes.{Amounts}
 use Rattle.figure.specs.Mode.{modeOf}
 use Rattle.fault.specs.Fault.{noFault, verdictOf}
-use Rattle.fault.specs.Laws.{clear, clear-is, is-clear, ground-pass}
+use Rattle.fault.specs.Laws.{clear, clear-is, found-is, is-clear, ground-pass}
+use Rattle.text.specs.declared.Figures.{Figures}
 use Rattle.day.specs.declared.Tally.{Tally}
 
 -- ---- definitions
@@ -46,6 +49,10 @@ pub record Tallied (t : Tally) (xs : List (Record Amounts)) : Type 0 where
   pub begun : t .begun ≡ begunBy xs
   pub level : t .level ≡ levelAfter xs
   pub fault : verdictOf (t .fault) ≡ faultAfter xs
+
+-- What is asked once all records are read: 10 of whether there is any, 11 of where the last one ended, and the lowest fault before that.
+abbrev pub verdictAfter : Tally → Verdict
+verdictAfter t = cond (t .begun) (low (verdictOf (t .fault)) (ask 11 (eqb (t .level) 0))) (refuse 10)
 
 -- ---- one record more
 
@@ -92,20 +99,36 @@ none-yet {t} b l f = record { begun = b; level = l; fault = clear (t .fault) f }
 
 -- ---- all records
 
--- a log with no record
-pub no-record : {t : Tally} (xs : List (Record Amounts)) → Tallied t xs → t .begun ≡ false → xs ≡ []
-no-record [] k e = refl
-no-record (x ∷ xs) k e = cc (k .begun)
-
 -- question 9 cannot get a "no" where there are too few records
 few-opened : (xs : List (Record Amounts)) → length xs ≤ 100_000 → count (openedOf xs) ≡ pass
 few-opened xs l = count-few (openedOf xs) (omega (arith, opened-few xs))
 
--- what is asked of the levels and of their fault
-pub log-fault : {t : Tally} (xs : List (Record Amounts)) → Tallied t xs → t .begun ≡ true → length xs ≤ 100_000 → low (verdictOf (t .fault)) (ask 11 (eqb (t .level) 0)) ≡ logFault xs
+-- what is asked at the end is what is asked of the log
+pub log-verdict : {t : Tally} (xs : List (Record Amounts)) → Tallied t xs → length xs ≤ 100_000 → verdictAfter t ≡ logFault xs
 unfolding ends
-log-fault [] k e l = cc (k .begun)
-log-fault (x ∷ xs) k e l =
+log-verdict [] k l = rw (k .begun)
+log-verdict (x ∷ xs) k l =
     let first = ask 11 (eqb (startLevel x) 0) in
     let last = ask 11 (eqb (endOf x xs) 0) in
-    rw (k .fault, k .level, few-opened (x ∷ xs) l, low-pass (joints x xs), low-comm first (joints x xs)) (low-assoc (joints x xs) first last)
+    rw (k .begun, k .fault, k .level, few-opened (x ∷ xs) l, low-pass (joints x xs), low-comm first (joints x xs)) (low-assoc (joints x xs) first last)
+
+-- where all is passed there is no fault, and the last record ended at level 0
+pub all-passed : (t : Tally) → verdictAfter t ≡ pass → (noFault ≤ t .fault) × (t .level ≡ 0)
+all-passed t e = go (t .begun) e
+  where
+    go : (b : Bool) → cond b (low (verdictOf (t .fault)) (ask 11 (eqb (t .level) 0))) (refuse 10) ≡ pass → (noFault ≤ t .fault) × (t .level ≡ 0)
+    go true e = (is-clear (t .fault) (low-fst (verdictOf (t .fault)) (ask 11 (eqb (t .level) 0)) e), ground-pass (t .level) (low-snd (verdictOf (t .fault)) (ask 11 (eqb (t .level) 0)) e))
+    go false e = let z : _≡_ {A = ℕ} 0 1 = cc in absurd (omega arith)
+
+-- ---- what `conclude` answers
+
+module _ (t : Tally) (mid : Figures) where
+  pub conclude-10 : t .begun ≡ false → refused 10 ≡ outcome (verdictAfter t) mid
+  conclude-10 b = rw b
+
+  module _ {a : ℕ} (b : t .begun ≡ true) (e : verdictOf a ≡ low (verdictOf (t .fault)) (ask 11 (eqb (t .level) 0))) where
+    pub conclude-fault : a < noFault → refused a ≡ outcome (verdictAfter t) mid
+    conclude-fault l = rw (b, found-is e l)
+
+    pub conclude-figures : noFault ≤ a → result mid ≡ outcome (verdictAfter t) mid
+    conclude-figures l = rw (b, clear-is e l)

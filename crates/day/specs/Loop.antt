@@ -1,10 +1,9 @@
 -- What the pass over a log keeps from turn to turn, and what it comes to at the end. Assumes nothing.
-use mathlib.Core.Path.{_≡_, sym, ap, subst, _∙_}
-use mathlib.Core.Bool.{true, false}
+use mathlib.Core.Path.{_≡_, refl, sym, ap, subst, _∙_}
+use mathlib.Core.Bool.{false}
 use mathlib.Core.List.{List, [], _∷_, _++_}
 use Prim.Native.Nat.{ℕ, _-_, _≤_, _<_}
 use native.Mathlib.Omega.{arith}
-use lib.Dec.{eqb}
 use lib.IntN.{ℤ}
 use lib.ListN.{length, length-map, take, drop}
 use Rattle.gate.specs.Outcome.{refused, result}
@@ -13,8 +12,7 @@ use Rattle.record.specs.Laws.{sound}
 use Rattle.record.specs.Handed as handing
 use Rattle.record.specs.Handed.{Handed}
 use Rattle.record.specs.declared.Fields.{Fields}
-use Rattle.hill.specs.Verdict.{Verdict, pass, low, ask}
-use Rattle.hill.specs.VerdictLaws.{low-fst, low-snd}
+use Rattle.hill.specs.Verdict.{Verdict, pass, refuse}
 use Rattle.hill.specs.Log.{Record, startLevel, logFault}
 use Rattle.hill.specs.Tree.{nil, tree, value}
 use Rattle.hill.specs.TreeLaws.{hillOf-write}
@@ -26,8 +24,7 @@ use Rattle.figure.specs.FourModes.{Amounts}
 use Rattle.figure.specs.Mode.{modeOf}
 use Rattle.figure.specs.Stored.{IsStored, amounts, none}
 use Rattle.slopes.specs.Laws.{emptied}
-use Rattle.fault.specs.Fault.{noFault, verdictOf}
-use Rattle.fault.specs.Laws.{clear-is, found-is, is-clear, ground-pass}
+use Rattle.fault.specs.Fault.{noFault}
 use Rattle.summary.specs.Values.{tells-range}
 use Rattle.summary.specs.Outcomes.{recordOf, chunkOf}
 use Rattle.summary.specs.OutcomeLaws.{chunk-append}
@@ -36,8 +33,8 @@ use Rattle.text.specs.declared.Figures.{Figures}
 use Rattle.day.specs.declared.Tally.{Tally}
 use Rattle.day.specs.Day.{figureIn, figuresOf, dayOutcome}
 use Rattle.day.specs.DayLaws.{unreadable, readable}
-use Rattle.day.specs.Levels.{Noted, Tallied, none-yet, tallied, was-none, meets, no-record, log-fault}
-use Rattle.day.specs.Pass.{rising, Stands, Standing, Ready, Applied}
+use Rattle.day.specs.Levels.{Noted, Tallied, verdictAfter, none-yet, tallied, was-none, meets, log-verdict, all-passed}
+use Rattle.day.specs.Pass.{noFigures, rising, Stands, Standing, Ready, Applied}
 
 -- ---- the figures
 
@@ -78,10 +75,7 @@ pub record Fresh (mid : Figures) (vs fs cs ns hs es ss : List ℤ) : Type 0 wher
   pub held-heaviest : length hs ≡ 64
   pub held-eaten : length es ≡ 64
   pub held-stamp : length ss ≡ 64
-  pub net : mid .net ≡ none (modeOf 1)
-  pub heaviest : mid .heaviest ≡ none (modeOf 2)
-  pub eaten : mid .eaten ≡ none (modeOf 3)
-  pub stamp : mid .stamp ≡ none (modeOf 4)
+  pub figures : mid ≡ noFigures
 
 stands-none : (m : ℕ) {vs fs cs hs : List ℤ} {mid : ℤ} → length vs ≡ 64 → length fs ≡ 64 → length cs ≡ 64 → length hs ≡ 64 → mid ≡ none (modeOf m) → Stands [] 0 vs fs cs m hs mid
 stands-none m {vs} {fs} {cs} {hs} {mid} ev ef ec eh e =
@@ -95,10 +89,10 @@ begin {log} short b l f e = record {
   handed = handing.start log;
   noted = none-yet b l f;
   standing = λ _. rw l record {
-    net = stands-none 1 (e .values) (e .floors) (e .ceilings) (e .held-net) (e .net);
-    heaviest = stands-none 2 (e .values) (e .floors) (e .ceilings) (e .held-heaviest) (e .heaviest);
-    eaten = stands-none 3 (e .values) (e .floors) (e .ceilings) (e .held-eaten) (e .eaten);
-    stamp = stands-none 4 (e .values) (e .floors) (e .ceilings) (e .held-stamp) (e .stamp);
+    net = stands-none 1 (e .values) (e .floors) (e .ceilings) (e .held-net) (ap (λ (x : Figures). x .net) (e .figures));
+    heaviest = stands-none 2 (e .values) (e .floors) (e .ceilings) (e .held-heaviest) (ap (λ (x : Figures). x .heaviest) (e .figures));
+    eaten = stands-none 3 (e .values) (e .floors) (e .ceilings) (e .held-eaten) (ap (λ (x : Figures). x .eaten) (e .figures));
+    stamp = stands-none 4 (e .values) (e .floors) (e .ceilings) (e .held-stamp) (ap (λ (x : Figures). x .stamp) (e .figures));
   };
 }
 
@@ -143,27 +137,15 @@ module _ {log rest : List ℕ} {t : Tally} {mid : Figures} {vs fs cs ns hs es ss
     judged : dayOutcome log ≡ outcome (logFault (chunkOf (i .done))) (figuresOf (chunkOf (i .done)))
     judged = readable log (i .short) (i .done) (handing.finished (i .handed) h)
 
-    by-verdict : {v : Verdict} → logFault (chunkOf (i .done)) ≡ v → dayOutcome log ≡ outcome v (figuresOf (chunkOf (i .done)))
-    by-verdict e = judged ∙ ap (λ v. outcome v (figuresOf (chunkOf (i .done)))) e
+    asked : verdictAfter t ≡ logFault (chunkOf (i .done))
+    asked = log-verdict (chunkOf (i .done)) (i .noted) few
 
-    pub empty-log : t .begun ≡ false → dayOutcome log ≡ refused 10
-    empty-log b = by-verdict (ap logFault (no-record (chunkOf (i .done)) (i .noted) b))
-
-    module _ (a : ℕ) (b : t .begun ≡ true) (e : verdictOf a ≡ low (verdictOf (t .fault)) (ask 11 (eqb (t .level) 0))) where
-      verdict-is : verdictOf a ≡ logFault (chunkOf (i .done))
-      verdict-is = e ∙ log-fault (chunkOf (i .done)) (i .noted) b few
-
-      pub faulty : a < noFault → dayOutcome log ≡ refused a
-      faulty some = by-verdict (found-is verdict-is some)
-
-      module _ (z : noFault ≤ a) where
-        level-is : t .level ≡ 0
-        level-is = ground-pass (t .level) (low-snd (verdictOf (t .fault)) (ask 11 (eqb (t .level) 0)) (clear-is e z))
-
-        fault-is : noFault ≤ t .fault
-        fault-is = is-clear (t .fault) (low-fst (verdictOf (t .fault)) (ask 11 (eqb (t .level) 0)) (clear-is e z))
-
-        pub figured : dayOutcome log ≡ result mid
-        figured =
-            let st : Standing (chunkOf (i .done)) 0 mid vs fs cs ns hs es ss = subst (λ (l : ℕ). Standing (chunkOf (i .done)) l mid vs fs cs ns hs es ss) level-is (i .standing fault-is) in
-            by-verdict (clear-is verdict-is z) ∙ ap result (sym (all-figures (chunkOf (i .done)) (clear-is verdict-is z) st))
+    pub ended : dayOutcome log ≡ outcome (verdictAfter t) mid
+    ended = judged ∙ ap (λ v. outcome v (figuresOf (chunkOf (i .done)))) (sym asked) ∙ go (verdictAfter t) refl
+      where
+        go : (v : Verdict) → verdictAfter t ≡ v → outcome v (figuresOf (chunkOf (i .done))) ≡ outcome v mid
+        go (refuse n) e = refl
+        go pass e =
+            let p = all-passed t e in
+            let st : Standing (chunkOf (i .done)) 0 mid vs fs cs ns hs es ss = subst (λ (l : ℕ). Standing (chunkOf (i .done)) l mid vs fs cs ns hs es ss) (p .1) (i .standing (p .0)) in
+            ap result (sym (all-figures (chunkOf (i .done)) (sym asked ∙ e) st))

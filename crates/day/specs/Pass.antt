@@ -13,7 +13,7 @@ use Rattle.hill.specs.Growth.{opened-append}
 use Rattle.figure.specs.FourModes.{Amounts, limit, InRange}
 use Rattle.figure.specs.Mode.{Mode, modeOf}
 use Rattle.figure.specs.Stored.{amounts, none}
-use Rattle.slopes.specs.Arrays.{Arrays, arrays, Fig, slopesOf, weightOf, Able, StandsFor}
+use Rattle.slopes.specs.Arrays.{Arrays, arrays, Fig, Able, StandsFor}
 use Rattle.slopes.specs.Actions.{Pushed, Top, ClosedTop}
 use Rattle.fault.specs.Fault.{noFault}
 use Rattle.slopes.specs.Laws.{counts, able, restate, opened, after, after-more, close-top, is-top}
@@ -22,6 +22,10 @@ use Rattle.summary.specs.Outcomes.{recordOf}
 use Rattle.text.specs.declared.Figures.{Figures}
 
 -- ---- definitions
+
+-- Nothing held, in each mode.
+abbrev pub noFigures : Figures
+noFigures = record { net = none (modeOf 1); heaviest = none (modeOf 2); eaten = none (modeOf 3); stamp = none (modeOf 4) }
 
 -- A log starts at level 0, so there are no left values: any list can stand in their place. The record of depth d is at index d.
 abbrev pub rising : (vs fs cs hs : List ℤ) → Arrays

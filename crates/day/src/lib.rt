@@ -7,8 +7,9 @@ ghost use Rattle.summary.specs.Outcomes.{recordOf};
 ghost use Rattle.text.specs.Line.{dayLine};
 ghost use Rattle.day.specs.Day.{dayOutcome, dayAnswer};
 ghost use Rattle.fault.specs.Fault.{verdictOf};
-ghost use Rattle.day.specs.Levels.{meeting, Noted};
-ghost use Rattle.day.specs.Pass.{Opened, Ready, Applied};
+ghost use Rattle.hill.specs.Finish.{outcome};
+ghost use Rattle.day.specs.Levels.{meeting, Noted, verdictAfter};
+ghost use Rattle.day.specs.Pass.{noFigures, Opened, Ready, Applied};
 use record::Fields;
 use record::Read;
 use text::Figures;
@@ -57,6 +58,18 @@ fn note(t: Tally, f: Fields) -> Tally
     }
 }
 
+// No figure yet, in each mode.
+fn no_figures() -> Figures
+    ensures { λ r. ⌜ r ≡ noFigures ⌝ }
+{
+    Figures {
+        net: figure::nothing(1),
+        heaviest: figure::nothing(2),
+        eaten: figure::nothing(3),
+        stamp: figure::nothing(4),
+    }
+}
+
 // An open: the record stands at its depth, and holds nothing yet in each mode.
 fn open_at(
     depth: usize,
@@ -85,7 +98,7 @@ fn open_at(
     stamp[depth] = figure::nothing(4);
 }
 
-// One record in all four modes, as long as there is no fault. The answer are the middle values.
+// One record in all four modes, as long as there is no fault. It answers the middle values.
 fn apply(
     fault: u8,
     f: Fields,
@@ -143,6 +156,20 @@ fn apply(
     }
 }
 
+// Once all records are read: the middle values, unless a question has a "no".
+fn conclude(t: Tally, mid: Figures) -> Day
+    ensures { λ r. ⌜ dayAnswer r ≡ outcome (verdictAfter t) mid ⌝ }
+{
+    if t.begun {
+        let fault = fault::lower(t.fault, fault::ground(t.level));
+        if fault < fault::NONE {
+            return Day::Refused(fault);
+        }
+        return Day::Figures(mid);
+    }
+    Day::Refused(10)
+}
+
 // The day's four figures, or the first question that gets a "no".
 pub fn figures(log: &[u8]) -> Day
     ensures { λ r. ⌜ dayAnswer r ≡ dayOutcome (now (log .entry)) ⌝ }
@@ -157,12 +184,7 @@ pub fn figures(log: &[u8]) -> Day
     let mut heaviest = [0i64; 64];
     let mut eaten = [0i64; 64];
     let mut stamp = [0i64; 64];
-    let mut mid = Figures {
-        net: figure::nothing(1),
-        heaviest: figure::nothing(2),
-        eaten: figure::nothing(3),
-        stamp: figure::nothing(4),
-    };
+    let mut mid = no_figures();
     let mut t = Tally {
         begun: false,
         level: 0,
@@ -189,14 +211,7 @@ pub fn figures(log: &[u8]) -> Day
         );
         rest = &rest[length..];
     }
-    if t.begun {
-        let fault = fault::lower(t.fault, fault::ground(t.level));
-        if fault < fault::NONE {
-            return Day::Refused(fault);
-        }
-        return Day::Figures(mid);
-    }
-    Day::Refused(10)
+    conclude(t, mid)
 }
 
 // The line that the day program prints for a log, from the buffer's start; the answer is its length.

@@ -1,17 +1,12 @@
 -- `day::figures` meets its contract. Assumes nothing.
 use mathlib.Core.Path.{_≡_, refl, sym, ap, _∙_}
 use native.Mathlib.Omega.{arith}
-use lib.Dec.{eqb}
 use lib.ListN.{length}
 use borrow.Author.Needs.{needs}
 use denote.Ref.{now}
-use mir.Syntax.{w64}
-use Rattle.number.specs.Word.{back}
 use Rattle.gate.specs.Outcome.{result}
 use Rattle.record.specs.Record.{readOf, answerOf}
 use Rattle.record.specs.Laws.{sound}
-use Rattle.hill.specs.Verdict.{low, ask}
-use Rattle.fault.specs.Fault.{verdictOf}
 use Rattle.day.specs.DayLaws.{too-long}
 use Rattle.day.specs.Loop as laws
 use Rattle.day.specs.Loop.{Inv}
@@ -30,29 +25,15 @@ abbrev μ-loop : tie.MeasureT-loop
 read : (c : tie.After-f Inv-loop μ-loop) → readOf (now (c .before .before .before .before .loop .rest)) ≡ result (c .f .given .0 .0)
 read c = sym (c .before .before .read-first .ensures) ∙ ap answerOf (c .f .given .1)
 
--- the fault after the last record
-verdict-is : (c : tie.After-lower Inv-loop μ-loop) → let t = c .before .before .before .before .loop .t in
-    verdictOf (c .lower .result) ≡ low (verdictOf (t .fault)) (ask 11 (eqb (t .level) 0))
-verdict-is c = c .lower .ensures ∙ ap (low (verdictOf (c .before .before .before .before .loop .t .fault))) (c .before .ground .ensures)
-
 returns : tie.Need-returns Inv-loop μ-loop
 returns c = sym (too-long (now (c .before .before .args .log)) (c .if1 .taken))
 
-nothing-requires : tie.Need-nothing-requires Inv-loop μ-loop
-nothing-requires c κs = search needs
-
-nothing-requires-2 : tie.Need-nothing-requires-2 Inv-loop μ-loop
-nothing-requires-2 c κs = search needs
-
-nothing-requires-3 : tie.Need-nothing-requires-3 Inv-loop μ-loop
-nothing-requires-3 c κs = search needs
-
-nothing-requires-4 : tie.Need-nothing-requires-4 Inv-loop μ-loop
-nothing-requires-4 c κs = search needs
+no-figures-requires : tie.Need-no-figures-requires Inv-loop μ-loop
+no-figures-requires c κs = search needs
 
 loop-holds : tie.Need-loop-holds Inv-loop μ-loop
 loop-holds c =
-    laws.begin (c .before .before .before .before .if1 .left) refl refl (omega arith)
+    laws.begin (c .before .if1 .left) refl refl (omega arith)
     (record {
       values = refl;
       floors = refl;
@@ -61,10 +42,7 @@ loop-holds c =
       held-heaviest = refl;
       held-eaten = refl;
       held-stamp = refl;
-      net = back w64 (c .before .before .before .nothing .result) (c .before .before .before .nothing .ok) ∙ c .before .before .before .nothing .ensures;
-      heaviest = back w64 (c .before .before .nothing2 .result) (c .before .before .nothing2 .ok) ∙ c .before .before .nothing2 .ensures;
-      eaten = back w64 (c .before .nothing3 .result) (c .before .nothing3 .ok) ∙ c .before .nothing3 .ensures;
-      stamp = back w64 (c .nothing4 .result) (c .nothing4 .ok) ∙ c .nothing4 .ensures;
+      figures = c .no-figures .ensures;
     })
 
 read-first-requires : tie.Need-read-first-requires Inv-loop μ-loop
@@ -103,24 +81,11 @@ loop-less c = omega (arith, sound _ _ (read (c .before .before .before .before .
 loop-again : tie.Need-loop-again Inv-loop μ-loop
 loop-again c = laws.next (c .before .before .before .before .before .before .before .before .before .before .before .before .before .before .before .before .loop .inv) (read (c .before .before .before .before .before .before .before .before .before .before .before .before)) (c .before .before .before .before .before .before .before .before .before .note .ensures) (c .before .apply .ensures)
 
+conclude-requires : tie.Need-conclude-requires Inv-loop μ-loop
+conclude-requires c κs = search needs
+
 returns-3 : tie.Need-returns-3 Inv-loop μ-loop
-returns-3 c =
-    let l = c .before .before .before .before in
-    sym (laws.faulty (l .before .loop .inv) (l .loop-test .left) (c .before .lower .result) (c .before .before .before .if2 .taken) (verdict-is (c .before)) (c .if3 .taken))
-
-ground-requires : tie.Need-ground-requires Inv-loop μ-loop
-ground-requires c κs = search needs
-
-lower-requires : tie.Need-lower-requires Inv-loop μ-loop
-lower-requires c κs = search needs
-
-returns-4 : tie.Need-returns-4 Inv-loop μ-loop
-returns-4 c =
-    let l = c .before .before .before .before in
-    sym (laws.figured (l .before .loop .inv) (l .loop-test .left) (c .before .lower .result) (c .before .before .before .if2 .taken) (verdict-is (c .before)) (c .if3 .left))
-
-returns-5 : tie.Need-returns-5 Inv-loop μ-loop
-returns-5 c = let l = c .before in sym (laws.empty-log (l .before .loop .inv) (l .loop-test .left) (c .if2 .left))
+returns-3 c = let l = c .before in c .conclude .ensures ∙ sym (laws.ended (l .before .loop .inv) (l .loop-test .left))
 
 pub figures-spec : {M : Type 1} → statement M
 figures-spec =
@@ -129,10 +94,7 @@ figures-spec =
     Inv-loop
     μ-loop
     returns
-    nothing-requires
-    nothing-requires-2
-    nothing-requires-3
-    nothing-requires-4
+    no-figures-requires
     loop-holds
     read-first-requires
     enum-known-f
@@ -146,8 +108,5 @@ figures-spec =
     part-rest-end
     loop-less
     loop-again
-    ground-requires
-    lower-requires
-    returns-3
-    returns-4
-    returns-5)
+    conclude-requires
+    returns-3)
