@@ -3,4 +3,3 @@ pub mod Contracts
 pub mod WriteLaws
 pub mod LoadLaws
 pub mod CloseLaws
-pub mod Calls

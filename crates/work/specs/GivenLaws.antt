@@ -214,9 +214,6 @@ module _ {row : List ℕ} {count m : ℕ} {ats starts peaks : List ℕ} {outs : 
   abbrev middlesOf : Q .algebra .Fig
   middlesOf = middlesAt (Q .algebra) (e .high + 1) (strictlyBetween (Q .algebra) (rowIn m row) (e .i) (e .j))
 
-  pub gives-middles : Middles row count m ats starts peaks (e .i) (e .j) (e .high + 1)
-  gives-middles = record { ready = v .ready; order = v .order; within = v .within; level-high = omega (arith, v .level-high) }
-
   module _ (is js lows : List ℕ) (x y a b : ℤ) (ex : x ≡ a) (ey : y ≡ b) (s : Stores Q a middlesOf) (t : Outcomes m is js lows outs n (e .i) (e .j) (e .high + 1) b) where
     both-room : (highs : List ℕ) → Q .sizes .size middlesOf + Q .sizes .size (outcomesAt (Q .algebra) (e .i) (e .j) (e .high + 1) (doneIn Q is js lows highs outs n)) < 2 ^ 63
     both-room highs =
