@@ -17,7 +17,7 @@ use Rattle.summary.specs.Decode.{hillIn, decode}
 use Rattle.summary.specs.Values.{reading-hill}
 use Rattle.summary.specs.Hills.{hill-valid}
 use Rattle.slopes.specs.declared.Counts.{Counts}
-use Rattle.slopes.specs.Arrays.{Arrays, Fig, slopesOf, weightOf, Fine, Sound, StandsFor}
+use Rattle.slopes.specs.Arrays.{Arrays, Fig, slopesOf, weightOf, Fine, Arrays64, StandsFor}
 use Rattle.slopes.specs.Laws.{counts, able, restate, rise-is, fall-is, emptied}
 use Rattle.codec.specs.Contracts.{Wrote, hillLength, Writes, Loads}
 use Rattle.codec.specs.LoadLaws.{in-mode}
@@ -58,7 +58,7 @@ module _ (m : ℕ) (b : List ℕ) (v : IsHill b) (e : modeAt b ≡ m) where
       }
 
   -- So it can where they hold no record yet, and then the arrays stand for the bytes' hill.
-  module _ (A : Arrays) (z : ℤ) (s : Sound A (counts 0 0 z)) (n : z ≡ none (modeOf m)) where
+  module _ (A : Arrays) (z : ℤ) (s : Arrays64 A) (n : z ≡ none (modeOf m)) where
     pub can-load-first : Loads m b A (counts 0 0 z)
     can-load-first =
         let M = modeOf m in

@@ -24,7 +24,7 @@ use Rattle.summary.specs.Values.{lefts-length}
 use Rattle.summary.specs.Accepted.{Accepted, IsSummaryIn, decoded}
 use Rattle.summary.specs.Outcomes.{mergeBytes}
 use Rattle.slopes.specs.declared.Counts.{Counts}
-use Rattle.slopes.specs.Arrays.{Arrays, arrays, Fig, slopesOf as hillOf, weightOf, Fine, StandsFor}
+use Rattle.slopes.specs.Arrays.{Arrays, arrays, Fig, slopesOf as hillOf, weightOf, Fine, Arrays64, StandsFor}
 use Rattle.slopes.specs.Laws.{counts, able, restate, rise-is, fall-is, emptied, unit-bound}
 use Rattle.codec.specs.Contracts.{Loads}
 use Rattle.join_plan.specs.Gate.{summaryFault, fault-parts}
@@ -37,7 +37,7 @@ use Rattle.merge.specs.declared.Side.the-variants as side
 use Rattle.merge.specs.declared.Merged.{Merged}
 use Rattle.merge.specs.Side.{SaysPart}
 use Rattle.emit.specs.Emitted.{Writable}
-use Rattle.merge.specs.Asks.{Arrays64, Kept}
+use Rattle.merge.specs.Asks.{Kept}
 use Rattle.merge.specs.SayLaws.{decode-blank, decode-spoilt, decode-hill}
 
 -- arrays that were never written
@@ -95,7 +95,7 @@ module _ (m : ℕ) where
     whole = h;
     accepted = tt;
     says = refl;
-    stands = λ v. restate (emptied (modeOf m) (arrays ls vs fs cs hs) z (record { left = h .left; values = h .values; floors = h .floors; ceilings = h .ceilings; held = h .held; nl≤ = omega arith; n≤ = omega arith }) e) most refl (omega arith);
+    stands = λ v. restate (emptied (modeOf m) (arrays ls vs fs cs hs) z h e) most refl (omega arith);
   }
 
   module _ {A : Arrays} {a : Merged} {s : SummaryIn m} (k : Kept m A a s) where
@@ -170,7 +170,7 @@ module _ (m : ℕ) where
               let n : slopesOf 𝒜 (decode m b) ≡ (new b) = ap (slopesOf 𝒜) piece-is in
               let x : merge 𝒜 (hillOf (modeOf m) A (a .counts)) (new b) ≡ slopesOf 𝒜 (mergeSummary 𝒜 s (decode m b)) = ap₂ (merge 𝒜) (before .is) (sym n) ∙ sym (both-slopes s (decode m b) clear) in
               record {
-                whole = record { left = r .sound .left; values = r .sound .values; floors = r .sound .floors; ceilings = r .sound .ceilings; held = r .sound .held };
+                whole = r .sound .whole;
                 accepted = both-accepted;
                 says = g;
                 stands = λ v. record { sound = r .sound; stored = r .stored; is = r .is ∙ x; fine = subst (Fine (modeOf m)) x (r .fine); light = light (mergeSummary 𝒜 s (decode m b)) both-accepted };

@@ -13,9 +13,9 @@ ghost use Rattle.slopes.specs.Actions.{entry};
 ghost use Rattle.gate.specs.Outcome.{bufferAfter, written};
 ghost use Rattle.gate.specs.Answers.{writtenAnswer, lengthAnswered, finishedAnswer};
 ghost use Rattle.summary.specs.Outcomes.{summariseOutcome, summaryBytes, finishOutcome};
-ghost use Rattle.slopes.specs.Arrays.{arrays};
+ghost use Rattle.slopes.specs.Arrays.{arrays, Arrays64};
 ghost use Rattle.summarise.specs.Tallies.{Tallied};
-ghost use Rattle.summarise.specs.Scans.{Grows, Grown, Lent, Summed, Scanned, Concludes};
+ghost use Rattle.summarise.specs.Scans.{Grows, Grown, Summed, Scanned, Concludes};
 ghost use Rattle.emit.specs.Emitted.{Answers};
 use gate::Finished;
 use gate::Written;
@@ -121,7 +121,7 @@ fn read_chunk(
     held: &mut [i64; 64],
 ) -> Scan
     requires { ⌜ length (now chunk) ≤ 65536 ⌝ }
-    requires { ⌜ Lent (arrays (now left) (now values) (now floors) (now ceilings) (now held)) ⌝ }
+    requires { ⌜ Arrays64 (arrays (now left) (now values) (now floors) (now ceilings) (now held)) ⌝ }
     ensures { λ r. ⌜ Scanned (modeOf mode) (now (chunk .entry)) (arrays (now (left .exit)) (now (values .exit)) (now (floors .exit)) (now (ceilings .exit)) (now (held .exit))) r ⌝ }
 {
     let mut t = Tally {
