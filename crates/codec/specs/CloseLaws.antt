@@ -127,10 +127,10 @@ module _ {M : Mode} {b : List ℕ} {k n : ℕ} {vs fs cs hs : List ℤ} (p : Fal
 module _ {M : Mode} {b : List ℕ} {k : ℕ} {A : Arrays} {c : Counts} (p : Sinks M b k A c) {d : ℕ} (ed : d ≡ min k (c .n)) where
   pub falls : Falls M b d (A .values) (A .floors) (A .ceilings) (A .held) (c .n)
   falls = record {
-    values = p .able .sound .values;
-    floors = p .able .sound .floors;
-    ceilings = p .able .sound .ceilings;
-    held = p .able .sound .held;
+    values = p .able .sound .whole .values;
+    floors = p .able .sound .whole .floors;
+    ceilings = p .able .sound .whole .ceilings;
+    held = p .able .sound .whole .held;
     few = p .able .sound .n≤;
     there = omega arith;
     bytes = omega (arith, p .bytes);
@@ -146,11 +146,7 @@ module _ {M : Mode} {b : List ℕ} {k : ℕ} {A : Arrays} {c : Counts} (p : Sink
     below-joins = record {
       able = record {
         sound = record {
-          left = p .able .sound .left;
-          values = p .able .sound .values;
-          floors = p .able .sound .floors;
-          ceilings = p .able .sound .ceilings;
-          held = p .able .sound .held;
+          whole = p .able .sound .whole;
           nl≤ = p .able .sound .nl≤;
           n≤ = omega (arith, p .able .sound .n≤);
         };

@@ -79,7 +79,7 @@ pub record Fresh (mid : Figures) (vs fs cs ns hs es ss : List ℤ) : Type 0 wher
 
 stands-none : (m : ℕ) {vs fs cs hs : List ℤ} {mid : ℤ} → length vs ≡ 64 → length fs ≡ 64 → length cs ≡ 64 → length hs ≡ 64 → mid ≡ none (modeOf m) → Stands [] 0 vs fs cs m hs mid
 stands-none m {vs} {fs} {cs} {hs} {mid} ev ef ec eh e =
-    emptied (modeOf m) (rising vs fs cs hs) mid (record { left = ev; values = ev; floors = ef; ceilings = ec; held = eh; nl≤ = omega arith; n≤ = omega arith }) e
+    emptied (modeOf m) (rising vs fs cs hs) mid (record { left = ev; values = ev; floors = ef; ceilings = ec; held = eh }) e
 
 pub begin : {log : List ℕ} {t : Tally} {mid : Figures} {vs fs cs ns hs es ss : List ℤ} → length log ≤ 65_536 → t .begun ≡ false → t .level ≡ 0 → noFault ≤ t .fault → Fresh mid vs fs cs ns hs es ss
     → Inv log log t mid vs fs cs ns hs es ss

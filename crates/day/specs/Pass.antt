@@ -75,7 +75,7 @@ is-close f e = rw (ne-eqb (f .kind) 1 e)
 free-left : {M : Mode} {ls ls′ vs fs cs hs : List ℤ} {n : ℕ} {mid : ℤ} {h : Hill (Fig M) Amounts} {b : ℕ} → length ls′ ≡ 64
     → StandsFor M (arrays ls vs fs cs hs) (counts 0 n mid) h b → StandsFor M (arrays ls′ vs fs cs hs) (counts 0 n mid) h b
 free-left e s = record {
-  sound = record { left = e; values = s .sound .values; floors = s .sound .floors; ceilings = s .sound .ceilings; held = s .sound .held; nl≤ = s .sound .nl≤; n≤ = s .sound .n≤ };
+  sound = record { whole = record { left = e; values = s .sound .whole .values; floors = s .sound .whole .floors; ceilings = s .sound .whole .ceilings; held = s .sound .whole .held }; nl≤ = s .sound .nl≤; n≤ = s .sound .n≤ };
   stored = record { left = λ i l. absurd (omega arith); mid = s .stored .mid; held = s .stored .held };
   is = s .is;
   fine = s .fine;
@@ -95,7 +95,7 @@ module _ (m : ℕ) (xs : List (Record Amounts)) where
   stands-open d r {vs} {fs} {cs} {hs} lt g a p s =
       let y = opening d r in
       let t = opened {M = modeOf m} {A = rising vs fs cs hs} a d r lt g refl refl refl p in
-      free-left (t .sound .values)
+      free-left (t .sound .whole .values)
       (restate (after-more s (λ h. step (modeOf m .algebra) h y) (modeOf m .sizes .unit) t) (limit * openedOf (xs ++ (y ∷ []))) (hill-more y) (omega (arith, opened-append xs (y ∷ []), modeOf m .unit-small)))
 
   pub stands-close : (d : ℕ) {vs fs cs hs : List ℤ} {mid : ℤ} {hs′ : List ℤ} {mid′ : ℤ} → Able (modeOf m) (rising vs fs cs hs) (counts 0 (suc d) mid) → ClosedTop (modeOf m) vs fs cs hs d mid hs′ mid′

@@ -49,7 +49,8 @@ pub struct HillHead {
     pub middle: Held,
 }
 
-// A summary is one of three cases: a chunk with no record, one with a fault, or a hill, whose slopes stay in the bytes.
+// A summary is one of three cases: a chunk with no record, one with a fault, or a hill, whose slopes stand beside it: in the bytes where it is read,
+// in arrays where it is written.
 pub enum Head {
     Blank,
     Spoilt(SpoiltHead),
@@ -293,7 +294,7 @@ fn is_hill(b: &[u8]) -> bool
 // ---- what the bytes say
 
 // A stored number, as what is held in a mode.
-fn held_in(mode: u16, x: i64) -> Held
+pub fn held_in(mode: u16, x: i64) -> Held
     ensures { λ r. ⌜ r ≡ heldIn mode x ⌝ }
 {
     match mode {

@@ -1,24 +1,15 @@
 -- What the functions of `merge` ask and leave. Definitions only.
 use mathlib.Core.Path.{_≡_}
 use Prim.Native.Nat.{ℕ, _*_}
-use lib.ListN.{length}
 use Rattle.figure.specs.Mode.{modeOf}
 use Rattle.hill.specs.Verdict.{pass}
 use Rattle.summary.specs.Layout.{SummaryIn}
 use Rattle.summary.specs.Accepted.{Accepted}
-use Rattle.slopes.specs.Arrays.{Arrays, StandsFor}
+use Rattle.slopes.specs.Arrays.{Arrays, Arrays64, StandsFor}
 use Rattle.join_plan.specs.Gate.{summaryFault}
 use Rattle.plan_work.specs.Runs.{slopesOf}
 use Rattle.merge.specs.declared.Merged.{Merged}
 use Rattle.merge.specs.Side.{SaysOf}
-
--- Five arrays of 64 numbers.
-pub record Arrays64 (A : Arrays) : Type 0 where
-  pub left : length (A .left) ≡ 64
-  pub values : length (A .values) ≡ 64
-  pub floors : length (A .floors) ≡ 64
-  pub ceilings : length (A .ceilings) ≡ 64
-  pub held : length (A .held) ≡ 64
 
 -- What was merged is the accepted summary s of mode m: the numbers in hand are its, and, where it has no fault, the arrays stand for its hill.
 pub record Kept (m : ℕ) (A : Arrays) (a : Merged) (s : SummaryIn m) : Type 0 where

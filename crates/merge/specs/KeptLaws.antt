@@ -9,9 +9,12 @@ use Rattle.algebra.specs.Algebra.{Algebra}
 use Rattle.figure.specs.FourModes.{Amounts}
 use Rattle.figure.specs.Mode.{modeOf}
 use Rattle.figure.specs.Stored.{none}
+use Rattle.figure.specs.declared.Held.{Held}
+use Rattle.judge.specs.declared.Head.the-variants.{Blank, Spoilt, Hill}
+use Rattle.judge.specs.Judged.{heldIn}
 use Rattle.hill.specs.Verdict.{Verdict, pass, refuse, low, between, count}
 use Rattle.hill.specs.VerdictLaws.{low-fst, low-snd, between-pass, refuse-pass}
-use Rattle.hill.specs.Summary.{Hill, Part, blank, part, spoilt, whole, rise, fall, start, end, opened, verdict, peak, slopes}
+use Rattle.hill.specs.Summary.{Hill as HillOf, Part, blank, part, spoilt, whole, rise, fall, start, end, opened, verdict, peak, slopes}
 use Rattle.hill.specs.Building.{merge, merge-empty, empty-merge}
 use Rattle.hill.specs.Merge.{mergeSummary}
 use Rattle.hill.specs.MergeLaws.{mergeHills-merge}
@@ -24,7 +27,7 @@ use Rattle.summary.specs.Values.{lefts-length}
 use Rattle.summary.specs.Accepted.{Accepted, IsSummaryIn, decoded}
 use Rattle.summary.specs.Outcomes.{mergeBytes}
 use Rattle.slopes.specs.declared.Counts.{Counts}
-use Rattle.slopes.specs.Arrays.{Arrays, arrays, Fig, slopesOf as hillOf, weightOf, Fine, StandsFor}
+use Rattle.slopes.specs.Arrays.{Arrays, arrays, Fig, slopesOf as hillOf, weightOf, Fine, Arrays64, StandsFor}
 use Rattle.slopes.specs.Laws.{counts, able, restate, rise-is, fall-is, emptied, unit-bound}
 use Rattle.codec.specs.Contracts.{Loads}
 use Rattle.join_plan.specs.Gate.{summaryFault, fault-parts}
@@ -35,9 +38,10 @@ use Rattle.merge.specs.declared.Numbers.{Numbers}
 use Rattle.merge.specs.declared.Side.{Side}
 use Rattle.merge.specs.declared.Side.the-variants as side
 use Rattle.merge.specs.declared.Merged.{Merged}
-use Rattle.merge.specs.Side.{SaysPart}
-use Rattle.emit.specs.Emitted.{Writable}
-use Rattle.merge.specs.Asks.{Arrays64, Kept}
+use Rattle.merge.specs.Side.{Says, SaysPart}
+use Rattle.emit.specs.Emitted.{Said}
+use Rattle.emit.specs.Laws.{spoiltHead, hillHead, hill-said}
+use Rattle.merge.specs.Asks.{Kept}
 use Rattle.merge.specs.SayLaws.{decode-blank, decode-spoilt, decode-hill}
 
 -- arrays that were never written
@@ -62,7 +66,7 @@ module _ (m : ℕ) where
   abbrev most : ℕ
   most = modeOf m .sizes .unit * 100000
 
-  abbrev new : List ℕ → Hill (Fig (modeOf m)) Amounts
+  abbrev new : List ℕ → HillOf (Fig (modeOf m)) Amounts
   new b = hillIn (modeOf m .read) b
 
   -- the fault that a summary shows is the one in hand
@@ -95,7 +99,7 @@ module _ (m : ℕ) where
     whole = h;
     accepted = tt;
     says = refl;
-    stands = λ v. restate (emptied (modeOf m) (arrays ls vs fs cs hs) z (record { left = h .left; values = h .values; floors = h .floors; ceilings = h .ceilings; held = h .held; nl≤ = omega arith; n≤ = omega arith }) e) most refl (omega arith);
+    stands = λ v. restate (emptied (modeOf m) (arrays ls vs fs cs hs) z h e) most refl (omega arith);
   }
 
   module _ {A : Arrays} {a : Merged} {s : SummaryIn m} (k : Kept m A a s) where
@@ -161,7 +165,7 @@ module _ (m : ℕ) where
                 mode-is = i .mode-is;
                 left-room = rooms .left;
                 right-room = rooms .right;
-                light = subst (λ (x : Hill (Fig (modeOf m)) Amounts). weightOf (modeOf m) x + weightOf (modeOf m) (new b) < 2 ^ 62) (sym (before .is)) (omega (arith, before .light));
+                light = subst (λ (x : HillOf (Fig (modeOf m)) Amounts). weightOf (modeOf m) x + weightOf (modeOf m) (new b) < 2 ^ 62) (sym (before .is)) (omega (arith, before .light));
               }
 
           pub kept-loaded : {A′ : Arrays} {c′ : Counts} → StandsFor (modeOf m) A′ c′ (merge 𝒜 (hillOf (modeOf m) A (a .counts)) (new b)) (weightOf (modeOf m) (hillOf (modeOf m) A (a .counts)) + weightOf (modeOf m) (new b)) →
@@ -170,16 +174,19 @@ module _ (m : ℕ) where
               let n : slopesOf 𝒜 (decode m b) ≡ (new b) = ap (slopesOf 𝒜) piece-is in
               let x : merge 𝒜 (hillOf (modeOf m) A (a .counts)) (new b) ≡ slopesOf 𝒜 (mergeSummary 𝒜 s (decode m b)) = ap₂ (merge 𝒜) (before .is) (sym n) ∙ sym (both-slopes s (decode m b) clear) in
               record {
-                whole = record { left = r .sound .left; values = r .sound .values; floors = r .sound .floors; ceilings = r .sound .ceilings; held = r .sound .held };
+                whole = r .sound .whole;
                 accepted = both-accepted;
                 says = g;
                 stands = λ v. record { sound = r .sound; stored = r .stored; is = r .is ∙ x; fine = subst (Fine (modeOf m)) x (r .fine); light = light (mergeSummary 𝒜 s (decode m b)) both-accepted };
               }
 
-    -- ---- writing it
+    -- ---- its head, by the three cases
 
-    pub spoilt-way : {p : Numbers} → SaysPart m p s → p .fault < noFault → encode m (part (spoilt (p .fault) (p .start) (p .end) (p .opened))) ≡ encode m s
-    spoilt-way {p} h e = ap (encode m) (go (h .said) (sym (found (p .fault) e) ∙ h .says .fault) (h .says .start) (h .says .end) (h .says .opened) ∙ sym (h .is))
+    pub says-blank : s ≡ blank → Said m Blank A s
+    says-blank e = record { writable = tt; is = sym e }
+
+    pub says-spoilt : {p : Numbers} → SaysPart m p s → p .fault < noFault → Said m (Spoilt (spoiltHead (p .fault) (p .start) (p .end) (p .opened))) A s
+    says-spoilt {p} h e = record { writable = tt; is = go (h .said) (sym (found (p .fault) e) ∙ h .says .fault) (h .says .start) (h .says .end) (h .says .opened) ∙ sym (h .is) }
       where
         go : (a : Part (𝒜 .Fig) Amounts) → refuse (p .fault) ≡ verdict a → p .start ≡ start a → p .end ≡ end a → p .opened ≡ opened a → part (spoilt (p .fault) (p .start) (p .end) (p .opened)) ≡ part a
         go (spoilt f b e o) v x y z = let w : p .fault ≡ f = cc in rw (w, x, y, z)
@@ -189,21 +196,19 @@ module _ (m : ℕ) where
       no-fault : summaryFault 𝒜 s ≡ pass
       no-fault = clear-is (sym (said-fault h)) e
 
-      pub hill-way : encode m (part (whole (p .peak) (p .opened) (hillOf (modeOf m) A (a .counts)))) ≡ encode m s
-      hill-way = ap (encode m) (go (h .said) (clear-is (h .says .fault) e) (h .says .peak) (h .says .opened) (k .stands no-fault .is ∙ ap (slopesOf 𝒜) (h .is)) ∙ sym (h .is))
-        where
-          go : (t : Part (𝒜 .Fig) Amounts) → verdict t ≡ pass → (verdict t ≡ pass → p .peak ≡ peak 𝒜 t) → p .opened ≡ opened t → hillOf (modeOf m) A (a .counts) ≡ slopes 𝒜 t → part (whole (p .peak) (p .opened) (hillOf (modeOf m) A (a .counts))) ≡ part t
-          go (spoilt f b e o) v x y z = absurd (refuse-pass v)
-          go (whole q o u) v x y z = rw (x v, y, z)
+      stands : StandsFor (modeOf m) A (a .counts) (slopes 𝒜 (h .said)) most
+      stands = restate (k .stands no-fault) most (ap (slopesOf 𝒜) (h .is)) (omega arith)
 
-      pub kept-writable : Writable (modeOf m) A (a .counts) (p .peak)
-      kept-writable =
-          let st = k .stands no-fault in
-          record { sound = st .sound; stored = st .stored; level = go (h .said) (subst (Accepted m) (h .is) (k .accepted)) (clear-is (h .says .fault) e) (h .says .peak) }
+      pub says-hill : {middle : Held} → middle ≡ heldIn m (a .counts .mid) → Said m (Hill (hillHead (p .start) (p .peak) (p .end) (p .opened) middle)) A s
+      says-hill {middle} em = go (h .said) (h .is) (clear-is (h .says .fault) e) (h .says) (subst (Accepted m) (h .is) (k .accepted)) stands
         where
-          go : (t : Part (𝒜 .Fig) Amounts) → Accepted m (part t) → verdict t ≡ pass → (verdict t ≡ pass → p .peak ≡ peak 𝒜 t) → p .peak ≤ 64
-          go (spoilt f b e o) w v x = absurd (refuse-pass v)
-          go (whole q o u) w v x = omega (arith, w .start-high, x v)
+          go : (t : Part (𝒜 .Fig) Amounts) → s ≡ part t → verdict t ≡ pass → Says m p t → Accepted m (part t) → StandsFor (modeOf m) A (a .counts) (slopes 𝒜 t) most
+              → Said m (Hill (hillHead (p .start) (p .peak) (p .end) (p .opened) middle)) A s
+          go (spoilt f b e o) i v w c st = absurd (refuse-pass v)
+          go (whole q o u) i v w c st =
+              let peak-is : p .peak ≡ q = w .peak v in
+              hill-said m (hillHead (p .start) (p .peak) (p .end) (p .opened) middle) {c = a .counts} (omega (arith, w .start, rise-is st)) (omega (arith, w .end, fall-is st)) em
+              (st .sound) (st .stored) (omega (arith, c .start-high)) (rw (peak-is, w .opened, st .is) (sym i))
 
   -- ---- two pieces, as bytes
 

@@ -16,17 +16,19 @@ ghost use Rattle.summary.specs.Layout.{SummaryIn, encode};
 ghost use Rattle.summary.specs.Decode.{decode};
 ghost use Rattle.summary.specs.Accepted.{IsSummaryIn};
 ghost use Rattle.summary.specs.Outcomes.{mergeBytes, mergeOutcome};
-ghost use Rattle.slopes.specs.Arrays.{arrays};
-ghost use Rattle.emit.specs.Emitted.{Answers};
+ghost use Rattle.slopes.specs.Arrays.{Arrays, arrays, Arrays64};
+ghost use Rattle.emit.specs.Emitted.{Said, Answers};
 ghost use Rattle.outcome.specs.Outcomes.{modeOfAll, mergeRowOutcome};
 ghost use Rattle.outcome.specs.Answers.{modeAnswer};
 ghost use Rattle.fault.specs.Fault.{verdictOf};
 ghost use Rattle.merge.specs.Side.{SaysPart, SaysOf, FewOpened};
-ghost use Rattle.merge.specs.Asks.{Arrays64, Kept, Keeps};
+ghost use Rattle.merge.specs.Asks.{Kept, Keeps};
 ghost use Rattle.merge.specs.RowAsks.{Front, Row, Room, rowSummary, rowMerged};
 use gate::Written;
 use judge::Head;
+use judge::HillHead;
 use judge::Judged;
+use judge::SpoiltHead;
 use outcome::OneMode;
 use slopes::Counts;
 
@@ -158,6 +160,34 @@ fn add_piece(
     }
 }
 
+// The case of what was merged: blank, spoilt where there is a fault, else a hill.
+fn merged_head(mode: u16, a: Merged) -> Head
+    ensures { λ r. ⌜ ((A : Arrays) (s : SummaryIn mode) → Kept mode A a s → Said mode r A s) ⌝ }
+{
+    let said = a.side;
+    let c = a.counts;
+    let Side::Part(p) = said else {
+        return Head::Blank;
+    };
+    let fault = p.fault;
+    if fault < fault::NONE {
+        return Head::Spoilt(SpoiltHead {
+            fault: fault as u16,
+            start: p.start,
+            end: p.end,
+            opened: p.opened,
+        });
+    }
+    let middle = judge::held_in(mode, c.mid);
+    Head::Hill(HillHead {
+        start: p.start,
+        peak: p.peak,
+        end: p.end,
+        opened: p.opened,
+        middle,
+    })
+}
+
 // The summary that was merged. Question 12 is asked here, before any byte is written.
 fn put_merged(
     mode: u16,
@@ -173,27 +203,8 @@ fn put_merged(
     ensures { λ r. ⌜ ((s : SummaryIn mode) → Kept mode (arrays (now (left .entry)) (now (values .entry)) (now (floors .entry)) (now (ceilings .entry)) (now (held .entry))) a s
         → Answers (written (length (now (out .entry))) (encode mode s)) (now (out .entry)) (now (out .exit)) r) ⌝ }
 {
-    let said = a.side;
-    let c = a.counts;
-    let Side::Part(p) = said else {
-        return emit::put_blank(mode, out);
-    };
-    let fault = p.fault;
-    if fault < fault::NONE {
-        return emit::put_spoilt(mode, fault as u16, p.start, p.end, p.opened, out);
-    }
-    emit::put_hill(
-        mode,
-        p.peak,
-        p.opened,
-        left,
-        values,
-        floors,
-        ceilings,
-        held,
-        c,
-        out,
-    )
+    let head = merged_head(mode, a);
+    emit::put(mode, head, left, values, floors, ceilings, held, out)
 }
 
 // Nothing merged yet.

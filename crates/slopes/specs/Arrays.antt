@@ -55,13 +55,17 @@ module _ (M : Mode) where
   abbrev pub Fine : Hill Fig Amounts → Type 0
   Fine = FineHill (M .algebra) (M .sizes)
 
--- The arrays are whole, and the counts within them.
-pub record Sound (A : Arrays) (c : Counts) : Type 0 where
+-- Five arrays of 64 numbers.
+pub record Arrays64 (A : Arrays) : Type 0 where
   pub left : length (A .left) ≡ 64
   pub values : length (A .values) ≡ 64
   pub floors : length (A .floors) ≡ 64
   pub ceilings : length (A .ceilings) ≡ 64
   pub held : length (A .held) ≡ 64
+
+-- The arrays are whole, and the counts within them.
+pub record Sound (A : Arrays) (c : Counts) : Type 0 where
+  pub whole : Arrays64 A
   pub nl≤ : c .nl ≤ 64
   pub n≤ : c .n ≤ 64
 

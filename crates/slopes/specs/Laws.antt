@@ -16,7 +16,7 @@ use Rattle.figure.specs.FourModes.{Amounts, limit, InRange}
 use Rattle.figure.specs.Mode.{Mode}
 use Rattle.figure.specs.Stored.{IsStored, sizeOf, none, combined, passed, amounts, Passes, none-read, none-size, none-stored, combined-read, combined-stored, passed-read, passed-size, passed-stored, passes}
 use Rattle.slopes.specs.declared.Counts.{Counts}
-use Rattle.slopes.specs.Arrays.{Arrays, arrays, at, amountsAt, Fig, ups, downs, slopesOf, weightOf, Fine, Sound, Stored, Able, StandsFor}
+use Rattle.slopes.specs.Arrays.{Arrays, arrays, at, amountsAt, Fig, ups, downs, slopesOf, weightOf, Fine, Arrays64, Stored, Able, StandsFor}
 use Rattle.slopes.specs.Actions.{Pushed, current, Adds, midAfter, heldAfter, Added, Top, ClosedTop, CanClose, Joins}
 
 abbrev pub counts : (nl n : ℕ) (mid : ℤ) → Counts
@@ -124,7 +124,7 @@ module _ {M : Mode} {A : Arrays} {c : Counts} {x : ℤ} (j : Joins M A c x) wher
   -- what `add` asks
   pub adds : Adds M (A .held) (c .n) (c .mid) x
   adds = record {
-    whole = j .able .sound .held;
+    whole = j .able .sound .whole .held;
     few = j .able .sound .n≤;
     fits = record { first = current-stored M A (c .nl) (c .n) (c .mid) (j .able .stored); second = j .stored; room = join-room };
   }
@@ -134,14 +134,16 @@ module _ {M : Mode} {A : Arrays} {c : Counts} {x : ℤ} (j : Joins M A c x) wher
       → StandsFor M (withHeld A hs′) (counts (c .nl) (c .n) mid′) (join (M .algebra) (M .read x) (slopesOf M A c)) (weightOf M (slopesOf M A c) + sizeOf M x)
   unfolding sizeOf
   joined {hs′} {mid′} a =
-      let le : c .n ≤ length (A .held) = omega (arith, j .able .sound .held, j .able .sound .n≤) in
+      let le : c .n ≤ length (A .held) = omega (arith, j .able .sound .whole .held, j .able .sound .n≤) in
       rw (a .held, a .middle) record {
         sound = record {
-          left = j .able .sound .left;
-          values = j .able .sound .values;
-          floors = j .able .sound .floors;
-          ceilings = j .able .sound .ceilings;
-          held = joined-length M A (c .n) x ∙ j .able .sound .held;
+          whole = record {
+            left = j .able .sound .whole .left;
+            values = j .able .sound .whole .values;
+            floors = j .able .sound .whole .floors;
+            ceilings = j .able .sound .whole .ceilings;
+            held = joined-length M A (c .n) x ∙ j .able .sound .whole .held;
+          };
           nl≤ = j .able .sound .nl≤;
           n≤ = j .able .sound .n≤;
         };
@@ -162,15 +164,17 @@ module _ {M : Mode} {A : Arrays} {c : Counts} (a : Able M A c) where
       → StandsFor M (withLeft A (set (A .left) (c .nl) mid′)) (counts nl′ (c .n) z) (close (M .algebra) (slopesOf M A c)) (weightOf M (slopesOf M A c))
   unfolding sizeOf
   close-left {nl′} {mid′} {z} e lt en em ez =
-      let room : c .nl < length (A .left) = omega (arith, a .sound .left) in
+      let room : c .nl < length (A .left) = omega (arith, a .sound .whole .left) in
       let fits : c .nl < 64 = omega arith in
       rw (en, em, ez, e) record {
         sound = record {
-          left = length-set (A .left) (c .nl) (c .mid) ∙ a .sound .left;
-          values = a .sound .values;
-          floors = a .sound .floors;
-          ceilings = a .sound .ceilings;
-          held = a .sound .held;
+          whole = record {
+            left = length-set (A .left) (c .nl) (c .mid) ∙ a .sound .whole .left;
+            values = a .sound .whole .values;
+            floors = a .sound .whole .floors;
+            ceilings = a .sound .whole .ceilings;
+            held = a .sound .whole .held;
+          };
           nl≤ = fits;
           n≤ = omega arith;
         };
@@ -202,11 +206,7 @@ module _ {M : Mode} {A : Arrays} {c : Counts} (a : Able M A c) where
     top-joins ef = rw ef record {
       able = record {
         sound = record {
-          left = a .sound .left;
-          values = a .sound .values;
-          floors = a .sound .floors;
-          ceilings = a .sound .ceilings;
-          held = a .sound .held;
+          whole = a .sound .whole;
           nl≤ = a .sound .nl≤;
           n≤ = omega (arith, a .sound .n≤);
         };
@@ -243,20 +243,22 @@ module _ {M : Mode} {A : Arrays} {c : Counts} (a : Able M A c) where
   pushed r h lt g s en em p =
       rw (en, em, p .values, p .floors, p .ceilings, p .held) record {
         sound = record {
-          left = a .sound .left;
-          values = length-set (A .values) (c .n) (r .value) ∙ a .sound .values;
-          floors = length-set (A .floors) (c .n) (r .floor) ∙ a .sound .floors;
-          ceilings = length-set (A .ceilings) (c .n) (r .ceiling) ∙ a .sound .ceilings;
-          held = length-set (A .held) (c .n) h ∙ a .sound .held;
+          whole = record {
+            left = a .sound .whole .left;
+            values = length-set (A .values) (c .n) (r .value) ∙ a .sound .whole .values;
+            floors = length-set (A .floors) (c .n) (r .floor) ∙ a .sound .whole .floors;
+            ceilings = length-set (A .ceilings) (c .n) (r .ceiling) ∙ a .sound .whole .ceilings;
+            held = length-set (A .held) (c .n) h ∙ a .sound .whole .held;
+          };
           nl≤ = a .sound .nl≤;
           n≤ = lt;
         };
-        stored = record { left = a .stored .left; mid = a .stored .mid; held = all-stored M (A .held) (c .n) h (omega (arith, a .sound .held)) (a .stored .held) s };
+        stored = record { left = a .stored .left; mid = a .stored .mid; held = all-stored M (A .held) (c .n) h (omega (arith, a .sound .whole .held)) (a .stored .held) s };
         is = simp (
-          getD-set-same (A .values) (c .n) (r .value) (pos 0) (omega (arith, a .sound .values)),
-          getD-set-same (A .floors) (c .n) (r .floor) (pos 0) (omega (arith, a .sound .floors)),
-          getD-set-same (A .ceilings) (c .n) (r .ceiling) (pos 0) (omega (arith, a .sound .ceilings)),
-          getD-set-same (A .held) (c .n) h (pos 0) (omega (arith, a .sound .held)),
+          getD-set-same (A .values) (c .n) (r .value) (pos 0) (omega (arith, a .sound .whole .values)),
+          getD-set-same (A .floors) (c .n) (r .floor) (pos 0) (omega (arith, a .sound .whole .floors)),
+          getD-set-same (A .ceilings) (c .n) (r .ceiling) (pos 0) (omega (arith, a .sound .whole .ceilings)),
+          getD-set-same (A .held) (c .n) h (pos 0) (omega (arith, a .sound .whole .held)),
           downs-same M (set (A .values) (c .n) (r .value)) (set (A .floors) (c .n) (r .floor)) (set (A .ceilings) (c .n) (r .ceiling)) (set (A .held) (c .n) h)
               (A .values) (A .floors) (A .ceilings) (A .held) (c .n)
               (stored-at (A .values) (c .n) (r .value)) (stored-at (A .floors) (c .n) (r .floor)) (stored-at (A .ceilings) (c .n) (r .ceiling)) (stored-at (A .held) (c .n) h),
@@ -288,10 +290,10 @@ module _ {M : Mode} {A : Arrays} {c : Counts} {h : Hill (Fig M) Amounts} {b : �
 
 -- ---- no record yet
 
-pub emptied : (M : Mode) (A : Arrays) (z : ℤ) → Sound A (counts 0 0 z) → z ≡ none M → StandsFor M A (counts 0 0 z) (empty (M .algebra)) 0
+pub emptied : (M : Mode) (A : Arrays) (z : ℤ) → Arrays64 A → z ≡ none M → StandsFor M A (counts 0 0 z) (empty (M .algebra)) 0
 unfolding sizeOf
 emptied M A z s e = rw e record {
-  sound = record { left = s .left; values = s .values; floors = s .floors; ceilings = s .ceilings; held = s .held; nl≤ = s .nl≤; n≤ = s .n≤ };
+  sound = record { whole = s; nl≤ = omega arith; n≤ = omega arith };
   stored = record { left = λ i l. absurd (omega arith); mid = none-stored M; held = λ i l. absurd (omega arith) };
   is = ap (λ m. hill [] m []) (none-read M);
   fine = tt;

@@ -27,7 +27,7 @@ use Rattle.figure.specs.Mode.{Mode}
 use Rattle.figure.specs.Stored.{amounts, none}
 use Rattle.fault.specs.Fault.{noFault}
 use Rattle.slopes.specs.declared.Counts.{Counts}
-use Rattle.slopes.specs.Arrays.{Arrays, Fig, StandsFor}
+use Rattle.slopes.specs.Arrays.{Arrays, Fig, Arrays64, StandsFor}
 use Rattle.slopes.specs.Actions.{Room, entry, cost}
 use Rattle.slopes.specs.Laws.{counts, able, restate, rise-is, fall-is, after-more, emptied, unit-bound}
 use Rattle.summary.specs.Values.{tells-range}
@@ -36,7 +36,7 @@ use Rattle.summary.specs.OutcomeLaws.{chunk-append}
 use Rattle.summarise.specs.declared.Tally.{Tally}
 use Rattle.summarise.specs.Tallies.{Fresh, Tallied}
 use Rattle.summarise.specs.TallyLaws.{opened-is, met, faultless, joints-pass}
-use Rattle.summarise.specs.Scans.{Grows, Grown, Lent, Summed}
+use Rattle.summarise.specs.Scans.{Grows, Grown, Summed}
 
 -- ---- a record that was read
 
@@ -120,7 +120,7 @@ module _ (M : Mode) where
     pub handed : Handed s rest done
     pub summed : Summed M A c t (chunkOf done)
 
-  pub begin : (s : List ℕ) (A : Arrays) (z : ℤ) (t : Tally) → Lent A → z ≡ none M → Fresh t → Inv s s A (counts 0 0 z) t
+  pub begin : (s : List ℕ) (A : Arrays) (z : ℤ) (t : Tally) → Arrays64 A → z ≡ none M → Fresh t → Inv s s A (counts 0 0 z) t
   begin s A z t l e f = record {
     done = [];
     handed = handed.start s;
@@ -128,7 +128,7 @@ module _ (M : Mode) where
       readable = tt;
       few = omega arith;
       tallied = f;
-      hill = λ _. restate (emptied M A z (record { left = l .left; values = l .values; floors = l .floors; ceilings = l .ceilings; held = l .held; nl≤ = omega arith; n≤ = omega arith }) e)
+      hill = λ _. restate (emptied M A z l e)
           (M .sizes .unit * 0) refl (omega arith);
     };
   }

@@ -3,7 +3,6 @@ use mathlib.Core.Path.{_≡_}
 use mathlib.Core.List.{List}
 use Prim.Native.Nat.{ℕ, _+_, _*_, _≤_}
 use lib.Dec.{eqb}
-use lib.ListN.{length}
 use Rattle.gate.specs.Outcome.{refused, result}
 use Rattle.record.specs.Record.{recordsOf}
 use Rattle.record.specs.declared.Fields.{Fields}
@@ -32,14 +31,6 @@ pub record Grows (M : Mode) (fault : ℕ) (f : Fields) (A : Arrays) (c : Counts)
 abbrev pub Grown : Mode → ℕ → Fields → Arrays → Counts → Arrays → Counts → Type 0
 Grown M fault f A c A′ c′ =
     noFault ≤ fault → StandsFor M A′ c′ (step (M .algebra) (slopesOf M A c) (recordOf f)) (weightOf M (slopesOf M A c) + cost M (eqb (f .kind) 1))
-
--- The arrays are whole.
-pub record Lent (A : Arrays) : Type 0 where
-  pub left : length (A .left) ≡ 64
-  pub values : length (A .values) ≡ 64
-  pub floors : length (A .floors) ≡ 64
-  pub ceilings : length (A .ceilings) ≡ 64
-  pub held : length (A .held) ≡ 64
 
 -- What is known of the records xs: t tells of them, and where there is no fault the arrays stand for their hill.
 pub record Summed (M : Mode) (A : Arrays) (c : Counts) (t : Tally) (xs : List (Record Amounts)) : Type 0 where

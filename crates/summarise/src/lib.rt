@@ -5,6 +5,7 @@ ghost use Prim.Native.Nat.{ℕ, _≤_};
 ghost use lib.ListN.{length};
 ghost use Rattle.hill.specs.Log.{Record, startLevel, endLevel, opens as openedBy};
 ghost use Rattle.hill.specs.Verdict.{ends};
+ghost use Rattle.hill.specs.Summary.{summaryOf};
 ghost use Rattle.hill.specs.Finish.{outcome};
 ghost use Rattle.figure.specs.FourModes.{Amounts, storeHeld};
 ghost use Rattle.figure.specs.Mode.{modeOf};
@@ -13,21 +14,22 @@ ghost use Rattle.slopes.specs.Actions.{entry};
 ghost use Rattle.gate.specs.Outcome.{bufferAfter, written};
 ghost use Rattle.gate.specs.Answers.{writtenAnswer, lengthAnswered, finishedAnswer};
 ghost use Rattle.summary.specs.Outcomes.{summariseOutcome, summaryBytes, finishOutcome};
-ghost use Rattle.slopes.specs.Arrays.{arrays};
+ghost use Rattle.slopes.specs.Arrays.{Arrays, arrays, Arrays64};
 ghost use Rattle.summarise.specs.Tallies.{Tallied};
-ghost use Rattle.summarise.specs.Scans.{Grows, Grown, Lent, Summed, Scanned, Concludes};
-ghost use Rattle.emit.specs.Emitted.{Answers};
+ghost use Rattle.summarise.specs.Scans.{Grows, Grown, Summed, Scanned, Concludes};
+ghost use Rattle.emit.specs.Emitted.{Said, Answers};
 use gate::Finished;
 use gate::Written;
 use judge::Head;
 use judge::HillHead;
 use judge::Judged;
+use judge::SpoiltHead;
 use record::Fields;
 use record::Read;
 use slopes::Counts;
 
 // What a pass over records keeps beside their hill: whether there was one, the start level, the level reached, the lowest of faults 7 and 8, and the
-// opened records. `begun` and `fault` stand for the case of the summary: a blank before the first record, spoilt once there is a fault, else a hill.
+// opened records. The case of the summary is settled by the last record, in `chunk_head`.
 struct Tally {
     begun: bool,
     start: u16,
@@ -121,7 +123,7 @@ fn read_chunk(
     held: &mut [i64; 64],
 ) -> Scan
     requires { ⌜ length (now chunk) ≤ 65536 ⌝ }
-    requires { ⌜ Lent (arrays (now left) (now values) (now floors) (now ceilings) (now held)) ⌝ }
+    requires { ⌜ Arrays64 (arrays (now left) (now values) (now floors) (now ceilings) (now held)) ⌝ }
     ensures { λ r. ⌜ Scanned (modeOf mode) (now (chunk .entry)) (arrays (now (left .exit)) (now (values .exit)) (now (floors .exit)) (now (ceilings .exit)) (now (held .exit))) r ⌝ }
 {
     let mut t = Tally {
@@ -149,7 +151,34 @@ fn read_chunk(
     Scan::Done(t, c)
 }
 
-// Blank where no record was read, spoilt where there is a fault, else the hill: its peak is as many levels below the start as it has left values.
+// The case of the summary: blank where no record was read, spoilt where there is a fault, else a hill, whose peak is as many levels below the start
+// as it has left values.
+fn chunk_head(mode: u16, t: Tally, c: Counts) -> Head
+    requires { ⌜ ((A : Arrays) × Concludes (modeOf mode) A c t) ⌝ }
+    ensures { λ r. ⌜ ((A : Arrays) (xs : List (Record Amounts)) → Summed (modeOf mode) A c t xs → Said mode r A (summaryOf (modeOf mode .algebra) xs)) ⌝ }
+{
+    if !t.begun {
+        return Head::Blank;
+    }
+    if t.fault < fault::NONE {
+        return Head::Spoilt(SpoiltHead {
+            fault: t.fault as u16,
+            start: t.start,
+            end: t.level,
+            opened: t.opened,
+        });
+    }
+    let middle = judge::held_in(mode, c.mid);
+    Head::Hill(HillHead {
+        start: t.start,
+        peak: t.start - (c.nl as u16),
+        end: t.level,
+        opened: t.opened,
+        middle,
+    })
+}
+
+// What was read of the chunk is written as its summary.
 fn conclude(
     mode: u16,
     t: Tally,
@@ -165,25 +194,8 @@ fn conclude(
     ensures { λ r. ⌜ ((xs : List (Record Amounts)) → Summed (modeOf mode) (arrays (now (left .entry)) (now (values .entry)) (now (floors .entry)) (now (ceilings .entry)) (now (held .entry))) c t xs
         → Answers (written (length (now (out .entry))) (summaryBytes mode xs)) (now (out .entry)) (now (out .exit)) r) ⌝ }
 {
-    if !t.begun {
-        return emit::put_blank(mode, out);
-    }
-    if t.fault < fault::NONE {
-        return emit::put_spoilt(mode, t.fault as u16, t.start, t.level, t.opened, out);
-    }
-    let peak = t.start - (c.nl as u16);
-    emit::put_hill(
-        mode,
-        peak,
-        t.opened,
-        left,
-        values,
-        floors,
-        ceilings,
-        held,
-        c,
-        out,
-    )
+    let head = chunk_head(mode, t, c);
+    emit::put(mode, head, left, values, floors, ceilings, held, out)
 }
 
 // The summary of a chunk in a mode, written into `out`.

@@ -1,25 +1,20 @@
 -- `emit::put_spoilt` meets its contract: 16 bytes, where they fit. Assumes nothing.
+use Rattle.emit.specs.Emitted.{spoiltSaid}
 use Rattle.emit.specs.Laws.{answer-short, answer-wrote, spoilt-length}
 use Rattle.summary.specs.Layout.{encode}
-use Rattle.hill.specs.Summary.{part, spoilt}
 use Prim.Native.Nat.{ℕ}
 use mathlib.Core.List.{List}
 use denote.Ref.{now}
-use lib.ListN.{length}
-use mathlib.Core.Path.{_≡_}
 use native.Mathlib.Omega.{arith}
 use borrow.Author.Needs.{needs}
 use Rattle.emit.proofs.put_spoilt.Statement.{statement}
 use Rattle.emit.proofs.put_spoilt.Tie as tie
 
 abbrev bytes : tie.Start → List ℕ
-bytes a = encode (a .args .mode) (part (spoilt (a .args .fault) (a .args .start) (a .args .end) (a .args .opened)))
-
-sixteen : (a : tie.Start) → length (bytes a) ≡ 16
-sixteen a = spoilt-length (a .args .mode) (a .args .fault) (a .args .start) (a .args .end) (a .args .opened)
+bytes a = encode (a .args .mode) (spoiltSaid (a .args .mode) (a .args .s))
 
 returns : tie.Need-returns
-returns c = let a = c .before .before in answer-short (bytes a) (now (a .args .out)) (omega (arith, sixteen a))
+returns c = let a = c .before .before in answer-short (bytes a) (now (a .args .out)) (omega (arith, spoilt-length (a .args .mode) (a .args .s)))
 
 write-spoilt-requires : tie.Need-write-spoilt-requires
 write-spoilt-requires c κs = search needs
@@ -28,7 +23,7 @@ same-length : tie.Need-same-length
 same-length c = search needs
 
 returns-2 : tie.Need-returns-2
-returns-2 c = let a = c .before .before .before .before .before .before in answer-wrote (bytes a) (now (a .args .out)) (omega (arith, sixteen a)) (c .before .before .write-spoilt .ensures)
+returns-2 c = let a = c .before .before .before .before .before .before in answer-wrote (bytes a) (now (a .args .out)) (omega (arith, spoilt-length (a .args .mode) (a .args .s))) (c .before .before .write-spoilt .ensures)
 
 pub put-spoilt-spec : {M : Type 1} → statement M
 put-spoilt-spec = tie.close (tie.spec returns write-spoilt-requires same-length returns-2)

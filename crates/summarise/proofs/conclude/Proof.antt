@@ -1,73 +1,31 @@
--- `summarise::conclude` meets its contract. Assumes nothing.
+-- `summarise::conclude` meets its contract: what the head and the arrays say is the chunk's summary. Assumes nothing.
 use borrow.Author.Needs.{needs}
-use mathlib.Core.Path.{refl}
-use native.Mathlib.Omega.{arith}
+use mathlib.Core.Path.{ap, _∙_}
+use denote.Ref.{now}
+use Rattle.summary.specs.Layout.{encode}
+use Rattle.slopes.specs.Arrays.{Arrays, arrays}
 use Rattle.emit.specs.Laws.{answer-same}
-use Rattle.summarise.specs.AnsweredLaws.{blank-is, spoilt-is, rises, writable, hill-is}
+use Rattle.summarise.specs.AnsweredLaws.{bytes-are}
 use Rattle.summarise.proofs.conclude.Statement.{statement}
 use Rattle.summarise.proofs.conclude.Tie as tie
 
-put-blank-requires : tie.Need-put-blank-requires
-put-blank-requires c κs = search needs
+abbrev these : tie.Start → Arrays
+these a = arrays (now (a .args .left)) (now (a .args .values)) (now (a .args .floors)) (now (a .args .ceilings)) (now (a .args .held))
+
+chunk-head-requires : tie.Need-chunk-head-requires
+chunk-head-requires c κs = search needs
+
+put-requires : tie.Need-put-requires
+put-requires c κs = let a = c .before .before .before in c .before .chunk-head .ensures (these a) (a .pre .0) (a .pre .1) .writable
 
 same-length : tie.Need-same-length
 same-length c = search needs
 
 returns : tie.Need-returns
 returns c xs s =
-    let a = c .before .before .before .before .before .before .before .args in
-    answer-same (blank-is (a .mode) (a .t) xs (c .before .before .before .before .if1 .taken) (s .tallied)) (c .before .before .put-blank .ensures)
-
-cast-put-spoilt : tie.Need-cast-put-spoilt
-cast-put-spoilt c = search needs
-
-put-spoilt-requires : tie.Need-put-spoilt-requires
-put-spoilt-requires c κs = search needs
-
-same-length-2 : tie.Need-same-length-2
-same-length-2 c = search needs
-
-returns-2 : tie.Need-returns-2
-returns-2 c xs s =
-    let a = c .before .before .before .before .before .before .before .before .before .before .args in
-    answer-same (spoilt-is (a .mode) (a .t) (c .before .before .before .before .before .before .before .if1 .left) xs (c .before .before .before .before .before .if2 .taken) s) (c .before .before .put-spoilt .ensures)
-
-cast-peak : tie.Need-cast-peak
-cast-peak c =
-    let s = c .before .before .before .before .before .before in
-    omega (arith, s .pre .1 .hill (c .before .if2 .left) .sound)
-
-sub-peak : tie.Need-sub-peak
-sub-peak c =
-    let s = c .before .before .before .before .before .before .before in
-    rises (s .args .mode) (s .args .t) (c .before .before .before .before .if1 .left) (c .before .before .if2 .left) (s .pre .0) (s .pre .1) .0
-
-put-hill-requires : tie.Need-put-hill-requires
-put-hill-requires c κs =
-    let s = c .before .before .before .before .before .before .before .before in
-    writable (s .args .mode) (s .args .t) (c .before .before .before .before .before .if1 .left) (c .before .before .before .if2 .left) (s .pre .0) _ refl (s .pre .1)
-
-same-length-3 : tie.Need-same-length-3
-same-length-3 c = search needs
-
-returns-3 : tie.Need-returns-3
-returns-3 c xs s =
-    let a = c .before .before .before .before .before .before .before .before .before .before .before .args in
-    answer-same (hill-is (a .mode) (a .t) (c .before .before .before .before .before .before .before .before .if1 .left) (c .before .before .before .before .before .before .if2 .left) xs _ refl s) (c .before .before .put-hill .ensures)
+    let a = c .before .before .before .before .before .before in
+    let h = c .before .before .before .before .chunk-head .ensures (these a) xs s in
+    answer-same (ap (encode (a .args .mode)) (h .is) ∙ bytes-are (a .args .mode) xs) (c .before .before .put .ensures)
 
 pub conclude-spec : {M : Type 1} → statement M
-conclude-spec =
-    tie.close
-    (tie.spec
-    put-blank-requires
-    same-length
-    returns
-    cast-put-spoilt
-    put-spoilt-requires
-    same-length-2
-    returns-2
-    cast-peak
-    sub-peak
-    put-hill-requires
-    same-length-3
-    returns-3)
+conclude-spec = tie.close (tie.spec chunk-head-requires put-requires same-length returns)
