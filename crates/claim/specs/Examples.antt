@@ -13,7 +13,7 @@ use Rattle.record.specs.Record.{within, inRange, accepted, whole, byShape, read
 use Rattle.record.specs.Examples.{logD}
 use Rattle.figure.specs.FourModes.{isStamp}
 use Rattle.figure.specs.Mode.{modeOf, modeInUse}
-use Rattle.hill.specs.Verdict.{between, count, cut}
+use Rattle.hill.specs.Verdict.{joint, count, cut}
 use Rattle.hill.specs.Row.{Call, Proper}
 use Rattle.summary.specs.Layout.{encode}
 use Rattle.summary.specs.Judge.{sumTo, nothingIn, counted}
@@ -41,11 +41,11 @@ abbrev merges : List (Call Lent)
 merges = record { place = 0; many = 2; lent = toMerge (zeros 23) } ∷ record { place = 0; many = 2; lent = toMergeRow (zeros 24) } ∷ []
 
 left-is : IsChunk 1 left
-unfolding leAt bytesOf within inRange accepted whole byShape readOf recordsIn recordsOf modeOf between count cut encode summaryBytes recordsRead stretchBytes
+unfolding leAt bytesOf within inRange accepted whole byShape readOf recordsIn recordsOf modeOf joint count cut encode summaryBytes recordsRead stretchBytes
 left-is = record { short = lit≤ tt; readable = (_, refl); long-enough = lit≤ tt }
 
 right-is : IsChunk 1 right
-unfolding leAt bytesOf within inRange accepted whole byShape readOf recordsIn recordsOf modeOf between count cut encode summaryBytes recordsRead stretchBytes
+unfolding leAt bytesOf within inRange accepted whole byShape readOf recordsIn recordsOf modeOf joint count cut encode summaryBytes recordsRead stretchBytes
 right-is = record { short = lit≤ tt; readable = (_, refl); long-enough = lit≤ tt }
 
 is-cut : IsCut 1 cutD
@@ -59,7 +59,7 @@ is-cut = record {
 }
 
 are-neighbours : Proper byCalls Neighbours merges (firstRow 1 cutD)
-unfolding leAt bytesOf within inRange accepted whole byShape readOf recordsIn recordsOf modeInUse modeOf between count cut encode decode sumTo nothingIn counted isStamp allTo layoutFits spoiltFits levelsFit openedFits middleFits recordsFit valuesFit hillFits isSummary summaryBytes mergeBytes summariseOutcome mergeOutcome
+unfolding leAt bytesOf within inRange accepted whole byShape readOf recordsIn recordsOf modeInUse modeOf joint count cut encode decode sumTo nothingIn counted isStamp allTo layoutFits spoiltFits levelsFit openedFits middleFits recordsFit valuesFit hillFits isSummary summaryBytes mergeBytes summariseOutcome mergeOutcome
 are-neighbours = (record { enough = refl; inside = lit≤ tt }, (record { enough = (lit≤ tt, lit≤ tt); inside = lit≤ tt }, tt))
 
 D-holds : Claimed 1 cutD merges
@@ -67,5 +67,5 @@ D-holds = demand3 1 cutD merges is-cut are-neighbours
 
 -- The first is told 12, the second 24.
 D-told : told merges (firstRow 1 cutD) ≡ refused 12 ∷ result 24 ∷ []
-unfolding leAt bytesOf firstLength piecesIn rowPieces within inRange accepted whole byShape readOf recordsIn recordsOf modeInUse modeOf between count cut encode decode sumTo nothingIn counted isStamp allTo layoutFits spoiltFits levelsFit openedFits middleFits recordsFit valuesFit hillFits isSummary summaryBytes mergeBytes summariseOutcome mergeOutcome twoTo64 askRow mergedBytes mergeRowOutcome
+unfolding leAt bytesOf firstLength piecesIn rowPieces within inRange accepted whole byShape readOf recordsIn recordsOf modeInUse modeOf joint count cut encode decode sumTo nothingIn counted isStamp allTo layoutFits spoiltFits levelsFit openedFits middleFits recordsFit valuesFit hillFits isSummary summaryBytes mergeBytes summariseOutcome mergeOutcome twoTo64 askRow mergedBytes mergeRowOutcome
 D-told = refl

@@ -16,7 +16,7 @@ use Rattle.figure.specs.FourModes.{lift, lineOf, storeHeld, readHeld, isStamp}
 use Rattle.figure.specs.Run.{atLeast}
 use Rattle.figure.specs.Runs.{moved}
 use Rattle.figure.specs.Mode.{modeOf, modeInUse}
-use Rattle.hill.specs.Verdict.{between, count, cut, ends}
+use Rattle.hill.specs.Verdict.{joint, count, cut, ends}
 use Rattle.hill.specs.Row.{onResult}
 use Rattle.summary.specs.Layout.{encode}
 use Rattle.summary.specs.Judge.{riseAt, leftAt, sumTo, nothingIn, counted}
@@ -83,38 +83,38 @@ abbrev open0 : List ℕ
 open0 = openBytes 0 (pos 10) (pos 0) (pos 100)
 
 -- What the definitions give, and what the paper says.
-pub record Row : Type 0 where
+pub record Case : Type 0 where
   pub gives : Outcome (List ℤ)
   pub paper : Outcome (List ℤ)
 
-abbrev row : Outcome (List ℤ) → Outcome (List ℤ) → Row
-row g p = record { gives = g; paper = p }
+abbrev says : Outcome (List ℤ) → Outcome (List ℤ) → Case
+says g p = record { gives = g; paper = p }
 
-abbrev pub table : List Row
+abbrev pub table : List Case
 table =
     -- "For D `12 15 14 72`", with a newline
-    row (printed logD) (result (map pos (ascii "12 15 14 72\n"))) ∷
+    says (printed logD) (result (map pos (ascii "12 15 14 72\n"))) ∷
     -- "D cut after record 2, mode 1: lengths 64 and 40; left values 0, -3; plan 0,1,0,1"
-    row (lengths 1 cutD) (result (pos 64 ∷ pos 40 ∷ [])) ∷
-    row (leftValues 1 (drop 36 logD)) (result (pos 0 ∷ negsuc 2 ∷ [])) ∷
-    row (plan 1 cutD) (result (pos 12 ∷ pos 19 ∷ pos 0 ∷ pos 1 ∷ pos 0 ∷ pos 1 ∷ [])) ∷
+    says (lengths 1 cutD) (result (pos 64 ∷ pos 40 ∷ [])) ∷
+    says (leftValues 1 (drop 36 logD)) (result (pos 0 ∷ negsuc 2 ∷ [])) ∷
+    says (plan 1 cutD) (result (pos 12 ∷ pos 19 ∷ pos 0 ∷ pos 1 ∷ pos 0 ∷ pos 1 ∷ [])) ∷
     -- "Runs: (12,0,0); (15,7,15); (15,10,14); (961,72,0)"
-    row (run 1 cutD) (result (pos 30 ∷ pos 20 ∷ pos 1 ∷ pos 12 ∷ pos 0 ∷ pos 0 ∷ [])) ∷
-    row (run 2 cutD) (result (pos 30 ∷ pos 20 ∷ pos 2 ∷ pos 15 ∷ pos 7 ∷ pos 15 ∷ [])) ∷
-    row (run 3 cutD) (result (pos 30 ∷ pos 20 ∷ pos 3 ∷ pos 15 ∷ pos 10 ∷ pos 14 ∷ [])) ∷
-    row (run 4 cutD) (result (pos 30 ∷ pos 20 ∷ pos 4 ∷ pos 961 ∷ pos 72 ∷ pos 0 ∷ [])) ∷
+    says (run 1 cutD) (result (pos 30 ∷ pos 20 ∷ pos 1 ∷ pos 12 ∷ pos 0 ∷ pos 0 ∷ [])) ∷
+    says (run 2 cutD) (result (pos 30 ∷ pos 20 ∷ pos 2 ∷ pos 15 ∷ pos 7 ∷ pos 15 ∷ [])) ∷
+    says (run 3 cutD) (result (pos 30 ∷ pos 20 ∷ pos 3 ∷ pos 15 ∷ pos 10 ∷ pos 14 ∷ [])) ∷
+    says (run 4 cutD) (result (pos 30 ∷ pos 20 ∷ pos 4 ∷ pos 961 ∷ pos 72 ∷ pos 0 ∷ [])) ∷
     -- "No bytes: blank, finish 10. \"close 1\" alone: 11. open 0, close 0 twice over: 8. open 0, open 0: 7."
-    row (summary 1 []) (result (pos 6 ∷ pos 16 ∷ pos 1 ∷ [])) ∷
-    row (finish 1 []) (refused 10) ∷
-    row (finish 1 (closeBytes 1)) (refused 11) ∷
-    row (finish 1 (open0 ++ (closeBytes 0 ++ (open0 ++ closeBytes 0)))) (refused 8) ∷
-    row (finish 1 (open0 ++ open0)) (refused 7) ∷
+    says (summary 1 []) (result (pos 6 ∷ pos 16 ∷ pos 1 ∷ [])) ∷
+    says (finish 1 []) (refused 10) ∷
+    says (finish 1 (closeBytes 1)) (refused 11) ∷
+    says (finish 1 (open0 ++ (closeBytes 0 ++ (open0 ++ closeBytes 0)))) (refused 8) ∷
+    says (finish 1 (open0 ++ open0)) (refused 7) ∷
     []
 
-abbrev pub AllHold : List Row → Type 0
+abbrev pub AllHold : List Case → Type 0
 AllHold [] = Unit {0}
 AllHold (r ∷ rs) = (r .gives ≡ r .paper) × AllHold rs
 
 pub proved-cases : AllHold table
-unfolding leAt bytesOf minZ maxZ clamp wrap lift lineOf storeHeld readHeld atLeast moved runOn firstLength piecesIn rowPieces within inRange accepted whole byShape readOf recordsIn recordsOf modeInUse modeOf between count cut ends encode decode sumTo nothingIn counted isStamp allTo layoutFits spoiltFits levelsFit openedFits middleFits recordsFit valuesFit hillFits isSummary summaryBytes summariseOutcome finishOutcome leftOpen upTo downFrom select depthsJoined lineFor planOf flatMap levelsDown runLevels runsAlong twoTo64 askRow askLog lineBytes planBytes runBytes runsBytes planOutcome runsOutcome digitsIn digitsOf decimalOf ascii lineText dayLine wholeLog figureIn figuresOf dayOutcome
+unfolding leAt bytesOf minZ maxZ clamp wrap lift lineOf storeHeld readHeld atLeast moved runOn firstLength piecesIn rowPieces within inRange accepted whole byShape readOf recordsIn recordsOf modeInUse modeOf joint count cut ends encode decode sumTo nothingIn counted isStamp allTo layoutFits spoiltFits levelsFit openedFits middleFits recordsFit valuesFit hillFits isSummary summaryBytes summariseOutcome finishOutcome leftOpen upTo downFrom select depthsJoined lineFor planOf flatMap levelsDown runLevels runsAlong twoTo64 askRow askLog lineBytes planBytes runBytes runsBytes planOutcome runsOutcome digitsIn digitsOf decimalOf ascii lineText dayLine wholeLog figureIn figuresOf dayOutcome
 proved-cases = (refl, (refl, (refl, (refl, (refl, (refl, (refl, (refl, (refl, (refl, (refl, (refl, (refl, tt)))))))))))))

@@ -7,8 +7,8 @@ use native.Mathlib.Omega.{arith}
 use lib.Dec.{eqb}
 use lib.ListN.{length}
 use Rattle.gate.specs.Outcome.{refused, result}
-use Rattle.hill.specs.Verdict.{Verdict, pass, refuse, low, ask, between, count, ends}
-use Rattle.hill.specs.VerdictLaws.{low-pass, low-comm, low-assoc, low-fst, low-snd, between-pass, count-few}
+use Rattle.hill.specs.Verdict.{Verdict, pass, refuse, low, ask, joint, count, ends}
+use Rattle.hill.specs.VerdictLaws.{low-pass, low-comm, low-assoc, low-fst, low-snd, joint-pass, count-few}
 use Rattle.hill.specs.Log.{Record, startLevel, endLevel, endOf, openedOf, joints, logFault}
 use Rattle.hill.specs.Growth.{grown, opened-few}
 use Rattle.hill.specs.Finish.{outcome}
@@ -24,7 +24,7 @@ use Rattle.day.specs.declared.Tally.{Tally}
 -- A record starts at level s: the first one of a log at level 0 (11), a later one where the one before it ended, at level l (7 and 8).
 abbrev pub meeting : (begun : Bool) (l s : ℕ) → Verdict
 meeting false l s = ask 11 (eqb s 0)
-meeting true l s = between l s
+meeting true l s = joint l s
 
 -- One record more.
 pub record Noted (t : Tally) (y : Record Amounts) (t′ : Tally) : Type 0 where
@@ -68,7 +68,7 @@ fault-more : (xs : List (Record Amounts)) (y : Record Amounts) → faultAfter (x
 fault-more [] y = low-pass (ask 11 (eqb (startLevel y) 0))
 fault-more (x ∷ xs) y =
     ap (low (ask 11 (eqb (startLevel x) 0))) (grown (modeOf 1 .algebra) x xs y .joint) ∙
-    sym (low-assoc (ask 11 (eqb (startLevel x) 0)) (joints x xs) (between (endOf x xs) (startLevel y)))
+    sym (low-assoc (ask 11 (eqb (startLevel x) 0)) (joints x xs) (joint (endOf x xs) (startLevel y)))
 
 module _ {t t′ : Tally} {xs : List (Record Amounts)} {y : Record Amounts} (k : Tallied t xs) (n : Noted t y t′) where
   pub tallied : Tallied t′ (xs ++ (y ∷ []))
@@ -92,7 +92,7 @@ module _ {t t′ : Tally} {xs : List (Record Amounts)} {y : Record Amounts} (k :
     where
       go : (xs : List (Record Amounts)) → meeting (begunBy xs) (levelAfter xs) (startLevel y) ≡ pass → levelAfter xs ≡ startLevel y
       go [] p = sym (ground-pass (startLevel y) p)
-      go (x ∷ xs) p = between-pass (endOf x xs) (startLevel y) p
+      go (x ∷ xs) p = joint-pass (endOf x xs) (startLevel y) p
 
 pub none-yet : {t : Tally} → t .begun ≡ false → t .level ≡ 0 → noFault ≤ t .fault → Tallied t []
 none-yet {t} b l f = record { begun = b; level = l; fault = clear (t .fault) f }

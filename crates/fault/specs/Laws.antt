@@ -7,7 +7,7 @@ use native.Mathlib.Decide.{decLt}
 use native.Mathlib.Omega.{arith}
 use lib.Dec.{ltb, eqb}
 use borrow.Author.Tests.{lt-ltb, le-ltb, lt-leb, eq-eqb, ne-eqb, eqb-true}
-use Rattle.hill.specs.Verdict.{Verdict, pass, refuse, low, lower, ask, between, count}
+use Rattle.hill.specs.Verdict.{Verdict, pass, refuse, low, lower, ask, joint, count}
 use Rattle.hill.specs.VerdictLaws.{low-pass, low-comm, refuse-pass, count-few}
 use Rattle.fault.specs.Fault.{noFault, verdictOf}
 
@@ -43,20 +43,20 @@ lower-second a b h = lower-first b a h ∙ low-comm (verdictOf b) (verdictOf a)
 
 -- ---- questions 7 and 8
 
-pub apart : (a b : ℕ) → ¬ (a ≡ b) → verdictOf 7 ≡ between a b
-unfolding between verdictOf
+pub apart : (a b : ℕ) → ¬ (a ≡ b) → verdictOf 7 ≡ joint a b
+unfolding joint verdictOf
 apart a b h = rw (ne-eqb a b h) (ap refuse (seven (ltb 0 a)))
   where
     seven : (t : Bool) → 7 ≡ lower 7 (ask 8 t)
     seven true = refl
     seven false = refl
 
-pub at-ground : (a b : ℕ) → a ≡ b → a ≡ 0 → verdictOf 8 ≡ between a b
-unfolding between verdictOf
+pub at-ground : (a b : ℕ) → a ≡ b → a ≡ 0 → verdictOf 8 ≡ joint a b
+unfolding joint verdictOf
 at-ground a b h z = rw (eq-eqb a b h, z)
 
-pub above : (a b : ℕ) → a ≡ b → ¬ (a ≡ 0) → verdictOf noFault ≡ between a b
-unfolding between verdictOf
+pub above : (a b : ℕ) → a ≡ b → ¬ (a ≡ 0) → verdictOf noFault ≡ joint a b
+unfolding joint verdictOf
 above a b h z = rw (eq-eqb a b h, lt-ltb 0 a (omega arith))
 
 -- ---- question 9

@@ -1,7 +1,7 @@
 // A fault as a byte, and the questions 7, 8, 9 and 11 that find one.
 ghost use mathlib.Core.Path.{_≡_};
 ghost use lib.Dec.{eqb};
-ghost use Rattle.hill.specs.Verdict.{low, ask, between, count as countOf, ends as endsOf};
+ghost use Rattle.hill.specs.Verdict.{low, ask, joint as jointOf, count as countOf, ends as endsOf};
 ghost use Rattle.fault.specs.Fault.{verdictOf};
 
 // No fault: above the number of every question, so that the lower of two faults is their minimum.
@@ -16,7 +16,7 @@ pub fn lower(a: u8, b: u8) -> u8
 
 // Questions 7 and 8 between a record that ends at one level and the next, which starts at another.
 pub fn joint(end: u16, start: u16) -> u8
-    ensures { λ r. ⌜ verdictOf r ≡ between end start ⌝ }
+    ensures { λ r. ⌜ verdictOf r ≡ jointOf end start ⌝ }
 {
     if end != start {
         return 7;

@@ -27,11 +27,13 @@ pub struct Run {
 
 // ---- what a record holds
 
-// -2^63 stands for nothing held.
+// How "nothing held" is stored where it is no number.
+const NOTHING: i64 = -9223372036854775808;
+
 pub fn read_held(x: i64) -> Held
     ensures { λ r. ⌜ r ≡ readHeld x ⌝ }
 {
-    if x == -9223372036854775808 {
+    if x == NOTHING {
         Held::Nothing
     } else {
         Held::Figure(x)
@@ -42,7 +44,7 @@ pub fn store_held(h: Held) -> i64
     ensures { λ r. ⌜ r ≡ storeHeld h ⌝ }
 {
     match h {
-        Held::Nothing => -9223372036854775808,
+        Held::Nothing => NOTHING,
         Held::Figure(x) => x,
     }
 }
@@ -134,7 +136,7 @@ pub fn nothing(mode: u16) -> i64
     ensures { λ r. ⌜ r ≡ none (modeOf mode) ⌝ }
 {
     match mode {
-        2 => -9223372036854775808,
+        2 => NOTHING,
         _ => 0,
     }
 }

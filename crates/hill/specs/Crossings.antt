@@ -11,8 +11,8 @@ use lib.Dec.{eqb}
 use lib.ListN.{length, drop, length-drop}
 use lib.Seq.{getD-drop}
 use borrow.Author.Tests.{eqb-true, eq-eqb}
-use Rattle.hill.specs.Verdict.{pass, between}
-use Rattle.hill.specs.VerdictLaws.{low-fst, low-snd, between-pass}
+use Rattle.hill.specs.Verdict.{pass, joint}
+use Rattle.hill.specs.VerdictLaws.{low-fst, low-snd, joint-pass}
 use Rattle.hill.specs.Log.{Record, opening, closing, startLevel, endLevel, joints}
 use Rattle.hill.specs.Closing.{at, OpensAt, Closed}
 use Rattle.hill.specs.Summary.{closedIn}
@@ -34,8 +34,8 @@ module _ {R : Type 0} where
 
   pub joints-meeting : (x : Record R) (xs : List (Record R)) → joints x xs ≡ pass → Meeting (x ∷ xs)
   joints-meeting x [] v k l = absurd (omega arith)
-  joints-meeting x (y ∷ ys) v zero l = between-pass (endLevel x) (startLevel y) (low-fst (between (endLevel x) (startLevel y)) (joints y ys) v)
-  joints-meeting x (y ∷ ys) v (suc k) l = joints-meeting y ys (low-snd (between (endLevel x) (startLevel y)) (joints y ys) v) k (omega arith)
+  joints-meeting x (y ∷ ys) v zero l = joint-pass (endLevel x) (startLevel y) (low-fst (joint (endLevel x) (startLevel y)) (joints y ys) v)
+  joints-meeting x (y ∷ ys) v (suc k) l = joints-meeting y ys (low-snd (joint (endLevel x) (startLevel y)) (joints y ys) v) k (omega arith)
 
   module _ (log : List (Record R)) (meets : Meeting log) where
     -- From above level m down to it there is a close at depth m.

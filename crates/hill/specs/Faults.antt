@@ -9,7 +9,7 @@ use native.Mathlib.Omega.{arith}
 use lib.Dec.{leb, ltb, eqb}
 use lib.ListN.{length}
 use borrow.Author.Tests.{eqb-false, leb-false, ltb-false, ne-eqb, lt-leb, le-ltb}
-use Rattle.hill.specs.Verdict.{Verdict, pass, refuse, lower, low, ask, between, count, ends}
+use Rattle.hill.specs.Verdict.{Verdict, pass, refuse, lower, low, ask, joint, count, ends}
 use Rattle.hill.specs.VerdictLaws.{refuse-pass}
 use Rattle.hill.specs.Log.{Record, startLevel, endLevel, endOf, openedOf, joints, faultOf, logFault}
 use Rattle.hill.specs.Closing.{at}
@@ -56,9 +56,9 @@ lowest-ask n false = record {
 abbrev Joint : (a b n : ℕ) → Type 0
 Joint a b n = ((n ≡ 7) × (a ≢ b)) ⊎ ((n ≡ 8) × (a ≡ 0))
 
-lowest-between : (a b : ℕ) → Lowest (Joint a b) (between a b)
-unfolding between
-lowest-between a b =
+lowest-joint : (a b : ℕ) → Lowest (Joint a b) (joint a b)
+unfolding joint
+lowest-joint a b =
     lowest-iff
     (λ n h. ⊎-elim (λ x. inl (x .0, eqb-false a b (x .1))) (λ y. inr (y .0, omega (arith, ltb-false 0 a (y .1)))) h)
     (λ n h. ⊎-elim (λ x. inl (x .0, ne-eqb a b (x .1))) (λ y. inr (y .0, le-ltb 0 a (omega (arith, y .1)))) h)
@@ -93,7 +93,7 @@ module _ {R : Type 0} where
   lowest-joints x [] = record { none = λ e n h. omega (arith, h .1); least = λ n e. absurd (refuse-pass (sym e)) }
   lowest-joints x (y ∷ ys) =
       lowest-iff (joints-from x y ys) (λ n h. joints-to x y ys n (h .0) (h .1) (h .2))
-      (lowest-low (between (endLevel x) (startLevel y)) (joints y ys) (lowest-between (endLevel x) (startLevel y)) (lowest-joints y ys))
+      (lowest-low (joint (endLevel x) (startLevel y)) (joints y ys) (lowest-joint (endLevel x) (startLevel y)) (lowest-joints y ys))
 
   chunk-from : (log : List (Record R)) (n : ℕ) → Joints log n ⊎ ((n ≡ 9) × (100000 < openedOf log)) → NoOfChunk log n
   chunk-from log n (inl h) = ⊎-elim (λ x. inl (x .0, (h .0, h .1, x .1))) (λ y. inr (inl (y .0, (h .0, h .1, y .1)))) (h .2)

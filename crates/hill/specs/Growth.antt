@@ -5,7 +5,7 @@ use Prim.Native.Nat.{suc, _+_, _-_, _≤_, min}
 use native.Mathlib.Omega.{arith}
 use lib.ListN.{length}
 use Rattle.algebra.specs.Algebra.{Algebra}
-use Rattle.hill.specs.Verdict.{low, between}
+use Rattle.hill.specs.Verdict.{low, joint}
 use Rattle.hill.specs.VerdictLaws.{low-pass, low-assoc}
 use Rattle.hill.specs.Log.{Record, opening, closing, depth, startLevel, endLevel, endOf, peakOf, opens, openedOf, joints}
 use Rattle.hill.specs.Closing.{at}
@@ -20,9 +20,9 @@ module _ {R : Type 0} where
   peak-last x [] y = refl
   peak-last x (z ∷ xs) y = rw (peak-last z xs y) (omega arith)
 
-  joints-last : (x : Record R) (xs : List (Record R)) (y : Record R) → joints x (xs ++ (y ∷ [])) ≡ low (joints x xs) (between (endOf x xs) (startLevel y))
-  joints-last x [] y = low-pass (between (endLevel x) (startLevel y))
-  joints-last x (z ∷ xs) y = rw (joints-last z xs y) (sym (low-assoc (between (endLevel x) (startLevel z)) (joints z xs) (between (endOf z xs) (startLevel y))))
+  joints-last : (x : Record R) (xs : List (Record R)) (y : Record R) → joints x (xs ++ (y ∷ [])) ≡ low (joints x xs) (joint (endOf x xs) (startLevel y))
+  joints-last x [] y = low-pass (joint (endLevel x) (startLevel y))
+  joints-last x (z ∷ xs) y = rw (joints-last z xs y) (sym (low-assoc (joint (endLevel x) (startLevel z)) (joints z xs) (joint (endOf z xs) (startLevel y))))
 
   pub opened-append : (xs ys : List (Record R)) → openedOf (xs ++ ys) ≡ openedOf xs + openedOf ys
   opened-append [] ys = omega arith
@@ -45,7 +45,7 @@ module _ {R : Type 0} where
 pub record Grown {R : Type 0} (𝒜 : Algebra R) (x : Record R) (xs : List (Record R)) (y : Record R) : Type 0 where
   pub end : endOf x (xs ++ (y ∷ [])) ≡ endLevel y
   pub peak : peakOf x (xs ++ (y ∷ [])) ≡ min (peakOf x xs) (depth y)
-  pub joint : joints x (xs ++ (y ∷ [])) ≡ low (joints x xs) (between (endOf x xs) (startLevel y))
+  pub joint : joints x (xs ++ (y ∷ [])) ≡ low (joints x xs) (joint (endOf x xs) (startLevel y))
   pub opened : openedOf (x ∷ (xs ++ (y ∷ []))) ≡ openedOf (x ∷ xs) + opens y
   pub built : hillOf 𝒜 (x ∷ (xs ++ (y ∷ []))) ≡ step 𝒜 (hillOf 𝒜 (x ∷ xs)) y
 

@@ -1,7 +1,7 @@
 -- Records with their depths, the levels they go through, and what is asked of a log. Definitions only.
 use mathlib.Core.List.{List, [], _∷_}
 use Prim.Native.Nat.{ℕ, suc, _+_, min}
-use Rattle.hill.specs.Verdict.{Verdict, pass, refuse, low, between, count, ends}
+use Rattle.hill.specs.Verdict.{Verdict, pass, refuse, low, joint, count, ends}
 
 -- R is what an open carries beside its depth: value, floor and ceiling.
 pub data Record (R : Type 0) : Type 0 where
@@ -44,7 +44,7 @@ module _ {R : Type 0} where
   -- Questions 7 and 8 between neighbours, and with 9 the lowest fault of a chunk.
   abbrev pub joints : Record R → List (Record R) → Verdict
   joints x [] = pass
-  joints x (y ∷ ys) = low (between (endLevel x) (startLevel y)) (joints y ys)
+  joints x (y ∷ ys) = low (joint (endLevel x) (startLevel y)) (joints y ys)
 
   abbrev pub faultOf : Record R → List (Record R) → Verdict
   faultOf x xs = low (joints x xs) (count (openedOf (x ∷ xs)))

@@ -2,7 +2,7 @@
 use mathlib.Core.List.{List, [], _∷_, _++_, reverse}
 use Prim.Native.Nat.{_+_, min}
 use Rattle.algebra.specs.Algebra.{Algebra}
-use Rattle.hill.specs.Verdict.{Verdict, low, between, count}
+use Rattle.hill.specs.Verdict.{Verdict, low, joint, count}
 use Rattle.hill.specs.Summary.{Hill, hill, lefts, middle, rights, Part, Summary, blank, part, start, end, opened, verdict, peak, slopes, judged}
 
 module _ {R : Type 0} (𝒜 : Algebra R) where
@@ -25,7 +25,7 @@ module _ {R : Type 0} (𝒜 : Algebra R) where
   -- "If one is spoilt or the join has fault 7, 8 or 9, the result is spoilt: the lowest of these faults, the left's start, the right's end,
   -- opened added and cut to 100,001."
   abbrev pub mergeVerdict : Part Fig R → Part Fig R → Verdict
-  mergeVerdict a b = low (verdict a) (low (verdict b) (low (between (end a) (start b)) (count (opened a + opened b))))
+  mergeVerdict a b = low (verdict a) (low (verdict b) (low (joint (end a) (start b)) (count (opened a + opened b))))
 
   abbrev pub mergePart : Part Fig R → Part Fig R → Part Fig R
   mergePart a b = judged (mergeVerdict a b) (start a) (end b) (opened a + opened b) (min (peak 𝒜 a) (peak 𝒜 b)) (mergeHills (slopes 𝒜 a) (slopes 𝒜 b))

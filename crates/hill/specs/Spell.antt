@@ -5,8 +5,8 @@ use Prim.Native.Nat.{ℕ, suc, _+_, min}
 use native.Mathlib.Nat.{add-zero, add-suc}
 use native.Mathlib.Omega.{arith}
 use lib.ListN.{length}
-use Rattle.hill.specs.Verdict.{pass, between}
-use Rattle.hill.specs.VerdictLaws.{low-fst, low-snd, between-pass}
+use Rattle.hill.specs.Verdict.{pass, joint}
+use Rattle.hill.specs.VerdictLaws.{low-fst, low-snd, joint-pass}
 use Rattle.hill.specs.Log.{Record, opening, closing, depth, startLevel, endLevel, endOf, peakOf, joints}
 use Rattle.hill.specs.Tree.{Forest, nil, tree, write}
 use Rattle.hill.specs.Summary.{Hill, hill, rise, fall, middle}
@@ -114,8 +114,8 @@ module _ {R : Type 0} where
   pub joints-meet : (x : Record R) (xs : List (Record R)) → joints x xs ≡ pass → Meets (endLevel x) xs
   joints-meet x [] v = tt
   joints-meet x (y ∷ ys) v = (
-    between-pass (endLevel x) (startLevel y) (low-fst (between (endLevel x) (startLevel y)) (joints y ys) v),
-    joints-meet y ys (low-snd (between (endLevel x) (startLevel y)) (joints y ys) v),
+    joint-pass (endLevel x) (startLevel y) (low-fst (joint (endLevel x) (startLevel y)) (joints y ys) v),
+    joints-meet y ys (low-snd (joint (endLevel x) (startLevel y)) (joints y ys) v),
   )
 
   pub end-from : (x : Record R) (xs : List (Record R)) → endFrom (endLevel x) xs ≡ endOf x xs

@@ -5,8 +5,8 @@ use Prim.Native.Nat.{ℕ, _+_, _-_, _≤_, min}
 use native.Mathlib.Nat.{add-assoc}
 use native.Mathlib.Omega.{arith}
 use Rattle.algebra.specs.Algebra.{Algebra, Laws}
-use Rattle.hill.specs.Verdict.{Verdict, pass, refuse, low, between, count, cut}
-use Rattle.hill.specs.VerdictLaws.{low-assoc, low-left, low-fst, low-snd, between-pass, count-pass, count-cut-l, count-cut-r, count-absorb, cut-few}
+use Rattle.hill.specs.Verdict.{Verdict, pass, refuse, low, joint, count, cut}
+use Rattle.hill.specs.VerdictLaws.{low-assoc, low-left, low-fst, low-snd, joint-pass, count-pass, count-cut-l, count-cut-r, count-absorb, cut-few}
 use Rattle.hill.specs.Log.{Record, opening, closing, depth, startLevel, endLevel, endOf, peakOf, opens, openedOf, joints, faultOf}
 use Rattle.hill.specs.Summary.{Hill, Part, spoilt, whole, Summary, blank, part, rise, fall, start, end, opened, verdict, judged, valuesOf, partOf, summaryOf, peak, slopes}
 use Rattle.hill.specs.Merge.{mergeHills, mergeVerdict, mergePart, mergeSummary}
@@ -45,23 +45,23 @@ module _ {R : Type 0} (𝒜 : Algebra R) where
 
   -- What passes has parts that pass, and few opened records.
   pass-l : (a b : Part Fig R) → mergeVerdict 𝒜 a b ≡ pass → verdict a ≡ pass
-  pass-l a b v = low-fst (verdict a) (low (verdict b) (low (between (end a) (start b)) (count (opened a + opened b)))) v
+  pass-l a b v = low-fst (verdict a) (low (verdict b) (low (joint (end a) (start b)) (count (opened a + opened b)))) v
 
   pass-r : (a b : Part Fig R) → mergeVerdict 𝒜 a b ≡ pass → verdict b ≡ pass
   pass-r a b v =
-      low-fst (verdict b) (low (between (end a) (start b)) (count (opened a + opened b)))
-      (low-snd (verdict a) (low (verdict b) (low (between (end a) (start b)) (count (opened a + opened b)))) v)
+      low-fst (verdict b) (low (joint (end a) (start b)) (count (opened a + opened b)))
+      (low-snd (verdict a) (low (verdict b) (low (joint (end a) (start b)) (count (opened a + opened b)))) v)
 
-  pass-join : (a b : Part Fig R) → mergeVerdict 𝒜 a b ≡ pass → low (between (end a) (start b)) (count (opened a + opened b)) ≡ pass
+  pass-join : (a b : Part Fig R) → mergeVerdict 𝒜 a b ≡ pass → low (joint (end a) (start b)) (count (opened a + opened b)) ≡ pass
   pass-join a b v =
-      low-snd (verdict b) (low (between (end a) (start b)) (count (opened a + opened b)))
-      (low-snd (verdict a) (low (verdict b) (low (between (end a) (start b)) (count (opened a + opened b)))) v)
+      low-snd (verdict b) (low (joint (end a) (start b)) (count (opened a + opened b)))
+      (low-snd (verdict a) (low (verdict b) (low (joint (end a) (start b)) (count (opened a + opened b)))) v)
 
   few : (a b : Part Fig R) → mergeVerdict 𝒜 a b ≡ pass → opened a + opened b ≤ 100000
-  few a b v = count-pass (opened a + opened b) (low-snd (between (end a) (start b)) (count (opened a + opened b)) (pass-join a b v))
+  few a b v = count-pass (opened a + opened b) (low-snd (joint (end a) (start b)) (count (opened a + opened b)) (pass-join a b v))
 
   meet : (a b : Part Fig R) → mergeVerdict 𝒜 a b ≡ pass → end a ≡ start b
-  meet a b v = between-pass (end a) (start b) (low-fst (between (end a) (start b)) (count (opened a + opened b)) (pass-join a b v))
+  meet a b v = joint-pass (end a) (start b) (low-fst (joint (end a) (start b)) (count (opened a + opened b)) (pass-join a b v))
 
   pub opened-merge : (a b : Part Fig R) → opened (mergePart 𝒜 a b) ≡ cut (opened a + opened b)
   opened-merge a b = opened-judged (mergeVerdict 𝒜 a b) (start a) (end b) (opened a + opened b) (min (peak 𝒜 a) (peak 𝒜 b)) (mergeHills 𝒜 (slopes 𝒜 a) (slopes 𝒜 b)) (few a b)
@@ -146,7 +146,7 @@ module _ {R : Type 0} (𝒜 : Algebra R) where
     verdict-assoc a b c =
         rw (verdict-merge a b, verdict-merge b c, end-merge a b, start-merge b c, opened-merge a b, opened-merge b c, count-cut-l (opened a + opened b) (opened c), count-cut-r (opened a) (opened b + opened c))
         (rw (add-assoc (opened a) (opened b) (opened c))
-        (regroup (verdict a) (verdict b) (verdict c) (between (end a) (start b)) (between (end b) (start c)) (count (opened a + opened b)) (count (opened b + opened c)) (count (opened a + (opened b + opened c)))
+        (regroup (verdict a) (verdict b) (verdict c) (joint (end a) (start b)) (joint (end b) (start c)) (count (opened a + opened b)) (count (opened b + opened c)) (count (opened a + (opened b + opened c)))
         (count-absorb (opened a + opened b) (opened a + (opened b + opened c)) (omega arith))
         (count-absorb (opened b + opened c) (opened a + (opened b + opened c)) (omega arith))))
 
@@ -188,7 +188,7 @@ module _ {R : Type 0} (𝒜 : Algebra R) where
       cons-verdict : mergeVerdict 𝒜 (single x) (partOf 𝒜 y ys) ≡ faultOf x (y ∷ ys)
       cons-verdict =
           rw (verdict-partOf y ys, single-levels x .1, l .0, opened-partOf y ys, count-cut-r (opens x) (openedOf (y ∷ ys)))
-          (sym (swap (between (endLevel x) (startLevel y)) (joints y ys) (count (openedOf (y ∷ ys))) (count (opens x + openedOf (y ∷ ys)))
+          (sym (swap (joint (endLevel x) (startLevel y)) (joints y ys) (count (openedOf (y ∷ ys))) (count (opens x + openedOf (y ∷ ys)))
           (count-absorb (openedOf (y ∷ ys)) (opens x + openedOf (y ∷ ys)) (omega arith))))
 
       tail-passes : faultOf x (y ∷ ys) ≡ pass → faultOf y ys ≡ pass

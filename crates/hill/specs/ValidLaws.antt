@@ -9,8 +9,8 @@ use lib.Dec.{leb, ltb, eqb}
 use lib.ListN.{length}
 use borrow.Author.Tests.{leb-false}
 use Rattle.algebra.specs.Algebra.{Algebra, Laws}
-use Rattle.hill.specs.Verdict.{Verdict, pass, refuse, low, ask, between, count, cut}
-use Rattle.hill.specs.VerdictLaws.{low-fst, low-snd, between-pass, between-high, count-pass, refuse-pass}
+use Rattle.hill.specs.Verdict.{Verdict, pass, refuse, low, ask, joint, count, cut}
+use Rattle.hill.specs.VerdictLaws.{low-fst, low-snd, joint-pass, joint-high, count-pass, refuse-pass}
 use Rattle.hill.specs.Log.{Record, opening, closing}
 use Rattle.hill.specs.Summary.{Hill, hill, Part, spoilt, whole, Summary, blank, part, rise, fall, middle, start, end, opened, verdict, judged, summaryOf, peak, slopes}
 use Rattle.hill.specs.Merge.{mergeHills, mergeVerdict, mergePart, mergeSummary}
@@ -31,8 +31,8 @@ range-low t pass w a b = b
 range-low t (refuse m) pass a b = a
 range-low t (refuse m) (refuse n) a b = (omega arith, omega arith, λ e. a .2 (omega arith))
 
-range-between : (t a b : ℕ) → Range t (between a b)
-unfolding between
+range-between : (t a b : ℕ) → Range t (joint a b)
+unfolding joint
 range-between t a b = go (eqb a b) (ltb 0 a)
   where
     go : (x y : Bool) → Range t (low (ask 7 x) (ask 8 y))
@@ -209,9 +209,9 @@ module _ {R : Type 0} (𝒜 : Algebra R) {Fine : R → Type 0} (𝒮 : Sizes �
   range-merge : (a b : Part Fig R) → ValidPart 𝒜 𝒮 a → ValidPart 𝒜 𝒮 b → Range (opened a + opened b) (mergeVerdict 𝒜 a b)
   range-merge a b v w =
       let t = opened a + opened b in
-      range-low t (verdict a) (low (verdict b) (low (between (end a) (start b)) (count t))) (range-verdict a t v (omega arith))
-      (range-low t (verdict b) (low (between (end a) (start b)) (count t)) (range-verdict b t w (omega arith))
-      (range-low t (between (end a) (start b)) (count t) (range-between t (end a) (start b)) (range-count t)))
+      range-low t (verdict a) (low (verdict b) (low (joint (end a) (start b)) (count t))) (range-verdict a t v (omega arith))
+      (range-low t (verdict b) (low (joint (end a) (start b)) (count t)) (range-verdict b t w (omega arith))
+      (range-low t (joint (end a) (start b)) (count t) (range-between t (end a) (start b)) (range-count t)))
 
   valid-judged : (v : Verdict) (s e t p : ℕ) (h : Hill Fig R) → Range t v → s ≤ 64 → e ≤ 64 → (v ≡ pass → ValidHill 𝒜 𝒮 p t h) → ValidPart 𝒜 𝒮 (judged v s e t p h)
   valid-judged pass s e t p h r k l f = f refl
@@ -248,9 +248,9 @@ module _ {R : Type 0} (𝒜 : Algebra R) {Fine : R → Type 0} (𝒮 : Sizes �
     valid-pass (spoilt f s e o) b v w m = absurd (refuse-pass m)
     valid-pass (whole p o g) (spoilt f s e n) v w m = absurd (refuse-pass m)
     valid-pass (whole p o g) (whole q n h) v w m =
-        let j = low-fst (between (p + fall g) (q + rise h)) (count (o + n)) m in
-        let c = count-pass (o + n) (low-snd (between (p + fall g) (q + rise h)) (count (o + n)) m) in
-        rw (mergeHills-merge 𝒜 ℒ g h) (valid-hill ℒ p q o n g h v w (between-pass (p + fall g) (q + rise h) j) (between-high (p + fall g) (q + rise h) j) c)
+        let j = low-fst (joint (p + fall g) (q + rise h)) (count (o + n)) m in
+        let c = count-pass (o + n) (low-snd (joint (p + fall g) (q + rise h)) (count (o + n)) m) in
+        rw (mergeHills-merge 𝒜 ℒ g h) (valid-hill ℒ p q o n g h v w (joint-pass (p + fall g) (q + rise h) j) (joint-high (p + fall g) (q + rise h) j) c)
 
     pub valid-merge : (a b : Part Fig R) → ValidPart 𝒜 𝒮 a → ValidPart 𝒜 𝒮 b → ValidPart 𝒜 𝒮 (mergePart 𝒜 a b)
     valid-merge a b v w =

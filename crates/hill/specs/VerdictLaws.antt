@@ -5,7 +5,7 @@ use Prim.Native.Nat.{ℕ, suc, _+_, _≤_, _<_}
 use native.Mathlib.Omega.{arith}
 use lib.Dec.{leb, ltb, eqb}
 use borrow.Author.Tests.{le-leb, leb-true, eqb-true, eq-eqb, lt-ltb, ltb-true}
-use Rattle.hill.specs.Verdict.{Verdict, pass, refuse, low, ask, between, count, cut, ends}
+use Rattle.hill.specs.Verdict.{Verdict, pass, refuse, low, ask, joint, count, cut, ends}
 
 pub low-pass : (v : Verdict) → low v pass ≡ v
 low-pass pass = refl
@@ -41,13 +41,13 @@ ask-pass : (n : ℕ) (b : Bool) → ask n b ≡ pass → b ≡ true
 ask-pass n true e = refl
 ask-pass n false e = cc
 
-pub between-pass : (a b : ℕ) → between a b ≡ pass → a ≡ b
-unfolding between
-between-pass a b e = eqb-true a b (ask-pass 7 (eqb a b) (low-fst (ask 7 (eqb a b)) (ask 8 (ltb 0 a)) e))
+pub joint-pass : (a b : ℕ) → joint a b ≡ pass → a ≡ b
+unfolding joint
+joint-pass a b e = eqb-true a b (ask-pass 7 (eqb a b) (low-fst (ask 7 (eqb a b)) (ask 8 (ltb 0 a)) e))
 
-pub between-high : (a b : ℕ) → between a b ≡ pass → 0 < a
-unfolding between
-between-high a b e = ltb-true 0 a (ask-pass 8 (ltb 0 a) (low-snd (ask 7 (eqb a b)) (ask 8 (ltb 0 a)) e))
+pub joint-high : (a b : ℕ) → joint a b ≡ pass → 0 < a
+unfolding joint
+joint-high a b e = ltb-true 0 a (ask-pass 8 (ltb 0 a) (low-snd (ask 7 (eqb a b)) (ask 8 (ltb 0 a)) e))
 
 pub count-pass : (n : ℕ) → count n ≡ pass → n ≤ 100000
 unfolding count
@@ -61,9 +61,9 @@ pub cut-few : (n : ℕ) → n ≤ 100000 → cut n ≡ n
 unfolding cut
 cut-few n l = omega arith
 
-pub between-same : (n : ℕ) → between (suc n) (suc n) ≡ pass
-unfolding between
-between-same n = rw (eq-eqb (suc n) (suc n) refl, lt-ltb 0 (suc n) (omega arith))
+pub joint-same : (n : ℕ) → joint (suc n) (suc n) ≡ pass
+unfolding joint
+joint-same n = rw (eq-eqb (suc n) (suc n) refl, lt-ltb 0 (suc n) (omega arith))
 
 pub ends-pass : (a b : ℕ) → ends a b ≡ pass → (a ≡ 0) × (b ≡ 0)
 unfolding ends

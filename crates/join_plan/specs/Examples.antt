@@ -2,7 +2,7 @@
 use Prim.Native.Nat.{ℕ}
 use mathlib.Core.Path.{_≡_, refl}
 use mathlib.Core.List.{List, [], _∷_, map, flatMap}
-use Rattle.hill.specs.Verdict.{between, count}
+use Rattle.hill.specs.Verdict.{joint, count}
 use Rattle.hill.specs.Log.{Record, opening, closing}
 use Rattle.hill.specs.Summary.{summaryOf}
 use Rattle.hill.specs.TreeLaws.{free}
@@ -16,7 +16,7 @@ abbrev D : List (List (Record ℕ))
 D = (opening 0 0 ∷ opening 1 1 ∷ []) ∷ (closing 1 ∷ opening 1 3 ∷ closing 1 ∷ closing 0 ∷ []) ∷ []
 
 pub D-plan : planOfRow (map (summaryOf (free ℕ)) D) ≡ line 0 1 0 1 ∷ []
-unfolding between count planOf flatMap upTo downFrom select leftOpen depthsJoined lineFor
+unfolding joint count planOf flatMap upTo downFrom select leftOpen depthsJoined lineFor
 D-plan = refl
 
 -- the bound is met: 2 · 4 - 3 lines of four chunks, and 8 levels folded

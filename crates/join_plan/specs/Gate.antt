@@ -6,8 +6,8 @@ use native.Mathlib.Omega.{arith}
 use lib.ListN.{length, length-map}
 use Rattle.algebra.specs.Algebra.{Algebra, Laws}
 use Rattle.gate.specs.Outcome.{result}
-use Rattle.hill.specs.Verdict.{Verdict, pass, refuse, low, between, count, ends}
-use Rattle.hill.specs.VerdictLaws.{low-fst, low-snd, between-pass, ends-pass, refuse-pass}
+use Rattle.hill.specs.Verdict.{Verdict, pass, refuse, low, joint, count, ends}
+use Rattle.hill.specs.VerdictLaws.{low-fst, low-snd, joint-pass, ends-pass, refuse-pass}
 use Rattle.hill.specs.Summary.{Hill, Part, spoilt, whole, Summary, blank as blankSummary, part, middle, fall, start, end, opened, verdict, judged, peak, slopes}
 use Rattle.hill.specs.Merge.{mergeHills, mergeVerdict, mergePart, mergeSummary}
 use Rattle.hill.specs.SummaryLaws.{start-merge, end-merge}
@@ -75,10 +75,10 @@ module _ {R : Type 0} (𝒜 : Algebra R) where
   -- what passes has parts that pass and meet
   merge-pass : (a b : Part Fig R) → verdict (mergePart 𝒜 a b) ≡ pass → (verdict a ≡ pass) × (verdict b ≡ pass) × (end a ≡ start b)
   merge-pass a b v =
-      let j : Verdict = low (between (end a) (start b)) (count (opened a + opened b)) in
+      let j : Verdict = low (joint (end a) (start b)) (count (opened a + opened b)) in
       let w : mergeVerdict 𝒜 a b ≡ pass = judged-pass (mergeVerdict 𝒜 a b) (start a) (end b) (opened a + opened b) (min (peak 𝒜 a) (peak 𝒜 b)) (mergeHills 𝒜 (slopes 𝒜 a) (slopes 𝒜 b)) v in
       let x : low (verdict b) j ≡ pass = low-snd (verdict a) (low (verdict b) j) w in
-      (low-fst (verdict a) (low (verdict b) j) w, low-fst (verdict b) j x, between-pass (end a) (start b) (low-fst (between (end a) (start b)) (count (opened a + opened b)) (low-snd (verdict b) j x)))
+      (low-fst (verdict a) (low (verdict b) j) w, low-fst (verdict b) j x, joint-pass (end a) (start b) (low-fst (joint (end a) (start b)) (count (opened a + opened b)) (low-snd (verdict b) j x)))
 
   pub fault-parts : (s t : Summary Fig R) → summaryFault (mergeSummary 𝒜 s t) ≡ pass → (summaryFault s ≡ pass) × (summaryFault t ≡ pass)
   fault-parts blankSummary t v = (refl, v)

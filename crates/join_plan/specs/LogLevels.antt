@@ -5,8 +5,8 @@ use mathlib.Core.List.{List, [], _∷_, map}
 use native.Mathlib.Omega.{arith}
 use lib.ListN.{length, getD}
 use Rattle.algebra.specs.Algebra.{Algebra, Laws}
-use Rattle.hill.specs.Verdict.{Verdict, pass, between, count, ends}
-use Rattle.hill.specs.VerdictLaws.{refuse-pass, low-fst, low-snd, between-pass, between-high, ends-pass}
+use Rattle.hill.specs.Verdict.{Verdict, pass, joint, count, ends}
+use Rattle.hill.specs.VerdictLaws.{refuse-pass, low-fst, low-snd, joint-pass, joint-high, ends-pass}
 use Rattle.hill.specs.Log.{Record, startLevel, endLevel, endOf, peakOf, openedOf, joints, faultOf, logFault}
 use Rattle.hill.specs.Closing.{at}
 use Rattle.hill.specs.Summary.{Part, blank as blankSummary, part, spoilt, whole, verdict, start, end, partOf, summaryOf, peak}
@@ -33,8 +33,8 @@ module _ {R : Type 0} where
   joints-at : (x : Record R) (xs : List (Record R)) → joints x xs ≡ pass → (k : ℕ) → k < length xs → (endLevel (at (x ∷ xs) k) ≡ startLevel (at xs k)) × (0 < endLevel (at (x ∷ xs) k))
   joints-at x [] v k b = absurd (omega arith)
   joints-at x (y ∷ ys) v zero b =
-      let e = low-fst (between (endLevel x) (startLevel y)) (joints y ys) v in (between-pass (endLevel x) (startLevel y) e, between-high (endLevel x) (startLevel y) e)
-  joints-at x (y ∷ ys) v (suc k) b = joints-at y ys (low-snd (between (endLevel x) (startLevel y)) (joints y ys) v) k (omega arith)
+      let e = low-fst (joint (endLevel x) (startLevel y)) (joints y ys) v in (joint-pass (endLevel x) (startLevel y) e, joint-high (endLevel x) (startLevel y) e)
+  joints-at x (y ∷ ys) v (suc k) b = joints-at y ys (low-snd (joint (endLevel x) (startLevel y)) (joints y ys) v) k (omega arith)
 
   last-at : (x : Record R) (xs : List (Record R)) → endLevel (at (x ∷ xs) (length xs)) ≡ endOf x xs
   last-at x [] = refl

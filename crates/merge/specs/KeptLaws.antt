@@ -12,8 +12,8 @@ use Rattle.figure.specs.Stored.{none}
 use Rattle.figure.specs.declared.Held.{Held}
 use Rattle.judge.specs.declared.Head.the-variants.{Blank, Spoilt, Hill}
 use Rattle.judge.specs.Judged.{heldIn}
-use Rattle.hill.specs.Verdict.{Verdict, pass, refuse, low, between, count}
-use Rattle.hill.specs.VerdictLaws.{low-fst, low-snd, between-pass, refuse-pass}
+use Rattle.hill.specs.Verdict.{Verdict, pass, refuse, low, joint, count}
+use Rattle.hill.specs.VerdictLaws.{low-fst, low-snd, joint-pass, refuse-pass}
 use Rattle.hill.specs.Summary.{Hill as HillOf, Part, blank, part, spoilt, whole, rise, fall, start, end, opened, verdict, peak, slopes}
 use Rattle.hill.specs.Building.{merge, merge-empty, empty-merge}
 use Rattle.hill.specs.Merge.{mergeSummary}
@@ -88,9 +88,9 @@ module _ (m : ℕ) where
   -- where they meet
   meets : (a b : Part (𝒜 .Fig) Amounts) → summaryFault 𝒜 (mergeSummary 𝒜 (part a) (part b)) ≡ pass → end a ≡ start b
   meets a b v =
-      let j : Verdict = low (between (end a) (start b)) (count (opened a + opened b)) in
+      let j : Verdict = low (joint (end a) (start b)) (count (opened a + opened b)) in
       let x = low-snd (verdict a) (low (verdict b) j) (sym (verdict-merge 𝒜 a b) ∙ v) in
-      between-pass (end a) (start b) (low-fst (between (end a) (start b)) (count (opened a + opened b)) (low-snd (verdict b) j x))
+      joint-pass (end a) (start b) (low-fst (joint (end a) (start b)) (count (opened a + opened b)) (low-snd (verdict b) j x))
 
   -- ---- nothing merged yet
 

@@ -6,7 +6,7 @@ use native.Mathlib.Omega.{arith}
 use Rattle.algebra.specs.Algebra.{Algebra}
 use Rattle.figure.specs.FourModes.{Amounts}
 use Rattle.figure.specs.Mode.{modeOf}
-use Rattle.hill.specs.Verdict.{pass, refuse, low, between, count, cut}
+use Rattle.hill.specs.Verdict.{pass, refuse, low, joint, count, cut}
 use Rattle.hill.specs.VerdictLaws.{low-fst, low-snd}
 use Rattle.hill.specs.Summary.{Part, blank, part, spoilt, whole, start, end, opened, verdict, peak}
 use Rattle.hill.specs.Merge.{mergeVerdict, mergePart, mergeSummary}
@@ -119,7 +119,7 @@ module _ (m : ℕ) where
 
     -- "The lowest of these faults, the left's start, the right's end, opened added and cut to 100,001."
     pub after-part : {q : Numbers} {f k o : ℕ} → SaysPart m q s →
-        verdictOf f ≡ low (verdictOf (q .fault)) (low (verdictOf (p .fault)) (low (between (q .end) (p .start)) (count (q .opened + p .opened)))) →
+        verdictOf f ≡ low (verdictOf (q .fault)) (low (verdictOf (p .fault)) (low (joint (q .end) (p .start)) (count (q .opened + p .opened)))) →
         k ≡ min (q .peak) (p .peak) → o ≡ cut (q .opened + p .opened) → SaysPart m (numbers f (q .start) k (p .end) o) (mergeSummary 𝒜 s t)
     after-part {q} {f} {k} {o} g ef ek eo =
         let l = g .says in
@@ -141,7 +141,7 @@ module _ (m : ℕ) where
       where
         lowest : (a b : Part (𝒜 .Fig) Amounts) → mergeVerdict 𝒜 a b ≡ pass → k ≡ min (q .peak) (p .peak) → (verdict a ≡ pass → q .peak ≡ peak 𝒜 a) → (verdict b ≡ pass → p .peak ≡ peak 𝒜 b) → k ≡ peak 𝒜 (mergePart 𝒜 a b)
         lowest a b v ek ea eb =
-            let x = low-fst (verdict a) (low (verdict b) (low (between (end a) (start b)) (count (opened a + opened b)))) v in
-            let y = low-snd (verdict a) (low (verdict b) (low (between (end a) (start b)) (count (opened a + opened b)))) v in
-            let z = low-fst (verdict b) (low (between (end a) (start b)) (count (opened a + opened b))) y in
+            let x = low-fst (verdict a) (low (verdict b) (low (joint (end a) (start b)) (count (opened a + opened b)))) v in
+            let y = low-snd (verdict a) (low (verdict b) (low (joint (end a) (start b)) (count (opened a + opened b)))) v in
+            let z = low-fst (verdict b) (low (joint (end a) (start b)) (count (opened a + opened b))) y in
             rw v (ek ∙ ap₂ min (ea x) (eb z))

@@ -8,7 +8,7 @@ ghost use Rattle.gate.specs.Outcome.{written, bufferAfter};
 ghost use Rattle.gate.specs.Answers.{writtenAnswer, lengthAnswered};
 ghost use Rattle.row.specs.Row.{rowPieces};
 ghost use Rattle.figure.specs.Mode.{modeOf};
-ghost use Rattle.hill.specs.Verdict.{low, between, count, cut};
+ghost use Rattle.hill.specs.Verdict.{low, joint, count, cut};
 ghost use Rattle.hill.specs.Summary.{blank};
 ghost use Rattle.hill.specs.Merge.{mergeSummary};
 ghost use Rattle.summary.specs.Judge.{IsSummary};
@@ -65,7 +65,7 @@ fn lower_level(a: u16, b: u16) -> u16
 // "The lowest of these faults": the left's, the right's and those of the join.
 fn merge_fault(a: Numbers, b: Numbers) -> u8
     requires { ⌜ (a .opened ≤ 100001) × (b .opened ≤ 100001) ⌝ }
-    ensures { λ r. ⌜ verdictOf r ≡ low (verdictOf (a .fault)) (low (verdictOf (b .fault)) (low (between (a .end) (b .start)) (count (a .opened + b .opened)))) ⌝ }
+    ensures { λ r. ⌜ verdictOf r ≡ low (verdictOf (a .fault)) (low (verdictOf (b .fault)) (low (joint (a .end) (b .start)) (count (a .opened + b .opened)))) ⌝ }
 {
     let join = fault::lower(
         fault::joint(a.end, b.start),

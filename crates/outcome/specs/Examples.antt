@@ -14,7 +14,7 @@ use Rattle.figure.specs.declared.Held.the-variants.{Nothing}
 use Rattle.figure.specs.Run.{atLeast}
 use Rattle.figure.specs.Runs.{moved}
 use Rattle.figure.specs.Mode.{modeOf, modeInUse}
-use Rattle.hill.specs.Verdict.{between, count, ends}
+use Rattle.hill.specs.Verdict.{joint, count, ends}
 use Rattle.hill.specs.Summary.{Summary, hill, blank, part, spoilt, whole}
 use Rattle.summary.specs.Layout.{layout, encode}
 use Rattle.summary.specs.Judge.{sumTo, nothingIn, counted}
@@ -62,7 +62,7 @@ lowest-fault : (workOutcome (two (λ z. z) 1 (part (whole 0 1 (hill [] (pos 0) (
     × (workOutcome (two (λ z. z) 1 (part (whole 0 1 (hill [] (pos 0) ((ten, pos 0) ∷ [])))) blank) ≡ refused 11)
     × (workOutcome (two (λ z. z) 1 (part (spoilt 8 0 0 2)) (part (spoilt 7 1 2 2))) ≡ refused 7)
     × (runsOutcome (two (λ z. z) 1 (part (whole 0 2 (hill [] (pos 0) ((ten, pos 0) ∷ (ten, pos 0) ∷ [])))) (part (whole 1 0 (hill (pos 0 ∷ []) (pos 0) [])))) 0 ≡ refused 11)
-unfolding ten two leAt bytesOf firstLength piecesIn rowPieces within inRange modeInUse modeOf between count ends encode decode sumTo nothingIn counted isStamp allTo layoutFits spoiltFits levelsFit openedFits middleFits recordsFit valuesFit hillFits isSummary leftOpen upTo downFrom select depthsJoined lineFor planOf flatMap folded levelsDown runLevels runsAlong runOn middlesAt outcomesAt given worked step through twoTo64 askRow askLog runBytes runsBytes workAlong runsOutcome workOutcome
+unfolding ten two leAt bytesOf firstLength piecesIn rowPieces within inRange modeInUse modeOf joint count ends encode decode sumTo nothingIn counted isStamp allTo layoutFits spoiltFits levelsFit openedFits middleFits recordsFit valuesFit hillFits isSummary leftOpen upTo downFrom select depthsJoined lineFor planOf flatMap folded levelsDown runLevels runsAlong runOn middlesAt outcomesAt given worked step through twoTo64 askRow askLog runBytes runsBytes workAlong runsOutcome workOutcome
 lowest-fault = (refl, refl, refl, refl)
 
 -- open 0 value 10, open 1 value 10, cut, close 1, close 0: one line, two levels. In mode 2 there is no other figure on the way, and nothing is stored as
@@ -76,5 +76,5 @@ nothing-in-run : (planOutcome opened-closed 12 ≡ result (12 ∷ 0 ∷ 19 ∷ 0
     × (runsOutcome opened-closed 30 ≡ result (30 ∷ 0 ∷ 20 ∷ 0 ∷ 2 ∷ 0 ∷ 20 ∷ 0 ∷ 0 ∷ 0 ∷ 0 ∷ 0 ∷ 0 ∷ 0 ∷ 0 ∷ 0 ∷ 0 ∷ 0 ∷ 0 ∷ 0 ∷ 0 ∷ 128 ∷ 20 ∷ 0 ∷ 0 ∷ 0 ∷ 0 ∷ 0 ∷ 0 ∷ 0 ∷ []))
     × (runsOutcome opened-closed 29 ≡ refused 12)
     × (workOutcome opened-closed ≡ result (record { figure = pos 20; joins = 1; levels = 2 }))
-unfolding ten two opened-closed leAt bytesOf maxZ lift lineOf storeHeld readHeld atLeast moved runOn firstLength piecesIn rowPieces within inRange modeInUse modeOf between count ends encode decode sumTo nothingIn counted isStamp allTo layoutFits spoiltFits levelsFit openedFits middleFits recordsFit valuesFit hillFits isSummary leftOpen upTo downFrom select depthsJoined lineFor planOf flatMap folded levelsDown runLevels runsAlong middlesAt outcomesAt given worked step through twoTo64 askRow askLog lineBytes planBytes runBytes runsBytes workAlong planOutcome runsOutcome workOutcome
+unfolding ten two opened-closed leAt bytesOf maxZ lift lineOf storeHeld readHeld atLeast moved runOn firstLength piecesIn rowPieces within inRange modeInUse modeOf joint count ends encode decode sumTo nothingIn counted isStamp allTo layoutFits spoiltFits levelsFit openedFits middleFits recordsFit valuesFit hillFits isSummary leftOpen upTo downFrom select depthsJoined lineFor planOf flatMap folded levelsDown runLevels runsAlong middlesAt outcomesAt given worked step through twoTo64 askRow askLog lineBytes planBytes runBytes runsBytes workAlong planOutcome runsOutcome workOutcome
 nothing-in-run = (refl, refl, refl, refl, refl)

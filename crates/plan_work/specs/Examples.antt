@@ -4,7 +4,7 @@ use mathlib.Core.List.{List, [], _∷_, flatMap}
 use Prim.Native.Nat.{ℕ, _+_, _*_}
 use Rattle.algebra.specs.Algebra.{Algebra}
 use Rattle.algebra.specs.Run.{step, through}
-use Rattle.hill.specs.Verdict.{pass, between, count, cut, ends}
+use Rattle.hill.specs.Verdict.{pass, joint, count, cut, ends}
 use Rattle.hill.specs.Summary.{hill, Summary, whole, blank, part}
 use Rattle.gate.specs.Outcome.{result}
 use Rattle.hill.specs.Finish.{finishOf}
@@ -36,7 +36,7 @@ unfolding two planOf flatMap leftOpen upTo downFrom select depthsJoined lineFor 
 two-work = refl
 
 two-finish : finishOf stamp (mergeRow stamp two) ≡ result 258
-unfolding two between count cut ends
+unfolding two joint count cut ends
 two-finish = refl
 
 -- Five chunks: up 3; down 1 with a record at the peak, up 1; a blank; down 2 likewise, up 1; down 2. The x of line 3 has a middle value and an outcome.
@@ -52,7 +52,7 @@ unfolding five planOf flatMap leftOpen upTo downFrom select depthsJoined lineFor
 five-plan = refl
 
 five-gate : rowFault five ≡ pass
-unfolding five between count ends
+unfolding five joint count ends
 five-gate = refl
 
 five-work : workOf stamp five ≡ record { figure = 274825; joins = 5; levels = 5 }
@@ -60,5 +60,5 @@ unfolding five planOf flatMap leftOpen upTo downFrom select depthsJoined lineFor
 five-work = refl
 
 five-finish : finishOf stamp (mergeRow stamp five) ≡ result 274825
-unfolding five between count cut ends
+unfolding five joint count cut ends
 five-finish = refl

@@ -1,7 +1,7 @@
 -- The questions that the gate puts to a row of summaries, 7 to 11: definitions only. Assumes nothing.
 use mathlib.Core.List.{List, [], _∷_}
 use Prim.Native.Nat.{ℕ, _+_}
-use Rattle.hill.specs.Verdict.{Verdict, pass, refuse, low, between, count, ends}
+use Rattle.hill.specs.Verdict.{Verdict, pass, refuse, low, joint, count, ends}
 use Rattle.hill.specs.Summary.{Part, Summary, blank, part, verdict, start, end, opened}
 
 module _ {Fig R : Type 0} where
@@ -19,7 +19,7 @@ module _ {Fig R : Type 0} where
   -- Questions 7 and 8, where two neighbours are joined.
   abbrev pub joinFault : Part Fig R → List (Part Fig R) → Verdict
   joinFault a [] = pass
-  joinFault a (b ∷ bs) = low (between (end a) (start b)) (joinFault b bs)
+  joinFault a (b ∷ bs) = low (joint (end a) (start b)) (joinFault b bs)
 
   -- The records that they open.
   abbrev pub totalOpened : List (Part Fig R) → ℕ

@@ -7,8 +7,8 @@ use native.Mathlib.Omega.{arith}
 use mathlib.Core.Bool.{Bool, true, false}
 use lib.Dec.{leb}
 use Rattle.algebra.specs.Algebra.{Algebra, Laws}
-use Rattle.hill.specs.Verdict.{Verdict, pass, refuse, lower, low, ask, between, count, ends}
-use Rattle.hill.specs.VerdictLaws.{low-pass, low-assoc, low-left, low-fst, low-snd, between-pass, between-high, ends-pass, refuse-pass, count-cut-r, count-absorb, count-few}
+use Rattle.hill.specs.Verdict.{Verdict, pass, refuse, lower, low, ask, joint, count, ends}
+use Rattle.hill.specs.VerdictLaws.{low-pass, low-assoc, low-left, low-fst, low-snd, joint-pass, joint-high, ends-pass, refuse-pass, count-cut-r, count-absorb, count-few}
 use Rattle.hill.specs.Summary.{Part, spoilt, whole, Summary, blank, part, rise, fall, middle, verdict, start, end, opened}
 use Rattle.hill.specs.Merge.{mergePart, mergeSummary}
 use Rattle.hill.specs.Finish.{outcome, finishOf}
@@ -76,7 +76,7 @@ module _ {R : Type 0} (𝒜 : Algebra R) where
     verdict-parts a (part b ∷ row) f g =
         let bs : List (Part Fig R) = partsOf row in
         rw (verdict-merge 𝒜 a (mergeParts b bs), verdict-parts b row (g .0) (g .1), start-parts b bs, count-parts (opened a) b bs)
-        (gather (verdict a) (spoiltFault (b ∷ bs)) (joinFault b bs) (count (totalOpened (b ∷ bs))) (between (end a) (start b)) (count (totalOpened (a ∷ (b ∷ bs))))
+        (gather (verdict a) (spoiltFault (b ∷ bs)) (joinFault b bs) (count (totalOpened (b ∷ bs))) (joint (end a) (start b)) (count (totalOpened (a ∷ (b ∷ bs))))
         (count-absorb (totalOpened (b ∷ bs)) (totalOpened (a ∷ (b ∷ bs))) (omega arith)))
 
     -- THE GATE OF A ROW: finishing the merged row answers the row's fault, or the middle value.
@@ -120,10 +120,10 @@ module _ {Fig R : Type 0} where
   chain a (blank ∷ row) s j e = chain a row s j e
   chain a (part (spoilt f b c o) ∷ row) s j e = absurd (refuse-pass s)
   chain a (part (whole p o h) ∷ row) s j e =
-      let q : between (end a) (p + rise h) ≡ pass = low-fst (between (end a) (p + rise h)) (joinFault (whole p o h) (partsOf row)) j in (
-        between-high (end a) (p + rise h) q,
-        sym (between-pass (end a) (p + rise h) q),
-        chain (whole p o h) row s (low-snd (between (end a) (p + rise h)) (joinFault (whole p o h) (partsOf row)) j) e,
+      let q : joint (end a) (p + rise h) ≡ pass = low-fst (joint (end a) (p + rise h)) (joinFault (whole p o h) (partsOf row)) j in (
+        joint-high (end a) (p + rise h) q,
+        sym (joint-pass (end a) (p + rise h) q),
+        chain (whole p o h) row s (low-snd (joint (end a) (p + rise h)) (joinFault (whole p o h) (partsOf row)) j) e,
       )
 
   pub row-begins : (row : List (Summary Fig R)) → rowFault row ≡ pass → Begins row

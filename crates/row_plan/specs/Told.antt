@@ -5,7 +5,7 @@ use mathlib.Core.List.{List, [], _∷_}
 use Prim.Native.Nat.{ℕ, zero, suc, _+_, _≤_}
 use lib.Dec.{eqb}
 use lib.ListN.{getD}
-use Rattle.hill.specs.Verdict.{Verdict, refuse, low, between, count, ends}
+use Rattle.hill.specs.Verdict.{Verdict, refuse, low, joint, count, ends}
 use Rattle.fault.specs.Fault.{noFault, verdictOf}
 use Rattle.hill.specs.Summary.{Summary, blank, part, verdict, start, end, opened}
 use Rattle.row_plan.specs.declared.faults.Span.{Span}
@@ -23,7 +23,7 @@ toldOf (part a) = tells (verdict a) (start a) (end a) (opened a)
 abbrev pub afterSome : (first last : ℕ) → Verdict → ℕ → List Told → Verdict
 afterSome first last v o [] = low (low v (count o)) (ends first last)
 afterSome first last v o (nothing ∷ ts) = afterSome first last v o ts
-afterSome first last v o (tells w s e n ∷ ts) = afterSome first e (low v (low w (between last s))) (o + n) ts
+afterSome first last v o (tells w s e n ∷ ts) = afterSome first e (low v (low w (joint last s))) (o + n) ts
 
 -- The lowest fault of a row.
 abbrev pub toldFault : List Told → Verdict

@@ -8,7 +8,7 @@ use native.Mathlib.Numerals.{add-one}
 use native.Mathlib.Omega.{arith}
 use borrow.Author.Tests.{ne-eqb}
 use lib.ListN.{length, getD}
-use Rattle.hill.specs.Verdict.{Verdict, low, between, count, ends}
+use Rattle.hill.specs.Verdict.{Verdict, low, joint, count, ends}
 use Rattle.hill.specs.VerdictLaws.{low-assoc, low-left}
 use Rattle.fault.specs.Fault.{noFault, verdictOf}
 use Rattle.hill.specs.Summary.{Summary, Part, blank, part, verdict, start, end, opened}
@@ -47,7 +47,7 @@ pub pass-first : (s : Span) (state start end o own : ℕ) → s .seen ≡ false 
 unfolding onwardFrom
 pass-first s state start end o own z h e = rw (told-part state start end o own h e) record { is = λ ts. rw z; opened = omega arith }
 
-pub pass-next : (s : Span) (state start end o own fault sum : ℕ) → s .seen ≡ true → ¬ (state ≡ 0) → own ≡ ownFault state → verdictOf fault ≡ low (verdictOf (s .fault)) (low (verdictOf own) (between (s .last) start)) →
+pub pass-next : (s : Span) (state start end o own fault sum : ℕ) → s .seen ≡ true → ¬ (state ≡ 0) → own ≡ ownFault state → verdictOf fault ≡ low (verdictOf (s .fault)) (low (verdictOf own) (joint (s .last) start)) →
     sum ≡ s .opened + o → Passed s (toldFrom state start end o) o (span true (s .first) end fault sum)
 unfolding onwardFrom
 pass-next s state start end o own fault sum z h e f g = rw (told-part state start end o own h e) record { is = λ ts. rw (z, f, g); opened = omega arith }
@@ -82,9 +82,9 @@ module _ {Fig R : Type 0} where
   after-some first v o a [] = rw (add-zero o)
   after-some first v o a (blank ∷ row) = after-some first v o a row
   after-some first v o a (part b ∷ row) =
-      after-some first (low v (low (verdict b) (between (end a) (start b)))) (o + opened b) b row ∙
-      ap (λ (n : ℕ). low (low (low v (low (verdict b) (between (end a) (start b)))) (low (spoiltFault (partsOf row)) (low (joinFault b (partsOf row)) (count n)))) (ends first (lastEnd b (partsOf row)))) (add-assoc o (opened b) (totalOpened (partsOf row))) ∙
-      regroup v (verdict b) (between (end a) (start b)) (spoiltFault (partsOf row)) (joinFault b (partsOf row)) (count (o + (opened b + totalOpened (partsOf row)))) (ends first (lastEnd b (partsOf row)))
+      after-some first (low v (low (verdict b) (joint (end a) (start b)))) (o + opened b) b row ∙
+      ap (λ (n : ℕ). low (low (low v (low (verdict b) (joint (end a) (start b)))) (low (spoiltFault (partsOf row)) (low (joinFault b (partsOf row)) (count n)))) (ends first (lastEnd b (partsOf row)))) (add-assoc o (opened b) (totalOpened (partsOf row))) ∙
+      regroup v (verdict b) (joint (end a) (start b)) (spoiltFault (partsOf row)) (joinFault b (partsOf row)) (count (o + (opened b + totalOpened (partsOf row)))) (ends first (lastEnd b (partsOf row)))
 
   -- THE ROW'S FAULT
   pub fault-row : (row : List (Summary Fig R)) → toldFault (map toldOf row) ≡ rowFault row

@@ -5,8 +5,8 @@ use mathlib.Core.List.{List, [], _∷_, _++_}
 use Prim.Native.Nat.{ℕ, _+_, _≤_}
 use native.Mathlib.Omega.{arith}
 use lib.Dec.{T}
-use Rattle.hill.specs.Verdict.{pass, low, between}
-use Rattle.hill.specs.VerdictLaws.{low-fst, low-snd, between-pass}
+use Rattle.hill.specs.Verdict.{pass, low, joint}
+use Rattle.hill.specs.VerdictLaws.{low-fst, low-snd, joint-pass}
 use Rattle.hill.specs.Log.{Record, startLevel, endLevel, endOf, opens, openedOf, joints}
 use Rattle.hill.specs.Growth.{grown}
 use Rattle.figure.specs.FourModes.{Amounts, net}
@@ -36,7 +36,7 @@ module _ (y : Record Amounts) {from to o : ℕ} (es : startLevel y ≡ from) (ee
   first [] b s = record { begun = refl; start = sym es; level = sym ee; fault = clear noFault (omega arith); opened = omega arith }
   first (x ∷ xs) b s = absurd (not-both (s .begun) (not-begun (t .begun) b))
 
-  pub further : (xs : List (Record Amounts)) (f j : ℕ) → not (t .begun) ≡ false → verdictOf f ≡ low (verdictOf (t .fault)) (verdictOf j) → verdictOf j ≡ between (t .level) from → Tallied xs t
+  pub further : (xs : List (Record Amounts)) (f j : ℕ) → not (t .begun) ≡ false → verdictOf f ≡ low (verdictOf (t .fault)) (verdictOf j) → verdictOf j ≡ joint (t .level) from → Tallied xs t
       → Tallied (xs ++ (y ∷ [])) (tally (t .start) to f (t .opened + o))
   further [] f j b ef ej s = absurd (not-both (begun (t .begun) b) (s .begun))
   further (x ∷ xs) f j b ef ej s =
@@ -56,15 +56,15 @@ opened-is (x ∷ xs) t s = s .opened
 -- ---- where there is still no fault after one record more, there was none before it, and the two met
 
 module _ (y : Record Amounts) (u : Tally) (e : noFault ≤ u .fault) where
-  no-joint : (x : Record Amounts) (xs : List (Record Amounts)) → Tells x (xs ++ (y ∷ [])) u → low (joints x xs) (between (endOf x xs) (startLevel y)) ≡ pass
+  no-joint : (x : Record Amounts) (xs : List (Record Amounts)) → Tells x (xs ++ (y ∷ [])) u → low (joints x xs) (joint (endOf x xs) (startLevel y)) ≡ pass
   no-joint x xs s = sym (grown net x xs y .joint) ∙ clear-is (s .fault) e
 
   pub met : (x : Record Amounts) (xs : List (Record Amounts)) → Tells x (xs ++ (y ∷ [])) u → endOf x xs ≡ startLevel y
-  met x xs s = between-pass (endOf x xs) (startLevel y) (low-snd (joints x xs) (between (endOf x xs) (startLevel y)) (no-joint x xs s))
+  met x xs s = joint-pass (endOf x xs) (startLevel y) (low-snd (joints x xs) (joint (endOf x xs) (startLevel y)) (no-joint x xs s))
 
   pub faultless : (xs : List (Record Amounts)) (t : Tally) → Tallied xs t → Tallied (xs ++ (y ∷ [])) u → noFault ≤ t .fault
   faultless [] t s v = s .fault
-  faultless (x ∷ xs) t s v = is-clear (t .fault) (s .fault ∙ low-fst (joints x xs) (between (endOf x xs) (startLevel y)) (no-joint x xs v))
+  faultless (x ∷ xs) t s v = is-clear (t .fault) (s .fault ∙ low-fst (joints x xs) (joint (endOf x xs) (startLevel y)) (no-joint x xs v))
 
 pub joints-pass : (x : Record Amounts) (xs : List (Record Amounts)) (t : Tally) → Tells x xs t → noFault ≤ t .fault → joints x xs ≡ pass
 joints-pass x xs t s e = clear-is (s .fault) e

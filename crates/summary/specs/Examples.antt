@@ -11,7 +11,7 @@ use Rattle.record.specs.Record.{within, inRange, accepted, whole, byShape, read
 use Rattle.record.specs.Examples.{logD}
 use Rattle.figure.specs.FourModes.{isStamp}
 use Rattle.figure.specs.Mode.{modeOf, modeInUse}
-use Rattle.hill.specs.Verdict.{between, count, cut, ends}
+use Rattle.hill.specs.Verdict.{joint, count, cut, ends}
 use Rattle.summary.specs.Layout.{encode}
 use Rattle.summary.specs.Judge.{sumTo, nothingIn, counted}
 use Rattle.summary.specs.Decode.{decode}
@@ -32,11 +32,11 @@ rightD =
     0 ∷ 0 ∷ 0 ∷ 0 ∷ 0 ∷ 0 ∷ 0 ∷ 0 ∷ []
 
 left-summary : summariseOutcome (take 36 logD) 1 64 ≡ result leftD
-unfolding leftD leAt bytesOf within inRange accepted whole byShape readOf recordsIn recordsOf modeInUse modeOf between count cut ends encode summaryBytes summariseOutcome
+unfolding leftD leAt bytesOf within inRange accepted whole byShape readOf recordsIn recordsOf modeInUse modeOf joint count cut ends encode summaryBytes summariseOutcome
 left-summary = refl
 
 right-summary : summariseOutcome (drop 36 logD) 1 40 ≡ result rightD
-unfolding rightD leAt bytesOf within inRange accepted whole byShape readOf recordsIn recordsOf modeInUse modeOf between count cut ends encode summaryBytes summariseOutcome
+unfolding rightD leAt bytesOf within inRange accepted whole byShape readOf recordsIn recordsOf modeInUse modeOf joint count cut ends encode summaryBytes summariseOutcome
 right-summary = refl
 
 accepted-D : (isSummary leftD ≡ true) × (isSummary rightD ≡ true)
@@ -48,7 +48,7 @@ wholeD : List ℕ
 wholeD = 24 ∷ 0 ∷ 18 ∷ 0 ∷ 1 ∷ 0 ∷ 0 ∷ 0 ∷ 0 ∷ 0 ∷ 0 ∷ 0 ∷ 3 ∷ 0 ∷ 0 ∷ 0 ∷ 12 ∷ 0 ∷ 0 ∷ 0 ∷ 0 ∷ 0 ∷ 0 ∷ 0 ∷ []
 
 merged-D : mergeOutcome leftD rightD 24 ≡ result wholeD
-unfolding leftD rightD wholeD leAt bytesOf within inRange modeInUse modeOf between count cut encode decode sumTo nothingIn counted isStamp allTo layoutFits spoiltFits levelsFit openedFits middleFits recordsFit valuesFit hillFits isSummary mergeBytes mergeOutcome
+unfolding leftD rightD wholeD leAt bytesOf within inRange modeInUse modeOf joint count cut encode decode sumTo nothingIn counted isStamp allTo layoutFits spoiltFits levelsFit openedFits middleFits recordsFit valuesFit hillFits isSummary mergeBytes mergeOutcome
 merged-D = refl
 
 finish-D : (finishOutcome wholeD ≡ result (pos 12)) × (finishOutcome rightD ≡ refused 11)

@@ -54,9 +54,9 @@ pub fn day(log: &[u8]) -> Result<[i64; 4], u8> {
     numbers(|figures| raw::day(log, figures))
 }
 
-/// The day program, as `rt check tally` makes it.
+/// The day program, as `rt check day_program` makes it.
 pub fn program() -> PathBuf {
-    Path::new(env!("CARGO_MANIFEST_DIR")).join("../../target/bin/tally")
+    Path::new(env!("CARGO_MANIFEST_DIR")).join("../../target/bin/day_program")
 }
 
 /// What the day program prints for a log. It must not complain.
@@ -66,7 +66,7 @@ pub fn day_text(log: &[u8]) -> Vec<u8> {
         .stdout(Stdio::piped())
         .stderr(Stdio::piped())
         .spawn()
-        .expect("target/bin/tally, as `rt check tally` makes it");
+        .expect("target/bin/day_program, as `rt check day_program` makes it");
     let mut stdin = child.stdin.take().expect("standard input");
     // The program reads 65,537 bytes at most, so that the rest of a longer input may find nobody there.
     let _ = stdin.write_all(log);

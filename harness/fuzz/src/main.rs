@@ -6,15 +6,15 @@
 //! Rounds go by rising seed from S on until N seconds have passed, R rounds are made or too many differences are found. A
 //! difference is printed with the words that replay it, and makes the exit status 1.
 
+mod answers;
 mod calls;
 mod inputs;
-mod tally;
 
+use answers::{compared, put, Answers};
 use calls::CALLS;
 use std::process::ExitCode;
 use std::sync::atomic::{AtomicU64, Ordering};
 use std::time::{Duration, Instant};
-use tally::{compared, put, Answers};
 
 const USAGE: &str = "usage: fuzz [--seconds N] [--seed S] [--threads T] [--rounds R] | fuzz --replay CALL MODE BYTES BYTES";
 

@@ -4,7 +4,7 @@ use mathlib.Core.Bool.{Bool, true, false}
 use Prim.Native.Nat.{ℕ}
 use lib.Dec.{eqb}
 use borrow.Author.Needs.{needs}
-use Rattle.hill.specs.Verdict.{Verdict, ask, between}
+use Rattle.hill.specs.Verdict.{Verdict, ask, joint}
 use Rattle.day.specs.Levels.{meeting}
 use Rattle.day.proofs.meet.Statement.{statement}
 use Rattle.day.proofs.meet.Tie as tie
@@ -13,7 +13,7 @@ module _ {begun : Bool} {v : Verdict} (l s : ℕ) where
   first : begun ≡ false → v ≡ ask 11 (eqb s 0) → v ≡ meeting begun l s
   first b e = rw b e
 
-  later : begun ≡ true → v ≡ between l s → v ≡ meeting begun l s
+  later : begun ≡ true → v ≡ joint l s → v ≡ meeting begun l s
   later b e = rw b e
 
 joint-requires : tie.Need-joint-requires

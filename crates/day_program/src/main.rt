@@ -21,7 +21,7 @@ fn main() {
     let n = io::read_full(STDIN_FILENO, &mut log);
     if n < 65537 {
         if !is_at_end() {
-            io::write_all(STDERR_FILENO, b"tally: standard input cannot be read\n");
+            io::write_all(STDERR_FILENO, b"day: standard input cannot be read\n");
             return;
         }
     }

@@ -1,4 +1,4 @@
--- `tally::print_day` is safe: the line lies within its buffer. Assumes nothing.
+-- `day_program::print_day` is safe: the line lies within its buffer. Assumes nothing.
 use mathlib.Core.Path.{_≡_, ap}
 use mathlib.Core.List.{List}
 use Prim.Native.Nat.{ℕ, _≤_}
@@ -6,8 +6,8 @@ use native.Mathlib.Omega.{arith}
 use lib.ListN.{length, take, length-take}
 use lib.Seq.{length-sets}
 use borrow.Author.Needs.{needs}
-use Rattle.tally.proofs.print_day.Statement.{statement}
-use Rattle.tally.proofs.print_day.Tie as tie
+use Rattle.day_program.proofs.print_day.Statement.{statement}
+use Rattle.day_program.proofs.print_day.Tie as tie
 
 -- the buffer keeps its length
 within : (c : tie.After-text) → c .text .result ≤ length (c .text .last .1 .0)
