@@ -5,4 +5,3 @@ pub mod TallyLaws
 pub mod ScanLaws
 pub mod AnsweredLaws
 pub mod CallLaws
-pub mod FinishLaws

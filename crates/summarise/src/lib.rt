@@ -1,28 +1,24 @@
-// A chunk's summary, and what a summary comes to as that of a whole log.
+// Summarising a chunk in a mode: questions 1, 2, 3 and 12. Document 01, "Summaries".
 ghost use mathlib.Core.Path.{_≡_};
 ghost use mathlib.Core.List.{List, [], _∷_, _++_};
 ghost use Prim.Native.Nat.{ℕ, _≤_};
 ghost use lib.ListN.{length};
 ghost use Rattle.hill.specs.Log.{Record, startLevel, endLevel, opens as openedBy};
-ghost use Rattle.hill.specs.Verdict.{ends};
 ghost use Rattle.hill.specs.Summary.{summaryOf};
-ghost use Rattle.hill.specs.Finish.{outcome};
-ghost use Rattle.figure.specs.FourModes.{Amounts, storeHeld};
+ghost use Rattle.figure.specs.FourModes.{Amounts};
 ghost use Rattle.figure.specs.Mode.{modeOf};
 ghost use Rattle.figure.specs.Stored.{amounts};
 ghost use Rattle.slopes.specs.Actions.{entry};
 ghost use Rattle.gate.specs.Outcome.{bufferAfter, written};
-ghost use Rattle.gate.specs.Answers.{writtenAnswer, lengthAnswered, finishedAnswer};
-ghost use Rattle.summary.specs.Outcomes.{summariseOutcome, summaryBytes, finishOutcome};
+ghost use Rattle.gate.specs.Answers.{writtenAnswer, lengthAnswered};
+ghost use Rattle.summary.specs.Outcomes.{summariseOutcome, summaryBytes};
 ghost use Rattle.slopes.specs.Arrays.{Arrays, arrays, Arrays64};
 ghost use Rattle.summarise.specs.Tallies.{Tallied};
 ghost use Rattle.summarise.specs.Scans.{Grows, Grown, Summed, Scanned, Concludes};
 ghost use Rattle.emit.specs.Emitted.{Said, Answers};
-use gate::Finished;
 use gate::Written;
 use judge::Head;
 use judge::HillHead;
-use judge::Judged;
 use judge::SpoiltHead;
 use record::Fields;
 use record::Read;
@@ -227,33 +223,4 @@ pub fn summarise(chunk: &[u8], mode: u32, out: &mut [u8]) -> Written
         return Written::Refused(3);
     };
     conclude(m, t, &left, &values, &floors, &ceilings, &held, c, out)
-}
-
-// ---- what a summary comes to as that of a whole log
-
-// Question 11 of a hill, and its middle value.
-fn finish_hill(h: HillHead) -> Finished
-    ensures { λ r. ⌜ finishedAnswer r ≡ outcome (ends (h .start) (h .end)) (storeHeld (h .middle)) ⌝ }
-{
-    let fault = fault::ends(h.start, h.end);
-    if fault < fault::NONE {
-        return Finished::Refused(fault);
-    }
-    let middle = h.middle;
-    Finished::Figure(figure::store_held(middle))
-}
-
-// The figure of the log whose summary this is, or the lowest of questions 5 and 7 to 11 that gets a "no".
-pub fn finish(summary: &[u8]) -> Finished
-    ensures { λ r. ⌜ finishedAnswer r ≡ finishOutcome (now (summary .entry)) ⌝ }
-{
-    let Judged::Summary(p) = judge::judge(summary) else {
-        return Finished::Refused(5);
-    };
-    let head = p.head;
-    match head {
-        Head::Blank => Finished::Refused(10),
-        Head::Spoilt(s) => Finished::Refused(s.fault as u8),
-        Head::Hill(h) => finish_hill(h),
-    }
 }

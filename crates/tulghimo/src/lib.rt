@@ -124,7 +124,7 @@ pub extern "C" fn tulghimo_finish(summary: &[u8], figure: &mut [i64; 1]) -> i64
     ensures answer { λ r. ⌜ r ≡ statusOf (finishOutcome (now (summary .entry))) ⌝ }
     ensures buffer { λ _. ⌜ now (figure .exit) ≡ figureAfter (finishOutcome (now (summary .entry))) (now (figure .entry)) ⌝ }
 {
-    let d = summarise::finish(summary);
+    let d = finish::finish(summary);
     match d {
         Finished::Figure(z) => put_figure(z, figure),
         Finished::Refused(n) => refusal(n),

@@ -1,4 +1,4 @@
--- `summarise::finish_hill` meets its contract. Assumes nothing.
+-- `finish::finish_hill` meets its contract. Assumes nothing.
 use borrow.Author.Needs.{needs}
 use mathlib.Core.Path.{sym, ap, _∙_}
 use lib.IntN.{ℤ}
@@ -10,8 +10,8 @@ use Rattle.hill.specs.Verdict.{Verdict}
 use Rattle.hill.specs.Finish.{outcome}
 use Rattle.figure.specs.FourModes.{storeHeld}
 use Rattle.judge.specs.declared.HillHead.{HillHead}
-use Rattle.summarise.proofs.finish_hill.Statement.{statement}
-use Rattle.summarise.proofs.finish_hill.Tie as tie
+use Rattle.finish.proofs.finish_hill.Statement.{statement}
+use Rattle.finish.proofs.finish_hill.Tie as tie
 
 abbrev finished : HillHead → Verdict → Outcome ℤ
 finished h v = outcome v (storeHeld (h .middle))

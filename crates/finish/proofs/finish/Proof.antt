@@ -1,12 +1,12 @@
--- `summarise::finish` meets its contract: each case of the summary. Assumes nothing.
+-- `finish::finish` meets its contract: each case of the summary. Assumes nothing.
 use borrow.Author.Needs.{needs}
 use mathlib.Core.Path.{_∙_}
 use native.Mathlib.Omega.{arith}
 use denote.Ref.{now}
 use Rattle.judge.specs.Laws.{Judges, judges, judges-not}
-use Rattle.summarise.specs.FinishLaws.{not-one, is-blank, fault-small, is-spoilt, is-hill}
-use Rattle.summarise.proofs.finish.Statement.{statement}
-use Rattle.summarise.proofs.finish.Tie as tie
+use Rattle.finish.specs.Laws.{not-one, is-blank, fault-small, is-spoilt, is-hill}
+use Rattle.finish.proofs.finish.Statement.{statement}
+use Rattle.finish.proofs.finish.Tie as tie
 
 -- the bytes are the summary that was told
 judged : (c : tie.After-p) → Judges (now (c .before .before .before .before .args .summary)) (c .p .given .0 .0)

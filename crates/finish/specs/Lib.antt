@@ -1,0 +1,2 @@
+-- What finish comes to, by the head of the summary.
+pub mod Laws
