@@ -30,7 +30,7 @@ pub fn read_u32(s: &[u8], at: usize) -> u32
     (read_u16(s, at) as u32) + (read_u16(s, at + 2) as u32) * 65536
 }
 
-pub fn read_u64(s: &[u8], at: usize) -> u64
+fn read_u64(s: &[u8], at: usize) -> u64
     requires { ⌜ at + 8 ≤ length (now s) ⌝ }
     ensures { λ r. ⌜ r ≡ leAt 8 (now (s .entry)) at ⌝ }
 {
@@ -38,7 +38,7 @@ pub fn read_u64(s: &[u8], at: usize) -> u64
 }
 
 // The number whose bits are those of x.
-pub fn signed_32(x: u32) -> i32
+fn signed_32(x: u32) -> i32
     ensures { λ r. ⌜ r ≡ toZ w32 x ⌝ }
 {
     if x < 0x8000_0000 {
@@ -48,7 +48,7 @@ pub fn signed_32(x: u32) -> i32
     }
 }
 
-pub fn signed_64(x: u64) -> i64
+fn signed_64(x: u64) -> i64
     ensures { λ r. ⌜ r ≡ toZ w64 x ⌝ }
 {
     if x < 0x8000_0000_0000_0000 {
@@ -109,7 +109,7 @@ pub fn write_u32(s: &mut [u8], at: usize, x: u32)
     write_u16(s, at + 2, (x / 65536) as u16);
 }
 
-pub fn write_u64(s: &mut [u8], at: usize, x: u64)
+fn write_u64(s: &mut [u8], at: usize, x: u64)
     requires { ⌜ at + 8 ≤ length (now s) ⌝ }
     ensures { λ _. ⌜ now (s .exit) ≡ putAt 8 (now (s .entry)) at x ⌝ }
 {
@@ -137,7 +137,7 @@ pub fn max(a: i64, b: i64) -> i64
     if a <= b { b } else { a }
 }
 
-pub fn min(a: i64, b: i64) -> i64
+fn min(a: i64, b: i64) -> i64
     ensures { λ r. ⌜ r ≡ minZ a b ⌝ }
 {
     if a <= b { a } else { b }

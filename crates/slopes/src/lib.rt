@@ -68,7 +68,7 @@ pub fn close_top(
 }
 
 // The deepest record is closed; where none is open, the level is left and its value with it.
-pub fn close(
+fn close(
     mode: u16,
     left: &mut [i64; 64],
     values: &[i32; 64],

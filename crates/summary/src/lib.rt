@@ -1,1 +1,1 @@
-// The bytes of a summary. It all stands in specs/ so far.
+// The bytes of a summary, question 5 on them, and what summarise, merge and finish come to: theory. It all stands in specs/.

@@ -41,7 +41,7 @@ fn write_digits(out: &mut [u8], at: usize, n: u64) -> usize
 
 // A minus where x is negative, and the digits; the answer is where the text ends. The magnitude of a negative number is taken from its
 // bits, since that of the least one does not fit an i64.
-pub fn write_decimal(out: &mut [u8], at: usize, x: i64) -> usize
+fn write_decimal(out: &mut [u8], at: usize, x: i64) -> usize
     requires { ⌜ at + length (decimalOf x) ≤ length (now out) ⌝ }
     ensures answer { λ r. ⌜ r ≡ at + length (decimalOf x) ⌝ }
     ensures buffer { λ _. ⌜ now (out .exit) ≡ sets (now (out .entry)) at (decimalOf x) ⌝ }
