@@ -81,10 +81,6 @@ module _ {R : Type 0} {𝒜 : Algebra R} {Sound : R → Type 0} (𝒮 : Sizes �
   levels-cost (u ∷ us) [] = omega arith
   levels-cost (u ∷ us) (y ∷ ys) = omega (arith, levels-cost us ys)
 
-  -- What is closed is no larger than the unclosed records and all the values that went in.
-  pub size-closed : (us : List (R × Fig)) (ys : List Fig) (x : Fig) → AllSoundOpen us → size (through 𝒜 (levelsOf us ys) x) ≤ size x + (sizesOpen us + sizes ys)
-  size-closed us ys x s = omega (arith, size-through (levelsOf us ys) x (levels-sound us ys s), levels-cost us ys)
-
 -- The same of a run's numbers: `Within k n` says that each of them is at most n.
 pub record RunSizes {R : Type 0} {𝒜 : Algebra R} {Sound : R → Type 0} (C : Context 𝒜 Sound) (𝒮 : Sizes 𝒜 Sound) : Type 1 where
   pub Within : C .K → ℕ → Type 0

@@ -58,11 +58,6 @@ module _ {R : Type 0} (𝒜 : Algebra R) where
   close-push : (e : R × Fig) (d : List (R × Fig)) (a : Hill Fig R) → close (push (e ∷ d) a) ≡ join (node (e .0) (e .1)) (push d a)
   close-push e d (hill u m f) = refl
 
-  -- One turn of a merge loop that carries the outcome x from deeper, where the left still has an unclosed record, and where it has none.
-  pub carry : (x l : Fig) (u : List Fig) (m : Fig) (e : R × Fig) (d : List (R × Fig)) →
-      close (join l (join x (hill u m (e ∷ d)))) ≡ join (node (e .0) (e .1 ⊗ x ⊗ l)) (hill u m d)
-  carry x l u m e d = refl
-
   pub run-append : (a : Hill Fig R) (xs ys : List (Record R)) → run a (xs ++ ys) ≡ run (run a xs) ys
   run-append a [] ys = refl
   run-append a (x ∷ xs) ys = run-append (step a x) xs ys

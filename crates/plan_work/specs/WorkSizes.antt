@@ -11,7 +11,7 @@ use native.Mathlib.Omega.{arith}
 use lib.Dec.{leb, eqb}
 use lib.ListN.{length, getD, take, drop}
 use Rattle.algebra.specs.Algebra.{Algebra, Laws, Commutative}
-use Rattle.algebra.specs.Run.{Level, step, through, AllSound}
+use Rattle.algebra.specs.Run.{Level, through, AllSound}
 use Rattle.algebra.specs.Sizes.{Sizes, costs, size-through}
 use Rattle.hill.specs.Verdict.{pass, count, ends}
 use Rattle.hill.specs.VerdictLaws.{low-fst, low-snd, count-pass, refuse-pass}
@@ -94,19 +94,6 @@ module _ {R : Type 0} (𝒜 : Algebra R) {Fine : R → Type 0} (𝒮 : Sizes �
     light-before B (e ∷ es) ds a = light-before B es (work 𝒜 row e ds ∷ ds) (subst (AllLight B) (worked-cons 𝒜 row e es ds) a) .1
 
   -- ---- the levels of a line
-
-  abbrev pub levelWith : R × Fig → Fig → Level 𝒜
-  levelWith e v = record { carried = e .0; before = e .1; after = v }
-
-  -- One level of a loop over the levels `all`, where e is its record, v the value after it and ls are the levels below: what the code computes stays
-  -- within B, and so does the figure with all that the levels below can add.
-  pub record LevelSpent (B : ℕ) (e : R × Fig) (v : Fig) (all ls : List (Level 𝒜)) (x : Fig) : Type 0 where
-    pub fine : Fine (e .0)
-    pub first : size (e .1 ⊗ x) ≤ B
-    pub inside : unit + size (e .1 ⊗ x ⊗ v) ≤ B
-    pub rest : size (step 𝒜 (levelWith e v) x) + costs 𝒮 ls ≤ B
-    pub goes : through 𝒜 all x ≡ through 𝒜 ls (step 𝒜 (levelWith e v) x)
-    pub sound : AllSound Fine ls
 
   level-costs : (k : ℕ) (d : List (R × Fig)) (v : Fig) (ls : List (Level 𝒜)) →
       costs 𝒮 (levelOf 𝒜 (drop k d) v ++ ls) + weightDown 𝒜 𝒮 (drop (suc k) d) ≤ weightDown 𝒜 𝒮 (drop k d) + size v + costs 𝒮 ls

@@ -10,8 +10,6 @@ use lib.ListN.{length}
 use borrow.Author.Tests.{le-leb, leb-true, eq-eqb}
 use Rattle.gate.specs.Outcome.{Outcome, result, question, onward, written}
 use Rattle.record.specs.Record.{recordsOf}
-use Rattle.record.specs.Laws.{onto}
-use Rattle.record.specs.Joined.{records-append}
 use Rattle.record.specs.Ranged.{AllInRange, records-in-range}
 use Rattle.record.specs.declared.Fields.{Fields}
 use Rattle.figure.specs.FourModes.{Amounts, InRange}
@@ -113,10 +111,6 @@ chunk-append (f ∷ fs) gs = ap (λ (xs : List (Record Amounts)). recordOf f ∷
 
 -- MERGE of two chunks' bytes: the summary of the joined chunk, however long that is.
 module _ (a b : List ℕ) (m cap : ℕ) (fs gs : List Fields) (e : recordsOf a ≡ result fs) (f : recordsOf b ≡ result gs) (u : modeInUse m ≡ true) where
-  pub joined-records : recordsOf (a ++ b) ≡ result (fs ++ gs)
-  unfolding onto
-  joined-records = records-append a b fs e ∙ ap (onto fs) f
-
   pub merge-joined : mergeOutcome (summaryBytes m (chunkOf fs)) (summaryBytes m (chunkOf gs)) cap ≡ written cap (summaryBytes m (chunkOf (fs ++ gs)))
   merge-joined =
       let p = chunk-readable m a fs e in

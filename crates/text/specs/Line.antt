@@ -6,8 +6,6 @@ use Prim.Native.Char.{code}
 use Prim.Native.String as String
 use Prim.Native.String.{String}
 use lib.Dec.{eqb}
-use mir.Syntax.{w64}
-use mir.Val.{SFits}
 use Rattle.gate.specs.Outcome.{Outcome, refused, result}
 use Rattle.text.specs.Decimal.{digitsOf, decimalOf, readDigits, readDecimal}
 use Rattle.text.specs.declared.Figures.{Figures}
@@ -55,10 +53,3 @@ readPieces (p ∷ ps) = readWords (pieces 32 p)
 
 abbrev pub readLine : List ℕ → Outcome Figures
 readLine s = readPieces (pieces 10 s)
-
--- Figures of 64 bits.
-pub record FiguresFit (f : Figures) : Type 0 where
-  pub net : SFits w64 (f .net)
-  pub heaviest : SFits w64 (f .heaviest)
-  pub eaten : SFits w64 (f .eaten)
-  pub stamp : SFits w64 (f .stamp)

@@ -3,7 +3,6 @@
 use mathlib.Core.Path.{refl}
 use Prim.Native.Nat.{_*_, _^_, _≤_}
 use native.Mathlib.Omega.{arith}
-use Rattle.judge.specs.Laid.{Room}
 use Rattle.judge.proofs.Loops.{capped-room}
 use Rattle.judge.proofs.Values.{sizes-fit}
 use borrow.Author.Needs.{needs}
