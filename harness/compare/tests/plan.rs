@@ -5,7 +5,7 @@ use reference::calls;
 use reference::gen::{damage, forged, logs, Rng};
 use reference::layout::encode;
 use reference::mode::{Held, Mode};
-use reference::plan::{encode_plan, plan_by_records};
+use reference::plan::{encode_plan, plan_by_records, Line};
 use reference::record::{encode_all, Record};
 use reference::run::join_by_records;
 use reference::tree::log_figure;
@@ -25,6 +25,20 @@ fn row_of(chunks: &[Vec<Record>], mode: Mode) -> Vec<u8> {
     chunks.iter().map(summary).collect::<Vec<_>>().concat()
 }
 
+/// 300 logs, each cut into 2 to 10 chunks, in each mode: the log, its chunks and the lines of their plan by records.
+fn cut_logs(seed: u64, mut check: impl FnMut(Mode, &[Record], &[Vec<Record>], &[Line])) {
+    let mut rng = Rng::new(seed);
+    for _ in 0..300 {
+        let log = logs::any_log(&mut rng, 40);
+        let count = 2 + rng.below(9);
+        let chunks = logs::cut(&mut rng, &log, count);
+        let lines = plan_by_records(&chunks);
+        for mode in Mode::ALL {
+            check(mode, &log, &chunks, &lines);
+        }
+    }
+}
+
 #[test]
 fn random_cuts_of_random_logs() {
     let mut rng = Rng::new(0x91a1);
@@ -40,15 +54,10 @@ fn random_cuts_of_random_logs() {
 
 #[test]
 fn lines_are_the_joins_by_records() {
-    let mut rng = Rng::new(0x91a2);
-    for _ in 0..300 {
-        let log = logs::any_log(&mut rng, 40);
-        let count = 2 + rng.below(9);
-        let chunks = logs::cut(&mut rng, &log, count);
-        let row = row_of(&chunks, Mode::Net);
-        let expected = Ok(encode_plan(&plan_by_records(&chunks)));
-        LentBytes::new(AMPLE).check(&expected, |out| tulghimo::raw::plan(&row, out));
-    }
+    cut_logs(0x91a2, |mode, _, chunks, lines| {
+        let row = row_of(chunks, mode);
+        LentBytes::new(AMPLE).check(&Ok(encode_plan(lines)), |out| tulghimo::raw::plan(&row, out));
+    });
 }
 
 /// x through a run by its three numbers, in document 01's words for each mode.
@@ -68,37 +77,23 @@ fn through(run: &tulghimo::Run, x: Held) -> i64 {
 
 #[test]
 fn a_run_is_the_figure_of_its_lowest_record_by_x() {
-    let mut rng = Rng::new(0x91a8);
-    for _ in 0..300 {
-        let log = logs::any_log(&mut rng, 40);
-        let count = 2 + rng.below(9);
-        let chunks = logs::cut(&mut rng, &log, count);
-        let lines = plan_by_records(&chunks);
-        for mode in Mode::ALL {
-            let runs = tulghimo::runs(&row_of(&chunks, mode)).expect("a well-formed log");
-            assert_eq!(runs.len(), lines.len());
-            for (run, line) in runs.iter().zip(&lines) {
-                let (x, figure) = join_by_records(mode, &chunks, line);
-                assert_eq!(through(run, x), figure, "{line:?}");
-            }
+    cut_logs(0x91a8, |mode, _, chunks, lines| {
+        let runs = tulghimo::runs(&row_of(chunks, mode)).expect("a well-formed log");
+        assert_eq!(runs.len(), lines.len());
+        for (run, line) in runs.iter().zip(lines) {
+            let (x, figure) = join_by_records(mode, chunks, line);
+            assert_eq!(through(run, x), figure, "{line:?}");
         }
-    }
+    });
 }
 
 #[test]
 fn the_work_is_the_recursion() {
-    let mut rng = Rng::new(0x91a7);
-    for _ in 0..300 {
-        let log = logs::any_log(&mut rng, 40);
-        let count = 2 + rng.below(9);
-        let chunks = logs::cut(&mut rng, &log, count);
-        let lines = plan_by_records(&chunks);
-        for mode in Mode::ALL {
-            let expected = [log_figure(mode, &log), lines.len() as i64, levels_folded(&lines) as i64];
-            let answer = LentNumbers::default().lend(|work| tulghimo::raw::work(&row_of(&chunks, mode), work));
-            assert_eq!(answer, (0, expected));
-        }
-    }
+    cut_logs(0x91a7, |mode, log, chunks, lines| {
+        let expected = [log_figure(mode, log), lines.len() as i64, levels_folded(lines) as i64];
+        let answer = LentNumbers::default().lend(|work| tulghimo::raw::work(&row_of(chunks, mode), work));
+        assert_eq!(answer, (0, expected));
+    });
 }
 
 #[test]
