@@ -1,9 +1,12 @@
--- The row of demand 3: a log cut into chunks, the row that summarise writes, a list of merges on it, and what holds of all that. Definitions only.
+-- The row of demand 3: a log and its cut, the row that summarise writes, a list of merges on it, and what holds of all that. Definitions only.
 use mathlib.Core.Path.{_≡_}
+use mathlib.Core.Logic.{_↔_}
+use mathlib.Core.Bool.{_&&_, cond}
 use mathlib.Core.List.{List, [], _∷_, map, List·Memᴰ}
-use Prim.Native.Nat.{ℕ, _+_, _*_, _≤_}
-use lib.Dec.{leb}
-use lib.ListN.{length, take, getD}
+use Prim.Native.Nat.{ℕ, zero, suc, _+_, _*_, _≤_, _<_}
+use lib.Dec.{leb, eqb}
+use lib.ListN.{length, take, drop, getD}
+use lib.Seq.{slice}
 use lib.IntN.{ℤ}
 use Rattle.gate.specs.Outcome.{Outcome, refused, result, onward, written, bufferAfter}
 use Rattle.gate.specs.Answers.{lengthAnswered}
@@ -11,23 +14,51 @@ use Rattle.row.specs.Row.{endToEnd}
 use Rattle.record.specs.Record.{recordsOf}
 use Rattle.record.specs.declared.Fields.{Fields}
 use Rattle.figure.specs.FourModes.{Amounts}
-use Rattle.hill.specs.Verdict.{pass}
+use Rattle.figure.specs.Mode.{modeOf}
+use Rattle.hill.specs.Verdict.{pass, refuse}
 use Rattle.hill.specs.Log.{Record, logFault}
+use Rattle.hill.specs.Questions.{NoOfLog, Lowest}
+use Rattle.hill.specs.Tree.{Forest, nil, tree, write, value}
 use Rattle.hill.specs.Row.{joined, Call, answer, put, replay, answers, fitting, onResult}
 use Rattle.summary.specs.Outcomes.{chunkOf, summaryBytes, summariseOutcome, mergeOutcome, finishOutcome, logOutcome}
 use Rattle.join_plan.specs.Plan.{Line, joins, folded}
-use Rattle.join_plan.specs.ByRecords.{IsPlan}
+use Rattle.join_plan.specs.ByRecords.{Joined, IsPlan}
 use Rattle.outcome.specs.Outcomes.{linesBytes, mergeRowOutcome, planOutcome, workOutcome}
 
--- ---- stretches
+-- ---- a log and its cut
 
--- The records of a chunk that is readable, as every stretch of the row is (`readable` below).
-abbrev pub recordsFound : Outcome (List Fields) → List (Record Amounts)
-recordsFound (refused n) = []
-recordsFound (result fs) = chunkOf fs
+-- The records that stand in readable bytes, and what the recursion takes of them.
+abbrev pub fieldsFound : Outcome (List Fields) → List Fields
+fieldsFound (refused n) = []
+fieldsFound (result fs) = fs
+
+unfoldable pub fieldsRead : List ℕ → List Fields
+fieldsRead bytes = fieldsFound (recordsOf bytes)
 
 unfoldable pub recordsRead : List ℕ → List (Record Amounts)
-recordsRead bytes = recordsFound (recordsOf bytes)
+recordsRead bytes = chunkOf (fieldsRead bytes)
+
+-- A place "between records" is the number of the records before it. In bytes it is their lengths, added.
+abbrev pub byteAt : List Fields → ℕ → ℕ
+byteAt fs zero = 0
+byteAt [] (suc k) = 0
+byteAt (f ∷ fs) (suc k) = f .length + byteAt fs k
+
+-- Places from a to n, none before the one that it follows. Two may be the same: the chunk between them is blank.
+abbrev pub InOrder : (a : ℕ) → List ℕ → (n : ℕ) → Type 0
+InOrder a [] n = a ≤ n
+InOrder a (p ∷ ps) n = (a ≤ p) × InOrder p ps n
+
+-- What stands from a to the first place, from each place to the next, and from the last one on.
+abbrev pub parts : {A : Type 0} → List A → (a : ℕ) → List ℕ → List (List A)
+parts xs a [] = drop a xs ∷ []
+parts xs a (p ∷ ps) = slice a p xs ∷ parts xs p ps
+
+-- "Every cut of the log between records into P chunks": the bytes between P - 1 places.
+unfoldable pub cutAt : (log places : List ℕ) → List (List ℕ)
+cutAt log places = parts log 0 (map (byteAt (fieldsRead log)) places)
+
+-- ---- stretches
 
 -- "Its summary is what \"Summaries\" says of a chunk, however long the stretch is."
 unfoldable pub stretchBytes : (mode : ℕ) → List ℕ → List ℕ
@@ -44,33 +75,35 @@ abbrev pub leaves : Outcome (List ℕ) → (buffer : List ℕ) → Outcome (List
 leaves (refused n) buffer = refused n
 leaves (result w) buffer = result (take (length w) (bufferAfter (result w) buffer))
 
--- A chunk of the log, and the buffer that summarise is lent for it.
-pub record Chunk : Type 0 where
-  pub bytes : List ℕ
-  pub buffer : List ℕ
-
-abbrev pub chunks : List Chunk → List (List ℕ)
-chunks cut = map (λ c. c .bytes) cut
-
 abbrev pub wrote : Outcome (List ℕ) → List ℕ
 wrote (refused n) = []
 wrote (result w) = w
 
--- "The row starts as what summarise writes for the P chunks, .. in log order and one mode." (None is refused: no summary has 0 bytes.)
-abbrev pub firstRow : (mode : ℕ) → List Chunk → List (List ℕ)
-firstRow mode cut = map (λ c. wrote (leaves (summariseOutcome (c .bytes) mode (length (c .buffer))) (c .buffer))) cut
+-- "The row starts as what summarise writes for the P chunks, .. in log order and one mode", each into a buffer of its own. (None is refused: no summary has 0 bytes.)
+abbrev pub firstRow : (mode : ℕ) → (chunks buffers : List (List ℕ)) → List (List ℕ)
+firstRow mode (c ∷ cs) (b ∷ bs) = wrote (leaves (summariseOutcome c mode (length b)) b) ∷ firstRow mode cs bs
+firstRow mode (c ∷ cs) [] = []
+firstRow mode [] bs = []
 
--- "Each of at most 65,536 bytes", readable, and "into buffers that are long enough".
-pub record IsChunk (mode : ℕ) (c : Chunk) : Type 0 where
-  pub short : length (c .bytes) ≤ 65_536
-  pub readable : (fs : List Fields) × (recordsOf (c .bytes) ≡ result fs)
-  pub long-enough : length (stretchBytes mode (c .bytes)) ≤ length (c .buffer)
+-- "Each of at most 65,536 bytes", "into buffers that are long enough".
+pub record IsChunk (mode : ℕ) (chunk buffer : List ℕ) : Type 0 where
+  pub short : length chunk ≤ 65_536
+  pub long-enough : length (stretchBytes mode chunk) ≤ length buffer
 
--- P chunks, as many as one likes, and a mode, 1 to 4.
-pub record IsCut (mode : ℕ) (cut : List Chunk) : Type 0 where
+-- There is a buffer for each chunk.
+abbrev pub AllChunks : (mode : ℕ) → (chunks buffers : List (List ℕ)) → Type 0
+AllChunks mode (c ∷ cs) (b ∷ bs) = IsChunk mode c b × AllChunks mode cs bs
+AllChunks mode (c ∷ cs) [] = ⊥
+AllChunks mode [] (b ∷ bs) = ⊥
+AllChunks mode [] [] = Unit {0}
+
+-- "For every log of readable records, every mode, every cut of the log between records into P chunks, .. each within the limits, some perhaps blank."
+pub record IsCut (mode : ℕ) (log places : List ℕ) (buffers : List (List ℕ)) : Type 0 where
   pub mode-low : 1 ≤ mode
   pub mode-high : mode ≤ 4
-  pub each : (c : Chunk) → List·Memᴰ c cut → IsChunk mode c
+  pub readable : (fs : List Fields) × (recordsOf log ≡ result fs)
+  pub between : InOrder 0 places (length (fieldsRead log))
+  pub each : AllChunks mode (cutAt log places) buffers
 
 -- ---- the list of merges
 
@@ -117,16 +150,35 @@ onStretches mode = fitting (λ l stretch. leb (length (stretchBytes mode stretch
 
 -- ---- the claim
 
-module _ (mode : ℕ) (cut : List Chunk) where
-  -- The uncut log, of any length; the chunks' records; the row "before any merge", "its summaries end to end".
-  abbrev pub uncutLog : List ℕ
-  uncutLog = joined (chunks cut)
+-- The recursion on a log without fault: the log is the traversal of exactly one tree, and what it says is that tree's figure, stored.
+pub record Recursion (mode : ℕ) (log : List ℕ) : Type 0 where
+  pub root : Amounts
+  pub below : Forest Amounts
+  pub traversal : write 0 (tree root below nil) ≡ recordsRead log
+  pub only : (f : Forest Amounts) → write 0 f ≡ recordsRead log → f ≡ tree root below nil
+  pub figure : logSays mode log ≡ result (modeOf mode .store (value (modeOf mode .algebra) (tree root below nil)))
+
+-- "Some record opened in i is closed in j", and the lines of a plan for chunks i and j.
+abbrev pub SomeJoined : List (List (Record Amounts)) → (i j : ℕ) → Type 0
+SomeJoined chunks i j = (d : ℕ) × Joined chunks i j d
+
+abbrev pub linesFor : (i j : ℕ) → List Line → List Line
+linesFor i j [] = []
+linesFor i j (l ∷ ls) = cond (eqb (l .i) i && eqb (l .j) j) (l ∷ linesFor i j ls) (linesFor i j ls)
+
+module _ (mode : ℕ) (log places : List ℕ) (buffers : List (List ℕ)) where
+  -- The chunks, their records, and the row "before any merge", "its summaries end to end".
+  abbrev pub chunks : List (List ℕ)
+  chunks = cutAt log places
 
   abbrev pub chunkRecords : List (List (Record Amounts))
-  chunkRecords = map recordsRead (chunks cut)
+  chunkRecords = parts (recordsRead log) 0 places
+
+  abbrev pub startRow : List (List ℕ)
+  startRow = firstRow mode chunks buffers
 
   abbrev pub lentRow : List ℕ
-  lentRow = endToEnd (firstRow mode cut)
+  lentRow = endToEnd startRow
 
   -- The plan and the work along it.
   pub record Planned : Type 0 where
@@ -134,26 +186,37 @@ module _ (mode : ℕ) (cut : List Chunk) where
     pub lines : List Line
     pub described : IsPlan chunkRecords lines
     pub only : (ls : List Line) → IsPlan chunkRecords ls → ls ≡ lines
+    -- a line for two chunks exactly when one closes a record that the other opened: one line, else none
+    pub one-line : (i j : ℕ) → i < j → SomeJoined chunkRecords i j ↔ (length (linesFor i j lines) ≡ 1)
+    pub no-line : (i j : ℕ) → i < j → (SomeJoined chunkRecords i j → ⊥) ↔ (length (linesFor i j lines) ≡ 0)
     -- at most 2P - 3
-    pub few : length lines + 3 ≤ 2 * length cut
+    pub few : length lines + 3 ≤ 2 * length chunks
     -- "the plan's call writes just the lines .., or, where its buffer is too short for them, answers 12"
     pub planned : (cap : ℕ) → planOutcome lentRow cap ≡ written cap (linesBytes lines)
     -- "the figure, the joins used (its lines) and the number of levels folded"
-    pub worked : workOutcome lentRow ≡ onResult (λ f. record { figure = f; joins = joins lines; levels = folded lines }) (logSays mode uncutLog)
+    pub worked : workOutcome lentRow ≡ onResult (λ f. record { figure = f; joins = joins lines; levels = folded lines }) (logSays mode log)
 
   -- "A single claim about the log, its cut, the mode and the whole list."
   pub record Claimed (merges : List (Call Lent)) : Type 0 where
-    -- the uncut log is readable, and so are the stretches, which joined are the log
-    pub uncut : (fs : List Fields) × (recordsOf uncutLog ≡ result fs)
-    pub readable : (s : List ℕ) → List·Memᴰ s (replay (onStretches mode) merges (chunks cut)) → (fs : List Fields) × (recordsOf s ≡ result fs)
-    pub stretches : joined (replay (onStretches mode) merges (chunks cut)) ≡ uncutLog
+    -- the cut: each chunk is readable and has just the records between its places, and the chunks joined are the log, of bytes and of records
+    pub cut-read : map recordsOf chunks ≡ map result (parts (fieldsRead log) 0 places)
+    pub cut-joined : joined chunks ≡ log
+    pub cut-records : joined chunkRecords ≡ recordsRead log
+    -- what the log says: "a log's lowest-numbered fault is the lowest of questions 7 to 11 .. that gets a \"no\" for the uncut log", ..
+    pub lowest : Lowest (NoOfLog (recordsRead log)) (logFault (recordsRead log))
+    pub faulty : (n : ℕ) → (logSays mode log ≡ refused n) ↔ (logFault (recordsRead log) ≡ refuse n)
+    -- .. or, where there is none, the recursion's figure
+    pub recursion : logFault (recordsRead log) ≡ pass → Recursion mode log
+    -- the stretches are readable, and joined are the log
+    pub readable : (s : List ℕ) → List·Memᴰ s (replay (onStretches mode) merges chunks) → (fs : List Fields) × (recordsOf s ≡ result fs)
+    pub stretches : joined (replay (onStretches mode) merges chunks) ≡ log
     -- each merge answers 12, or "that summary's length"
-    pub answered : told merges (firstRow mode cut) ≡ map (onResult (λ s. length (stretchBytes mode s))) (answers (onStretches mode) merges (chunks cut))
+    pub answered : told merges startRow ≡ map (onResult (λ s. length (stretchBytes mode s))) (answers (onStretches mode) merges chunks)
     -- each piece is byte for byte the summary of its stretch
-    pub pieces : replay byCalls merges (firstRow mode cut) ≡ map (stretchBytes mode) (replay (onStretches mode) merges (chunks cut))
+    pub pieces : replay byCalls merges startRow ≡ map (stretchBytes mode) (replay (onStretches mode) merges chunks)
     -- where one piece is left, finish says what the log says
-    pub finished : (p : List ℕ) → replay byCalls merges (firstRow mode cut) ≡ p ∷ [] → finishOutcome p ≡ logSays mode uncutLog
+    pub finished : (p : List ℕ) → replay byCalls merges startRow ≡ p ∷ [] → finishOutcome p ≡ logSays mode log
     -- and so does the work along the plan, where question 4 lets it be asked for
-    pub worked : RowSize (length cut) → onResult (λ w. w .figure) (workOutcome lentRow) ≡ logSays mode uncutLog
+    pub worked : RowSize (length chunks) → onResult (λ w. w .figure) (workOutcome lentRow) ≡ logSays mode log
     -- the plan of a well-formed log, likewise
-    pub planned : RowSize (length cut) → logFault (recordsRead uncutLog) ≡ pass → Planned
+    pub planned : RowSize (length chunks) → logFault (recordsRead log) ≡ pass → Planned

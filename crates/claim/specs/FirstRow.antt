@@ -1,7 +1,7 @@
 -- The row that summarise writes for a cut log is the chunks' summaries. Assumes nothing.
 use mathlib.Core.Path.{_≡_, refl, sym, ap, ap₂, _∙_}
 use mathlib.Core.Bool.{true}
-use mathlib.Core.List.{List, [], _∷_, map, append-nil, List·Memᴰ, List·Memᴰ·head, List·Memᴰ·tail}
+use mathlib.Core.List.{List, [], _∷_, map, append-nil}
 use Prim.Native.Nat.{ℕ, _≤_}
 use lib.ListN.{length}
 use borrow.Author.Tests.{le-leb}
@@ -11,27 +11,25 @@ use Rattle.figure.specs.Mode.{modeInUse}
 use Rattle.hill.specs.Row.{joined, Call, answer, put, answers, onResult}
 use Rattle.summary.specs.Outcomes.{chunkOf, summaryBytes, summariseOutcome}
 use Rattle.summary.specs.OutcomeLaws.{summarise-is}
-use Rattle.claim.specs.Claim.{recordsRead, stretchBytes, leaves, Chunk, chunks, wrote, firstRow, IsChunk, Lent, bufferOf, called, byCalls, told}
-use Rattle.claim.specs.Stretches.{AllRead, found}
+use Rattle.claim.specs.Claim.{recordsRead, stretchBytes, leaves, wrote, firstRow, IsChunk, AllChunks, Lent, bufferOf, called, byCalls, told}
+use Rattle.claim.specs.Stretches.{Reads, AllRead, found}
 use Rattle.claim.specs.Calls.{left-is}
 
 module _ (m : ℕ) (u : modeInUse m ≡ true) where
   -- Summarise writes the summary of each chunk.
-  wrote-chunk : (c : Chunk) → IsChunk m c → wrote (leaves (summariseOutcome (c .bytes) m (length (c .buffer))) (c .buffer)) ≡ stretchBytes m (c .bytes)
+  wrote-chunk : (c b : List ℕ) → Reads c → IsChunk m c b → wrote (leaves (summariseOutcome c m (length b)) b) ≡ stretchBytes m c
   unfolding stretchBytes
-  wrote-chunk c i =
-      let e : recordsRead (c .bytes) ≡ chunkOf (i .readable .0) = found (c .bytes) (i .readable .0) (i .readable .1) in
-      let n : length (summaryBytes m (recordsRead (c .bytes))) ≤ length (c .buffer) = i .long-enough in
-      ap (λ (o : Outcome (List ℕ)). wrote (leaves o (c .buffer))) (summarise-is (c .bytes) m (length (c .buffer)) (i .readable .0) u (i .short) (i .readable .1)) ∙
-      rw (← e, le-leb (length (summaryBytes m (recordsRead (c .bytes)))) (length (c .buffer)) n) (left-is (summaryBytes m (recordsRead (c .bytes))) (c .buffer))
+  wrote-chunk c b r i =
+      let e : recordsRead c ≡ chunkOf (r .0) = found c (r .0) (r .1) in
+      let n : length (summaryBytes m (recordsRead c)) ≤ length b = i .long-enough in
+      ap (λ (o : Outcome (List ℕ)). wrote (leaves o b)) (summarise-is c m (length b) (r .0) u (i .short) (r .1)) ∙
+      rw (← e, le-leb (length (summaryBytes m (recordsRead c))) (length b) n) (left-is (summaryBytes m (recordsRead c)) b)
 
-  pub first-row : (cut : List Chunk) → ((c : Chunk) → List·Memᴰ c cut → IsChunk m c) → firstRow m cut ≡ map (stretchBytes m) (chunks cut)
-  first-row [] i = refl
-  first-row (c ∷ cut) i = rw (wrote-chunk c (i c (List·Memᴰ·head refl)), first-row cut (λ d k. i d (List·Memᴰ·tail k)))
-
-pub all-read : (m : ℕ) (cut : List Chunk) → ((c : Chunk) → List·Memᴰ c cut → IsChunk m c) → AllRead (chunks cut)
-all-read m [] i = tt
-all-read m (c ∷ cut) i = (i c (List·Memᴰ·head refl) .readable, all-read m cut (λ d k. i d (List·Memᴰ·tail k)))
+  pub first-row : (cs bs : List (List ℕ)) → AllRead cs → AllChunks m cs bs → firstRow m cs bs ≡ map (stretchBytes m) cs
+  first-row (c ∷ cs) (b ∷ bs) a i = ap₂ (λ (x : List ℕ) (xs : List (List ℕ)). x ∷ xs) (wrote-chunk c b (a .0) (i .0)) (first-row cs bs (a .1) (i .1))
+  first-row (c ∷ cs) [] a i = absurd i
+  first-row [] (b ∷ bs) a i = absurd i
+  first-row [] [] a i = refl
 
 pub in-use : (m : ℕ) → 1 ≤ m → m ≤ 4 → modeInUse m ≡ true
 unfolding modeInUse

@@ -2,8 +2,11 @@
 pub mod Claim
 pub mod Demand3
 pub mod Table
--- The proof: stretches; one merge and the whole list; what is left says what the log says; the row that summarise writes.
+-- The proof: stretches; the cut, and that every list of readable chunks is one; the lines of the plan; one merge and the whole list; what is left says what
+-- the log says; the row that summarise writes.
 pub mod Stretches
+pub mod Cut
+pub mod Lines
 pub mod Calls
 pub mod LogRow
 pub mod FirstRow

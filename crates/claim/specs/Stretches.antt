@@ -13,15 +13,19 @@ use Rattle.hill.specs.Row.{joined}
 use Rattle.summary.specs.MergeBytes.{Readables}
 use Rattle.summary.specs.Outcomes.{recordOf, chunkOf}
 use Rattle.summary.specs.OutcomeLaws.{chunk-readable}
-use Rattle.claim.specs.Claim.{recordsFound, recordsRead}
+use Rattle.claim.specs.Claim.{fieldsFound, fieldsRead, recordsRead}
 
 -- The bytes are readable.
 abbrev pub Reads : List ℕ → Type 0
 Reads s = (fs : List Fields) × (recordsOf s ≡ result fs)
 
+pub fields-found : (s : List ℕ) (fs : List Fields) → recordsOf s ≡ result fs → fieldsRead s ≡ fs
+unfolding fieldsRead
+fields-found s fs e = ap fieldsFound e
+
 pub found : (s : List ℕ) (fs : List Fields) → recordsOf s ≡ result fs → recordsRead s ≡ chunkOf fs
 unfolding recordsRead
-found s fs e = ap recordsFound e
+found s fs e = ap chunkOf (fields-found s fs e)
 
 pub reads-readable : (m : ℕ) (s : List ℕ) → Reads s → Readables m (recordsRead s)
 reads-readable m s r = rw (found s (r .0) (r .1)) (chunk-readable m s (r .0) (r .1))
@@ -29,7 +33,7 @@ reads-readable m s r = rw (found s (r .0) (r .1)) (chunk-readable m s (r .0) (r 
 -- ---- two chunks joined
 
 module _ (a b : List ℕ) (p : Reads a) (q : Reads b) where
-  append-fields : recordsOf (a ++ b) ≡ result (p .0 ++ q .0)
+  pub append-fields : recordsOf (a ++ b) ≡ result (p .0 ++ q .0)
   unfolding onto
   append-fields = records-append a b (p .0) (p .1) ∙ ap (onto (p .0)) (q .1)
 
