@@ -3,213 +3,29 @@
 two must answer differently: an edit that no input tells from the program proves nothing.
 
 The library's language is close to Rust: with the contracts taken off, the sources are
-compiled by rustc, once as they are and once for each edit, in a scratch folder. That
-proves nothing; it shows what an impostor would answer. A sum that runs over or a byte
-past the end of a slice stops the edited program, and that counts as an answer.
+compiled by rustc, in a scratch folder. One build has all of it: a function that is edited
+stands there once as it is and once for each change, and a number chosen at the start says
+which of them is called. That proves nothing; it shows what an impostor would answer. A sum
+that runs over or a byte past the end of a slice stops the edited program, and that counts
+as an answer. Two answers are the same where the number and the WHOLE lent buffer are, each
+byte of it, and every lent buffer begins with other bytes in each place.
 
     python3 harness/attacks.py               all of them
     python3 harness/attacks.py merge/ day/   those whose name begins so
 
-Prints a line for each and "N told apart, M not"; the exit status is 0 only if M is 0
-and every edit of code has an input here. Takes a second or two an edit.
+Prints each one's answers and "N told apart, M not"; the exit status is 0 only if M is 0,
+every change of code has an input in attack_inputs.py, and what means the same as the code
+answers the same.
 """
 
 import pathlib
 import re
-import struct
 import subprocess
 import sys
 import tempfile
 
-ROOT = pathlib.Path(__file__).resolve().parent.parent
-CRATES = ROOT / "crates"
-D = (ROOT / "samples" / "d.log").read_bytes()
-GRAMS = 10**9
-NOTHING = -(2**63)
-
-# ---- inputs
-
-
-def opening(depth, value, floor=-GRAMS, ceiling=GRAMS):
-    return struct.pack("<HHHiii", 18, 1, depth, value, floor, ceiling)
-
-
-def short(depth, value):
-    return struct.pack("<HHHi", 10, 1, depth, value)
-
-
-def close(depth):
-    return struct.pack("<HHH", 6, 2, depth)
-
-
-def blank(mode):
-    return struct.pack("<HHH", 6, 16, mode)
-
-
-def spoilt(mode, fault, start, end, opened):
-    return struct.pack("<HHHHHHI", 16, 17, mode, fault, start, end, opened)
-
-
-def hill(mode, start, peak, end, opened, left, middle, right=()):
-    """left from level start down to peak + 1; right from peak + 1 up, each a record's
-    value, floor and ceiling and what it holds so far."""
-    length = 24 + 8 * len(left) + 20 * len(right)
-    head = struct.pack("<HHHHHHI", length, 18, mode, start, peak, end, opened)
-    slopes = b"".join(struct.pack("<q", value) for value in [*left, middle])
-    return head + slopes + b"".join(struct.pack("<iiiq", *record) for record in right)
-
-
-def call(name, data, number=0, room=200):
-    """A request: the call, its bytes, its number (a mode, or where the right piece
-    begins) and how long its buffer is."""
-    return f"{name} {number} {room} {data.hex() or '-'}"
-
-
-def summarise(mode, chunk, room=200):
-    return call("summarise::summarise", chunk, mode, room)
-
-
-def merge(left, right, room=200):
-    return call("merge::merge", left + right, len(left), room)
-
-
-def halves(mode, floor=0):
-    """Log D cut after record 2, its first record with this floor."""
-    none = NOTHING if mode == 2 else 0
-    last = {1: -3, 2: -3, 3: 0, 4: 2**32 - 3}[mode]
-    head = hill(mode, 0, 0, 2, 2, [], none, [(10, floor, 100, none), (5, 0, 4, none)])
-    return head, hill(mode, 2, 0, 0, 1, [none, last], none)
-
-
-def runs(mode, floor=0):
-    return call("runs::runs", b"".join(halves(mode, floor)))
-
-
-HEAD, TAIL = halves(1)
-WHOLE = hill(1, 0, 0, 0, 3, [], 12)
-# A closed record of one gram at depth 1, and the two halves of what may hold it.
-INSIDE = hill(1, 1, 1, 1, 1, [], 1)
-OPEN = hill(1, 0, 0, 1, 1, [], 0, [(10, 0, 100, 0)])
-SHUT = hill(1, 1, 0, 0, 0, [0], 0)
-# 10 g that holds 1 g, the inner closed by the second of three chunks and the outer by the third.
-NESTED = hill(1, 0, 0, 2, 2, [], 0, [(10, 0, 100, 0), (1, 0, 100, 0)]) + hill(1, 2, 1, 1, 0, [0], 0) + SHUT
-NEGATIVE = opening(0, -3) + close(0)
-TEN_OVER = short(0, 10) + short(1, 1) + close(1) + short(1, 5) + close(1) + close(0)
-NINE = short(0, 0) + short(1, 9) + close(1) + short(1, 1) + close(1) + close(0)
-TWO_DAYS = 2 * (short(0, 1) + close(0))
-LONGEST = short(0, 1) + 4095 * (short(1, 1) + close(1)) + close(0)
-
-# What tells each edit from the program.
-INPUTS = {
-    "codec/deeper_dropped": merge(HEAD, TAIL),
-    "codec/held_for_left": summarise(1, D[36:]),
-    "codec/held_over_ceiling": merge(hill(1, 0, 0, 1, 2, [], 0, [(10, 0, 100, 5)]), SHUT),
-    "codec/middle_left_out": merge(HEAD, hill(1, 2, 1, 1, 1, [0], 7)),
-    "codec/start_for_end": summarise(1, D[:36]),
-    "day/end_level": call("day::figures", short(0, 1)),
-    "day/fault_before_3": call("day::figures", D[:71]),
-    "day/log_65535": call("day::figures", LONGEST),
-    "day/nothing_is_0": call("day::figures", opening(0, 10) + opening(1, -3) + close(1) + close(0)),
-    "day/rest_unread": call("day::figures", D),
-    "day/stamp_for_eaten": call("day::figures", D),
-    "emit/peak_counted_twice": merge(HEAD, TAIL, 24),
-    "emit/sixteen_refused": merge(OPEN, OPEN, 16),
-    "fault/ground_not_asked": summarise(1, TWO_DAYS),
-    "fault/highest_fault": summarise(1, short(0, 1) + TWO_DAYS),
-    "fault/takes_100001": call("plan::plan", hill(1, 0, 0, 1, 50_001, [], 0, [(10, 0, 100, 0)]) + hill(1, 1, 0, 0, 50_000, [0], 0)),
-    "figure/floor_as_ceiling": call("day::figures", D),
-    "figure/first_held": call("day::figures", TEN_OVER),
-    "figure/floor_once": runs(3, 50),
-    "figure/nothing_moved": runs(2),
-    "figure/other_figure_dropped": runs(2),
-    "figure/stamp_factor": call("day::figures", D),
-    "finish/blank_is_11": call("finish::finish", blank(1)),
-    "finish/end_level_ignored": call("finish::finish", OPEN),
-    "finish/start_level_for_fault": call("finish::finish", spoilt(1, 8, 3, 0, 2)),
-    "judge/end_for_peak": call("plan::plan", HEAD + TAIL),
-    "judge/fault_10": call("finish::finish", spoilt(1, 10, 0, 0, 1)),
-    "judge/ground_passed": call("finish::finish", hill(1, 2, 0, 1, 1, [0, 0], 0, [(0, 0, 0, 0)])),
-    "judge/hill_100001": call("finish::finish", hill(1, 0, 0, 0, 100_001, [], 0)),
-    "judge/one_gram_more": call("finish::finish", hill(1, 0, 0, 0, 1, [], GRAMS + 1)),
-    "merge/end_for_peak": merge(OPEN, hill(1, 1, 1, 2, 1, [], 0, [(5, 0, 4, 0)])),
-    "merge/hands_back_left": merge(HEAD, TAIL),
-    "merge/join_fault_ignored": merge(OPEN, OPEN),
-    "merge/counts_before_piece": merge(HEAD, TAIL),
-    "merge/opened_not_cut": merge(spoilt(1, 9, 0, 1, 100_001), INSIDE),
-    "merge/pieces_cut_alike": call("merge::merge_row", blank(1) + HEAD),
-    "merge/six_before_five": call("merge::merge_row", blank(1) + struct.pack("<HHH", 6, 15, 1)),
-    "merge/takes_65": call("merge::merge_row", 65 * blank(1)),
-    "merge/two_pieces_as_one": call("merge::merge_row", 2 * blank(1) + HEAD + TAIL),
-    "plan/fit_of_runs": call("plan::plan", HEAD + TAIL, room=12),
-    "plan/lowest_depth": call("plan::plan", HEAD + TAIL),
-    "plan/line_kind": call("plan::plan", HEAD + TAIL),
-    "record/ceiling_unlimited": call("finish::finish", hill(1, 0, 0, 1, 1, [], 0, [(10, 0, GRAMS + 1, 0)])),
-    "record/cut_close": call("record::read_first", close(1)[:5]),
-    "record/default_floor": call("record::read_first", short(0, -5)),
-    "record/depth_64": call("record::read_first", close(64)),
-    "record/floor_equals_ceiling": call("record::read_first", opening(0, 1, 5, 5)),
-    "record/kind_for_length": call("record::read_first", D),
-    "row_plan/blank_at_ground": call("plan::plan", OPEN + blank(1) + SHUT),
-    "row_plan/meets_is_7": call("plan::plan", OPEN + OPEN),
-    "row_plan/no_shared_record": call("plan::plan", OPEN + INSIDE + SHUT),
-    "run_level/floor_is_ceiling": runs(3),
-    "run_level/piece_begins_at_its_number": runs(1),
-    "run_level/start_for_peak": call("runs::runs", HEAD + hill(1, 2, 1, 2, 1, [0], 0, [(7, 0, 100, 0)]) + TAIL),
-    "runs/fit_of_lines": runs(1),
-    "runs/floor_as_ceiling": runs(3),
-    "runs/hills_swapped": runs(1),
-    "runs/inside_out": runs(3),
-    "runs/kind_of_run": runs(1),
-    "runs/levels_left_out": runs(1),
-    "slopes/add_drops_what_was_held": summarise(1, opening(1, 5) + close(1) + opening(1, 7) + close(1)),
-    "slopes/close_ceiling_as_floor": summarise(3, D),
-    "slopes/left_level_twice": summarise(1, close(3)),
-    "slopes/push_at_the_first": summarise(1, opening(0, 10) + opening(1, 5) + close(1) + opening(1, 7)),
-    "summarise/always_blank": summarise(1, D),
-    "summarise/buffer_before_input": summarise(1, D[:71]),
-    "summarise/closes_counted": summarise(1, D),
-    "summarise/first_chunk_only": summarise(1, D[36:]),
-    "summarise/joint_not_asked": summarise(1, opening(0, 10) + opening(0, 10)),
-    "text/figures_swapped": call("day::text", D),
-    "text/leading_zero": call("day::text", NINE),
-    "text/minus_sign": call("day::text", NEGATIVE),
-    "text/no_newline": call("day::text", D),
-    "text/refusal_space": call("day::text", b""),
-    "text/zero_digit": call("day::text", D),
-    "row/length_7": call("merge::merge_row", 2 * blank(1)),
-    "row/length_field_off": call("merge::merge_row", blank(1) + HEAD),
-    "tulghimo/day_always_10": call("tulghimo::tulghimo_day", D[:71]),
-    "tulghimo/day_stamp_for_eaten": call("tulghimo::tulghimo_day", D),
-    "tulghimo/finish_always_5": call("tulghimo::tulghimo_finish", blank(1)),
-    "tulghimo/finish_zero": call("tulghimo::tulghimo_finish", WHOLE),
-    "tulghimo/merge_left_twice": call("tulghimo::tulghimo_merge", HEAD + TAIL, len(HEAD)),
-    "tulghimo/merge_row_of_blanks": call("tulghimo::tulghimo_merge_row", HEAD + TAIL),
-    "tulghimo/merge_row_unread": call("tulghimo::tulghimo_merge_row", HEAD + TAIL),
-    "tulghimo/merge_swapped": call("tulghimo::tulghimo_merge", HEAD + TAIL, len(HEAD)),
-    "tulghimo/plan_of_blanks": call("tulghimo::tulghimo_plan", HEAD + TAIL),
-    "tulghimo/plan_unread": call("tulghimo::tulghimo_plan", HEAD + TAIL),
-    "tulghimo/read_ceiling_for_floor": call("tulghimo::tulghimo_read", D),
-    "tulghimo/read_status": call("tulghimo::tulghimo_read", b""),
-    "tulghimo/refusal_positive": call("tulghimo::tulghimo_day", b""),
-    "tulghimo/runs_of_blanks": call("tulghimo::tulghimo_runs", HEAD + TAIL),
-    "tulghimo/runs_unread": call("tulghimo::tulghimo_runs", HEAD + TAIL),
-    "tulghimo/status_always_12": call("tulghimo::tulghimo_merge_row", 65 * blank(1)),
-    "tulghimo/summarise_always_net": call("tulghimo::tulghimo_summarise", D, 4),
-    "tulghimo/summarise_mode_cut": call("tulghimo::tulghimo_summarise", D, 65_537),
-    "tulghimo/work_always_4": call("tulghimo::tulghimo_work", OPEN + OPEN),
-    "tulghimo/work_levels_for_joins": call("tulghimo::tulghimo_work", HEAD + TAIL),
-    "tulghimo/work_no_figure": call("tulghimo::tulghimo_work", HEAD + TAIL),
-    "work/first_outcome": call("work::work", NESTED),
-    "work/highest_level_only": call("work::work", HEAD + TAIL),
-    "work/joins_invented": call("work::work", HEAD + TAIL),
-    "work/left_value_dropped": call("work::work", HEAD + TAIL),
-    "work/levels_invented": call("work::work", HEAD + TAIL),
-    "work/middles_at_highest": call("work::work", OPEN + INSIDE + SHUT),
-    "work/no_earlier_outcomes": call("work::work", NESTED),
-    "work/no_middles": call("work::work", OPEN + INSIDE + SHUT),
-    "work/outcomes_at_highest": call("work::work", NESTED),
-    "work/refusal_invented": call("work::work", OPEN + OPEN),
-}
+import edits
+from attack_inputs import INPUTS
 
 # ---- the program that is run: how each call is made, and in which crate it stands
 
@@ -238,18 +54,19 @@ ARMS = {
         }""",
     "day::text": """{
             let mut line = [0_u8; 128];
+            line.copy_from_slice(&lent(128));
             let n = day::text(&input, &mut line);
-            format!("{:?}", String::from_utf8_lossy(&line[..n]))
+            format!("{n} {:?}; {}", String::from_utf8_lossy(&line[..n.min(128)]), after(&line))
         }""",
 }
 # The C functions: those that write bytes, and those that store numbers, with how many.
 LENGTHS = {"summarise": "&input, number as u32", "merge": "&input[..number], &input[number..]",
            "merge_row": "&input", "plan": "&input", "runs": "&input"}
 NUMBERS = {"read": 6, "finish": 1, "work": 3, "day": 4}
-ARMS |= {f"tulghimo::tulghimo_{name}": f"""length(tulghimo::tulghimo_{name}({lent}, &mut out), &out)"""
+ARMS |= {f"tulghimo::tulghimo_{name}": f"""answered(tulghimo::tulghimo_{name}({lent}, &mut out), &out)"""
          for name, lent in LENGTHS.items()}
 ARMS |= {f"tulghimo::tulghimo_{name}": f"""{{
-            let mut numbers = [-7_i64; {count}];
+            let mut numbers: [i64; {count}] = std::array::from_fn(|i| -7 - i as i64);
             format!("{{}} {{numbers:?}}", tulghimo::tulghimo_{name}(&input, &mut numbers))
         }}""" for name, count in NUMBERS.items()}
 
@@ -258,16 +75,27 @@ fn bytes(hex: &str) -> Vec<u8> {
     (0..hex.len() / 2).map(|i| u8::from_str_radix(&hex[2 * i..2 * i + 2], 16).unwrap()).collect()
 }
 
+/// What a lent buffer holds before the call.
+fn lent(n: usize) -> Vec<u8> {
+    (0..n).map(|i| (167 + 59 * i) as u8).collect()
+}
+
+/// What it holds after it: the bytes up to the last one that is another, and how many stayed behind them.
+fn after(out: &[u8]) -> String {
+    let n = lent(out.len()).iter().zip(out).rposition(|(a, b)| a != b).map_or(0, |i| i + 1);
+    let told: String = out[..n].iter().map(|x| format!("{x:02x}")).collect();
+    format!("{n} bytes {told}, then {} as they were", out.len() - n)
+}
+
 fn written(answer: gate::Written, out: &[u8]) -> String {
     match answer {
-        gate::Written::Bytes(n) => length(n as i64, out),
-        gate::Written::Refused(n) => format!("refused {n}"),
+        gate::Written::Bytes(n) => answered(n as i64, out),
+        gate::Written::Refused(n) => format!("refused {n}; {}", after(out)),
     }
 }
 
-fn length(n: i64, out: &[u8]) -> String {
-    let told = &out[..out.len().min(n.max(0) as usize)];
-    format!("{n} {}", told.iter().map(|x| format!("{x:02x}")).collect::<String>())
+fn answered(n: i64, out: &[u8]) -> String {
+    format!("{n}; {}", after(out))
 }
 
 fn main() {
@@ -280,14 +108,25 @@ fn main() {
 
 fn answer(line: &str) -> String {
     let words: Vec<&str> = line.split(' ').collect();
-    let number: usize = words[1].parse().unwrap();
-    let mut out = vec![0xee_u8; words[2].parse().unwrap()];
-    let input = bytes(words[3].trim_matches('-'));
-    match words[0] {
+    chosen::CHANGE.store(words[0].parse().unwrap(), std::sync::atomic::Ordering::Relaxed);
+    let number: usize = words[2].parse().unwrap();
+    let mut out = lent(words[3].parse().unwrap());
+    let input = bytes(words[4].trim_matches('-'));
+    match words[1] {
 %s        other => panic!("{other}"),
     }
 }
 """
+
+CHOSEN = """
+use std::sync::atomic::{AtomicUsize, Ordering};
+pub static CHANGE: AtomicUsize = AtomicUsize::new(0);
+pub fn change() -> usize {
+    CHANGE.load(Ordering::Relaxed)
+}
+"""
+
+# ---- the sources in Rust
 
 
 def plain(text):
@@ -298,11 +137,40 @@ def plain(text):
     return text.replace("std::num::wrapping_add_u32(", "u32::wrapping_add(")
 
 
+def function(text, name):
+    return next(m[0] for m in edits.FUNCTION.finditer(text) if m[1] == name)
+
+
+def switched(text, name, versions):
+    """A source whose function of this name is the one with the chosen number; versions has the source of each."""
+    as_it_is = function(text, name)
+    head, shape, parameters = re.match(r'((?:pub )?(?:extern "C" )?)fn \w+(\(([^)]*)\)[^{]*)\{', as_it_is).groups()
+    given = ", ".join(p.partition(":")[0].strip() for p in parameters.split(",") if p.strip())
+    arms = "".join(f"{number} => {name}_{number}({given}), " for number in versions)
+    bodies = [as_it_is] + [function(version, name) for version in versions.values()]
+    named = [re.sub(rf"\bfn {name}\(", f"fn {name}_{number}(", body, count=1) for number, body in zip([0, *versions], bodies)]
+    chooser = f"{head}fn {name}{shape}{{ match chosen::change() {{ {arms}_ => {name}_0({given}) }} }}"
+    return text.replace(as_it_is, "\n".join([chooser, *named]))
+
+
+def rust(crate, file, numbered):
+    """A file of a crate in Rust, each function that is changed in all its versions."""
+    text, by_function = edits.source(crate, file), {}
+    for number, change in numbered:
+        if change.crate == crate and change.pairs[0].file == file:
+            name = edits.function_of(change).split("::")[-1]
+            by_function.setdefault(name, {})[number] = plain(edits.edited(text, change.pairs))
+    text = plain(text)
+    for name, versions in by_function.items():
+        text = switched(text, name, versions)
+    return text
+
+
 def libraries():
     """Each library that has code, with those that it stands on. crates.txt has it after these."""
-    listed = re.findall(r"^([a-z0-9_]+) *:(.*)$", (ROOT / "crates.txt").read_text(), flags=re.M)
-    coded = [name for name, _ in listed if (CRATES / name / "src" / "lib.rt").exists()
-             and any(re.search(r"\b(fn|enum) ", f.read_text()) for f in (CRATES / name / "src").glob("*.rt"))]
+    listed = re.findall(r"^([a-z0-9_]+) *:(.*)$", (edits.ROOT / "crates.txt").read_text(), flags=re.M)
+    coded = [name for name, _ in listed if (edits.CRATES / name / "src" / "lib.rt").exists()
+             and any(re.search(r"\b(fn|enum) ", f.read_text()) for f in (edits.CRATES / name / "src").glob("*.rt"))]
     return [(name, [d for d in words.split() if d in coded]) for name, words in listed if name in coded]
 
 
@@ -314,73 +182,66 @@ def rustc(folder, source, words, deps):
         raise SystemExit(f"rustc: {source}\n{built.stderr}")
 
 
-def build(folder, crate=None, file=None, change=None, base=None):
-    """The program in a folder, with one file changed. The libraries that do not stand
-    on the changed one are taken from base."""
-    folder.mkdir()
+def library(folder, name, deps):
+    rustc(folder, folder / name / "lib.rs",
+          ["--crate-type", "rlib", "--crate-name", name, "-o", folder / f"lib{name}.rlib"], deps)
+
+
+def build(folder, numbered):
+    """The program in a folder, with every change in it."""
+    (folder / "chosen").mkdir()
+    (folder / "chosen" / "lib.rs").write_text(CHOSEN)
+    library(folder, "chosen", [])
     all_of = libraries()
     for name, deps in all_of:
-        if base and crate != name and crate not in deps:
-            (folder / f"lib{name}.rlib").symlink_to(base / f"lib{name}.rlib")
-            continue
         (folder / name).mkdir()
-        for source in (CRATES / name / "src").glob("*.rt"):
-            text = source.read_text()
-            if (name, f"src/{source.name}") == (crate, file):
-                text = change(text)
-            (folder / name / f"{source.stem}.rs").write_text(plain(text))
-        rustc(folder, folder / name / "lib.rs",
-              ["--crate-type", "rlib", "--crate-name", name, "-o", folder / f"lib{name}.rlib"], deps)
+        for path in (edits.CRATES / name / "src").glob("*.rt"):
+            (folder / name / f"{path.stem}.rs").write_text(rust(name, f"src/{path.name}", numbered))
+        library(folder, name, ["chosen", *deps])
     arms = "".join(f'        "{name}" => {how},\n' for name, how in ARMS.items())
     (folder / "main.rs").write_text(MAIN % arms)
-    rustc(folder, folder / "main.rs", ["-o", folder / "main"], [name for name, _ in all_of])
+    rustc(folder, folder / "main.rs", ["-o", folder / "main"], ["chosen", *(name for name, _ in all_of)])
     return folder / "main"
 
 
-def ask(program, request):
-    ran = subprocess.run([program], input=request + "\n", capture_output=True, text=True, timeout=60)
+# ---- what the two answer
+
+
+def ask(program, number, request):
+    try:
+        ran = subprocess.run([program], input=f"{number} {request}\n", capture_output=True, text=True, timeout=20)
+    except subprocess.TimeoutExpired:
+        return "does not end"
     return ran.stdout.strip() or "stopped"
 
 
-def edits():
-    """The edits of code: name, file, old and new text."""
-    for path in sorted(CRATES.glob("*/must-fail/*.edit")):
-        words = dict(re.findall(r"^(file|old|new): (.*)$", path.read_text(), flags=re.M))
-        if words["file"].startswith("src/"):
-            yield f"{path.parent.parent.name}/{path.stem}", words
-
-
-def cut(text, most=100):
+def cut(text, most=120):
     return text if len(text) <= most else text[:most] + " .."
 
 
+def told(program, number, change):
+    """Whether a change shows what it claims: an input tells it from the program, or, where it means the same, does not."""
+    right, wrong = ask(program, 0, INPUTS[change.title]), ask(program, number, INPUTS[change.title])
+    good = (right == wrong) if change.same else (right != wrong)
+    verdict = "the same" if right == wrong else "edited"
+    print(f"{change.title}: {INPUTS[change.title].split(' ')[0]}\n    right: {cut(right)}\n"
+          f"    {verdict if good else 'NOT TOLD APART' if right == wrong else 'NOT THE SAME'}: {cut(wrong)}", flush=True)
+    return good
+
+
 def main(chosen):
-    apart, failed = 0, 0
-    for name in sorted(set(INPUTS) - {name for name, _ in edits()}):
-        print(f"{name}: NO SUCH EDIT")
-        failed += 1
+    of_code = [change for change in edits.all_changes() if edits.function_of(change)]
+    wrong = edits.misfits() + [f"{name}: NO SUCH CHANGE" for name in sorted(set(INPUTS) - {c.title for c in of_code})]
+    wrong += [f"{change.title}: NO INPUT" for change in of_code if change.title not in INPUTS]
+    for line in wrong:
+        print(line)
+    numbered = [(number, change) for number, change in enumerate(of_code, 1)
+                if change.title in INPUTS and (not chosen or any(change.title.startswith(word) for word in chosen))]
     with tempfile.TemporaryDirectory() as scratch:
-        scratch = pathlib.Path(scratch)
-        program = build(scratch / "as-it-is")
-        for number, (name, words) in enumerate(edits()):
-            if chosen and not any(name.startswith(word) for word in chosen):
-                continue
-            if name not in INPUTS:
-                print(f"{name}: NO INPUT")
-                failed += 1
-                continue
-            old, new = words["old"], words["new"]
-            if (CRATES / name.split("/")[0] / words["file"]).read_text().count(old) != 1:
-                print(f"{name}: its old text does not stand once in {words['file']}")
-                failed += 1
-                continue
-            edited = build(scratch / str(number), name.split("/")[0], words["file"],
-                           lambda text: text.replace(old, new), scratch / "as-it-is")
-            right, wrong = ask(program, INPUTS[name]), ask(edited, INPUTS[name])
-            apart, failed = (apart + 1, failed) if right != wrong else (apart, failed + 1)
-            print(f"{name}: {INPUTS[name].split(' ')[0]}\n    right: {cut(right)}\n"
-                  f"    {'edited' if right != wrong else 'NOT TOLD APART'}: {cut(wrong)}", flush=True)
-    print(f"{apart} told apart, {failed} not")
+        program = build(pathlib.Path(scratch), numbered)
+        good = sum(told(program, number, change) for number, change in numbered)
+    failed = len(wrong) + len(numbered) - good
+    print(f"{good} told apart, {failed} not")
     return 0 if failed == 0 else 1
 
 

@@ -1,3 +1,4 @@
 -- What a call comes to, and what its answer says.
 pub mod Outcome
 pub mod Answers
+pub mod Laws

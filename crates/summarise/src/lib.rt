@@ -149,27 +149,27 @@ fn read_chunk(
 
 // The case of the summary: blank where no record was read, spoilt where there is a fault, else a hill, whose peak is as many levels below the start
 // as it has left values.
-fn chunk_head(mode: u16, t: Tally, c: Counts) -> Head
-    requires { ⌜ ((A : Arrays) × Concludes (modeOf mode) A c t) ⌝ }
-    ensures { λ r. ⌜ ((A : Arrays) (xs : List (Record Amounts)) → Summed (modeOf mode) A c t xs → Said mode r A (summaryOf (modeOf mode .algebra) xs)) ⌝ }
+fn chunk_head(mode: u16, total: Tally, c: Counts) -> Head
+    requires { ⌜ ((A : Arrays) × Concludes (modeOf mode) A c total) ⌝ }
+    ensures { λ r. ⌜ ((A : Arrays) (xs : List (Record Amounts)) → Summed (modeOf mode) A c total xs → Said mode r A (summaryOf (modeOf mode .algebra) xs)) ⌝ }
 {
-    if !t.begun {
+    if !total.begun {
         return Head::Blank;
     }
-    if t.fault < fault::NONE {
+    if total.fault < fault::NONE {
         return Head::Spoilt(SpoiltHead {
-            fault: t.fault as u16,
-            start: t.start,
-            end: t.level,
-            opened: t.opened,
+            fault: total.fault as u16,
+            start: total.start,
+            end: total.level,
+            opened: total.opened,
         });
     }
     let middle = judge::held_in(mode, c.mid);
     Head::Hill(HillHead {
-        start: t.start,
-        peak: t.start - (c.nl as u16),
-        end: t.level,
-        opened: t.opened,
+        start: total.start,
+        peak: total.start - (c.nl as u16),
+        end: total.level,
+        opened: total.opened,
         middle,
     })
 }

@@ -96,7 +96,8 @@ pub extern "C" fn tulghimo_summarise(chunk: &[u8], mode: u32, out: &mut [u8]) ->
     ensures answer { λ r. ⌜ r ≡ lengthStatus (lengthAnswered (summariseOutcome (now (chunk .entry)) mode (length (now (out .entry))))) ⌝ }
     ensures buffer { λ _. ⌜ now (out .exit) ≡ bufferAfter (summariseOutcome (now (chunk .entry)) mode (length (now (out .entry)))) (now (out .entry)) ⌝ }
 {
-    status(summarise::summarise(chunk, mode, out))
+    let summary = summarise::summarise(chunk, mode, out);
+    status(summary)
 }
 
 // Merges two summaries: the length of theirs, or -5, -6 or -12 and `out` as it was.
@@ -114,8 +115,8 @@ pub extern "C" fn tulghimo_merge_row(row: &[u8], out: &mut [u8]) -> i64
     ensures answer { λ r. ⌜ r ≡ lengthStatus (lengthAnswered (mergeRowOutcome (now (row .entry)) (length (now (out .entry))))) ⌝ }
     ensures buffer { λ _. ⌜ now (out .exit) ≡ bufferAfter (mergeRowOutcome (now (row .entry)) (length (now (out .entry)))) (now (out .entry)) ⌝ }
 {
-    let w = merge::merge_row(row, out);
-    status(w)
+    let merged = merge::merge_row(row, out);
+    status(merged)
 }
 
 // Finishes one summary: 0 and its figure, or minus the refusal and `figure` as it was.

@@ -37,7 +37,7 @@ returns-3 : tie.Need-returns-3
 returns-3 c A xs s =
     let a = c .before .before .before .before .before .before .before .before in
     let fits : mag (a .args .c .mid) < 2 ^ 63 = search needs in
-    says-hill (a .args .mode) {t = a .args .t} {c = a .args .c} (c .before .before .before .before .before .before .if1 .left) (c .before .before .before .before .if2 .left) xs refl (c .before .before .held-in .ensures ∙ ap (heldIn (a .args .mode)) (back w64 (a .args .c .mid) fits)) s
+    says-hill (a .args .mode) {t = a .args .total} {c = a .args .c} (c .before .before .before .before .before .before .if1 .left) (c .before .before .before .before .if2 .left) xs refl (c .before .before .held-in .ensures ∙ ap (heldIn (a .args .mode)) (back w64 (a .args .c .mid) fits)) s
 
 pub chunk-head-spec : {M : Type 1} → statement M
 chunk-head-spec =

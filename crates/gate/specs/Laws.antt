@@ -1,0 +1,28 @@
+-- What document 01 says of a lent buffer and of question 12, as laws of the definitions. Assumes nothing.
+use mathlib.Core.Path.{_≡_, refl, ap}
+use mathlib.Core.List.{List}
+use Prim.Native.Nat.{ℕ, _≤_, _<_}
+use lib.ListN.{length, take, drop}
+use lib.Seq.{take-append-seam, drop-append-seam}
+use borrow.Author.Tests.{le-leb, lt-leb}
+use Rattle.gate.specs.Outcome.{Outcome, refused, result, question, written, bufferAfter}
+
+-- "A 'no' .. leaves every buffer untouched."
+pub untouched : (n : ℕ) (b : List ℕ) → bufferAfter (refused n) b ≡ b
+untouched n b = refl
+
+-- "A 'yes' to all writes exactly the result": it stands at the buffer's start, and ..
+pub result-first : (w b : List ℕ) → take (length w) (bufferAfter (result w) b) ≡ w
+result-first w b = take-append-seam w (drop (length w) b)
+
+-- .. "bytes after it stay".
+pub rest-stays : (w b : List ℕ) → drop (length w) (bufferAfter (result w) b) ≡ drop (length w) b
+rest-stays w b = drop-append-seam w (drop (length w) b)
+
+-- "Does the result fit the lent buffer?" A buffer of just its length is long enough, ..
+pub fits : (cap : ℕ) (w : List ℕ) → length w ≤ cap → written cap w ≡ result w
+fits cap w h = ap (λ test. question 12 test (result w)) (le-leb (length w) cap h)
+
+-- .. and one byte less is not.
+pub too-short : (cap : ℕ) (w : List ℕ) → cap < length w → written cap w ≡ refused 12
+too-short cap w h = ap (λ test. question 12 test (result w)) (lt-leb (length w) cap h)

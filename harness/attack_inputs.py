@@ -1,0 +1,216 @@
+"""What tells each change from the program: an input for every must-fail edit of code, by its name.
+
+Document 01's records and summaries, built by hand, and the requests that harness/attacks.py puts.
+"""
+
+import pathlib
+import struct
+
+ROOT = pathlib.Path(__file__).resolve().parent.parent
+D = (ROOT / "samples" / "d.log").read_bytes()
+GRAMS = 10**9
+NOTHING = -(2**63)
+
+
+def opening(depth, value, floor=-GRAMS, ceiling=GRAMS):
+    return struct.pack("<HHHiii", 18, 1, depth, value, floor, ceiling)
+
+
+def short(depth, value):
+    return struct.pack("<HHHi", 10, 1, depth, value)
+
+
+def close(depth):
+    return struct.pack("<HHH", 6, 2, depth)
+
+
+def blank(mode):
+    return struct.pack("<HHH", 6, 16, mode)
+
+
+def spoilt(mode, fault, start, end, opened):
+    return struct.pack("<HHHHHHI", 16, 17, mode, fault, start, end, opened)
+
+
+def hill(mode, start, peak, end, opened, left, middle, right=()):
+    """left from level start down to peak + 1; right from peak + 1 up, each a record's
+    value, floor and ceiling and what it holds so far."""
+    length = 24 + 8 * len(left) + 20 * len(right)
+    head = struct.pack("<HHHHHHI", length, 18, mode, start, peak, end, opened)
+    slopes = b"".join(struct.pack("<q", value) for value in [*left, middle])
+    return head + slopes + b"".join(struct.pack("<iiiq", *record) for record in right)
+
+
+def call(name, data, number=0, room=200):
+    """A request: the call, its bytes, its number (a mode, or where the right piece
+    begins) and how long its buffer is."""
+    return f"{name} {number} {room} {data.hex() or '-'}"
+
+
+def summarise(mode, chunk, room=200):
+    return call("summarise::summarise", chunk, mode, room)
+
+
+def merge(left, right, room=200):
+    return call("merge::merge", left + right, len(left), room)
+
+
+def halves(mode, floor=0):
+    """Log D cut after record 2, its first record with this floor."""
+    none = NOTHING if mode == 2 else 0
+    last = {1: -3, 2: -3, 3: 0, 4: 2**32 - 3}[mode]
+    head = hill(mode, 0, 0, 2, 2, [], none, [(10, floor, 100, none), (5, 0, 4, none)])
+    return head, hill(mode, 2, 0, 0, 1, [none, last], none)
+
+
+def runs(mode, floor=0):
+    return call("runs::runs", b"".join(halves(mode, floor)))
+
+
+HEAD, TAIL = halves(1)
+WHOLE = hill(1, 0, 0, 0, 3, [], 12)
+# A closed record of one gram at depth 1, and the two halves of what may hold it.
+INSIDE = hill(1, 1, 1, 1, 1, [], 1)
+OPEN = hill(1, 0, 0, 1, 1, [], 0, [(10, 0, 100, 0)])
+SHUT = hill(1, 1, 0, 0, 0, [0], 0)
+# 10 g that holds 1 g, the inner closed by the second of three chunks and the outer by the third.
+NESTED = hill(1, 0, 0, 2, 2, [], 0, [(10, 0, 100, 0), (1, 0, 100, 0)]) + hill(1, 2, 1, 1, 0, [0], 0) + SHUT
+NEGATIVE = opening(0, -3) + close(0)
+TEN_OVER_MINUS_3 = opening(0, 10) + opening(1, -3) + close(1) + close(0)
+TEN_OVER = short(0, 10) + short(1, 1) + close(1) + short(1, 5) + close(1) + close(0)
+NINE = short(0, 0) + short(1, 9) + close(1) + short(1, 1) + close(1) + close(0)
+TWO_DAYS = 2 * (short(0, 1) + close(0))
+LONGEST = short(0, 1) + 4095 * (short(1, 1) + close(1)) + close(0)
+
+# What tells each edit from the program.
+INPUTS = {
+    "codec/deeper_dropped": merge(HEAD, TAIL),
+    "codec/held_for_left": summarise(1, D[36:]),
+    "codec/held_over_ceiling": merge(hill(1, 0, 0, 1, 2, [], 0, [(10, 0, 100, 5)]), SHUT),
+    "codec/middle_left_out": merge(HEAD, hill(1, 2, 1, 1, 1, [0], 7)),
+    "codec/start_for_end": summarise(1, D[:36]),
+    "day/end_level": call("day::figures", short(0, 1)),
+    "day/log_65535": call("day::figures", LONGEST),
+    "day/nothing_is_0": call("day::figures", TEN_OVER_MINUS_3),
+    "day/rest_unread": call("day::figures", D),
+    "day/seven_unread": call("day::figures", D),
+    "day/stamp_for_eaten": call("day::figures", D),
+    "emit/peak_counted_twice": merge(HEAD, TAIL, 24),
+    "emit/sixteen_refused": merge(OPEN, OPEN, 16),
+    "fault/eight_before_seven": summarise(1, close(0) + short(1, 1)),
+    "fault/ground_not_asked": summarise(1, TWO_DAYS),
+    "fault/no_fault_found": summarise(1, short(0, 1) + TWO_DAYS),
+    "fault/takes_100001": call("plan::plan", hill(1, 0, 0, 1, 50_001, [], 0, [(10, 0, 100, 0)]) + hill(1, 1, 0, 0, 50_000, [0], 0)),
+    "figure/first_held": call("day::figures", TEN_OVER),
+    "figure/floor_as_ceiling": call("day::figures", D),
+    "figure/floor_once": runs(3, 50),
+    "figure/nothing_moved": runs(2),
+    "figure/other_figure_dropped": runs(2),
+    "figure/stamp_factor": call("day::figures", D),
+    "finish/blank_is_11": call("finish::finish", blank(1)),
+    "finish/end_level_ignored": call("finish::finish", OPEN),
+    "finish/start_level_for_fault": call("finish::finish", spoilt(1, 8, 3, 0, 2)),
+    "judge/end_for_peak": call("plan::plan", HEAD + TAIL),
+    "judge/fault_10": call("finish::finish", spoilt(1, 10, 0, 0, 1)),
+    "judge/ground_passed": call("finish::finish", hill(1, 2, 0, 1, 1, [0, 0], 0, [(0, 0, 0, 0)])),
+    "judge/hill_100001": call("finish::finish", hill(1, 0, 0, 0, 100_001, [], 0)),
+    "judge/one_gram_more": call("finish::finish", hill(1, 0, 0, 0, 1, [], GRAMS + 1)),
+    "merge/counts_before_piece": merge(HEAD, TAIL),
+    "merge/end_for_peak": merge(OPEN, hill(1, 1, 1, 2, 1, [], 0, [(5, 0, 4, 0)])),
+    "merge/hands_back_left": merge(HEAD, TAIL),
+    "merge/join_fault_ignored": merge(OPEN, OPEN),
+    "merge/modes_not_compared": merge(HEAD, halves(3)[1]),
+    "merge/modes_of_row_not_compared": call("merge::merge_row", HEAD + halves(3)[1]),
+    "merge/opened_not_cut": merge(spoilt(1, 9, 0, 1, 100_001), INSIDE),
+    "merge/pieces_cut_alike": call("merge::merge_row", blank(1) + HEAD),
+    "merge/right_fault_ignored": merge(spoilt(1, 8, 0, 1, 2), spoilt(1, 7, 1, 0, 2)),
+    "merge/takes_65": call("merge::merge_row", 65 * blank(1)),
+    "merge/two_pieces_as_one": call("merge::merge_row", 2 * blank(1) + HEAD + TAIL),
+    "merge/written_elsewhere": call("merge::merge_row", HEAD + TAIL),
+    "number/big_endian_read": call("record::read_first", D),
+    "number/big_endian_write": summarise(1, D),
+    "number/product_not_wrapped": call("day::figures", TEN_OVER_MINUS_3),
+    "number/sign_bit_not_written": summarise(1, opening(0, -3)),
+    "number/sign_lost": call("record::read_first", NEGATIVE),
+    "plan/fit_of_runs": call("plan::plan", HEAD + TAIL, room=12),
+    "plan/line_after_the_last": call("plan::plan", HEAD + TAIL),
+    "plan/line_kind": call("plan::plan", HEAD + TAIL),
+    "plan/lowest_depth": call("plan::plan", HEAD + TAIL),
+    "plan/no_line_written": call("plan::plan", HEAD + TAIL),
+    "plan/refused_though_written": call("plan::plan", HEAD + TAIL),
+    "record/ceiling_unlimited": call("finish::finish", hill(1, 0, 0, 1, 1, [], 0, [(10, 0, GRAMS + 1, 0)])),
+    "record/close_of_7": call("record::read_first", close(1)),
+    "record/default_floor": call("record::read_first", short(0, -5)),
+    "record/depth_64": call("record::read_first", close(64)),
+    "record/floor_equals_ceiling": call("record::read_first", opening(0, 1, 5, 5)),
+    "record/floor_over_ceiling": call("record::read_first", D),
+    "record/length_11": call("record::read_first", short(0, -5)),
+    "row/length_7": call("merge::merge_row", 2 * blank(1)),
+    "row/length_field_off": call("merge::merge_row", blank(1) + HEAD),
+    "row_plan/blank_at_ground": call("plan::plan", OPEN + blank(1) + SHUT),
+    "row_plan/meets_is_7": call("plan::plan", OPEN + OPEN),
+    "row_plan/modes_not_compared": call("plan::plan", HEAD + halves(3)[1]),
+    "row_plan/no_shared_record": call("plan::plan", OPEN + INSIDE + SHUT),
+    "run_level/floor_is_ceiling": runs(3),
+    "run_level/piece_begins_at_its_number": runs(1),
+    "run_level/start_for_peak": call("runs::runs", HEAD + hill(1, 2, 1, 2, 1, [0], 0, [(7, 0, 100, 0)]) + TAIL),
+    "runs/fit_of_lines": runs(1),
+    "runs/floor_as_ceiling": runs(3),
+    "runs/hills_swapped": runs(1),
+    "runs/inside_out": runs(3),
+    "runs/kind_of_run": runs(1),
+    "runs/levels_left_out": runs(1),
+    "runs/no_run_written": runs(1),
+    "runs/refused_though_written": runs(1),
+    "runs/run_after_the_last": runs(1),
+    "slopes/add_drops_what_was_held": summarise(1, opening(1, 5) + close(1) + opening(1, 7) + close(1)),
+    "slopes/close_ceiling_as_floor": summarise(3, D),
+    "slopes/left_level_twice": summarise(1, close(3)),
+    "slopes/push_at_the_first": summarise(1, opening(0, 10) + opening(1, 5) + close(1) + opening(1, 7)),
+    "summarise/always_blank": summarise(1, D),
+    "summarise/closes_counted": summarise(1, D),
+    "summarise/first_chunk_only": summarise(1, D[36:]),
+    "summarise/joint_not_asked": summarise(1, opening(0, 10) + opening(0, 10)),
+    "summarise/peak_over_1": summarise(1, D[36:]),
+    "summarise/takes_65537": summarise(1, LONGEST + b"\0"),
+    "summarise/twelve_before_reading": summarise(1, D[:71], 65_537),
+    "text/figures_swapped": call("day::text", D),
+    "text/leading_zero": call("day::text", NINE),
+    "text/minus_sign": call("day::text", NEGATIVE),
+    "text/no_newline": call("day::text", D),
+    "text/refusal_space": call("day::text", b""),
+    "text/zero_digit": call("day::text", D),
+    "tulghimo/day_always_10": call("tulghimo::tulghimo_day", D[:71]),
+    "tulghimo/day_of_a_part": call("tulghimo::tulghimo_day", D),
+    "tulghimo/day_stamp_for_eaten": call("tulghimo::tulghimo_day", D),
+    "tulghimo/finish_always_5": call("tulghimo::tulghimo_finish", blank(1)),
+    "tulghimo/finish_zero": call("tulghimo::tulghimo_finish", WHOLE),
+    "tulghimo/merge_left_twice": call("tulghimo::tulghimo_merge", HEAD + TAIL, len(HEAD)),
+    "tulghimo/merge_row_always_6": call("tulghimo::tulghimo_merge_row", HEAD + TAIL),
+    "tulghimo/merge_row_refused": call("tulghimo::tulghimo_merge_row", HEAD + TAIL),
+    "tulghimo/merge_swapped": call("tulghimo::tulghimo_merge", HEAD + TAIL, len(HEAD)),
+    "tulghimo/plan_always_one_line": call("tulghimo::tulghimo_plan", NESTED),
+    "tulghimo/plan_refused": call("tulghimo::tulghimo_plan", HEAD + TAIL),
+    "tulghimo/read_ceiling_for_floor": call("tulghimo::tulghimo_read", D),
+    "tulghimo/read_status": call("tulghimo::tulghimo_read", b""),
+    "tulghimo/refusal_positive": call("tulghimo::tulghimo_day", b""),
+    "tulghimo/runs_always_one": call("tulghimo::tulghimo_runs", NESTED),
+    "tulghimo/runs_refused": call("tulghimo::tulghimo_runs", HEAD + TAIL),
+    "tulghimo/status_always_12": call("tulghimo::tulghimo_merge_row", 65 * blank(1)),
+    "tulghimo/summarise_always_net": call("tulghimo::tulghimo_summarise", D, 4),
+    "tulghimo/summarise_refused": call("tulghimo::tulghimo_summarise", D, 1),
+    "tulghimo/work_always_4": call("tulghimo::tulghimo_work", OPEN + OPEN),
+    "tulghimo/work_levels_for_joins": call("tulghimo::tulghimo_work", HEAD + TAIL),
+    "tulghimo/work_no_figure": call("tulghimo::tulghimo_work", HEAD + TAIL),
+    "tulghimo/work_of_a_part": call("tulghimo::tulghimo_work", HEAD + TAIL),
+    "work/first_outcome": call("work::work", NESTED),
+    "work/highest_level_only": call("work::work", HEAD + TAIL),
+    "work/joins_invented": call("work::work", HEAD + TAIL),
+    "work/left_value_dropped": call("work::work", HEAD + TAIL),
+    "work/levels_invented": call("work::work", HEAD + TAIL),
+    "work/middles_at_highest": call("work::work", OPEN + INSIDE + SHUT),
+    "work/no_earlier_outcomes": call("work::work", NESTED),
+    "work/no_middles": call("work::work", OPEN + INSIDE + SHUT),
+    "work/outcomes_at_highest": call("work::work", NESTED),
+    "work/refusal_invented": call("work::work", OPEN + OPEN),
+}
