@@ -71,10 +71,13 @@ fn claim(mode: Mode, chunks: &[Vec<u8>], steps: &[Step]) -> (Vec<Answer>, Option
     (answers, finished)
 }
 
+fn step(call: Call, place: usize, count: usize, capacity: usize) -> Step {
+    Step { call, place, count, capacity }
+}
+
 #[test]
 fn one_list_on_log_d() {
     // Cut after each record; eaten, so that floors and ceilings count.
-    let step = |call, place, count, capacity| Step { call, place, count, capacity };
     let steps = [
         // open 0: 44 bytes. close 1: 32. Both levels of "open 1; close 1" are at the peak: 24.
         step(Call::Merge, 1, 2, 23),
@@ -96,8 +99,8 @@ fn one_list_on_log_d() {
 fn one_list_on_two_days() {
     // open 0, close 0 twice over, cut between all: two hills of 24 bytes that meet at level 0, a spoilt one of 16, and 8 in the end.
     let chunks = [short(0, 1), close(0), short(0, 1), close(0)];
-    let step = |place, capacity| Step { call: Call::Merge, place, count: 2, capacity };
-    let (answers, finished) = claim(Mode::Net, &chunks, &[step(0, 24), step(1, 24), step(0, 15), step(0, 16)]);
+    let two = |place, capacity| step(Call::Merge, place, 2, capacity);
+    let (answers, finished) = claim(Mode::Net, &chunks, &[two(0, 24), two(1, 24), two(0, 15), two(0, 16)]);
     assert_eq!(answers, [Ok(24), Ok(24), Err(12), Ok(16)]);
     assert_eq!(finished, Some(Err(8)));
 }
@@ -131,6 +134,7 @@ fn lists_on_well_formed_logs() {
 #[test]
 fn lists_on_logs_with_a_fault() {
     let mut rng = Rng::new(0xd32);
+    // 9 takes 25 chunks at the least: `lists_on_100_000_opened_and_one_more`, `lists_that_carry_a_9`.
     for number in [7, 8, 10, 11] {
         for _ in 0..150 {
             let log = logs::with_fault(&mut rng, number);
@@ -152,4 +156,77 @@ fn lists_on_rows_that_no_one_call_takes() {
         }
     }
     assert!(to_one > 60, "{to_one}");
+}
+
+/// A flat log of so many opened records of one gram, in chunks of `size` records, an even number. Each chunk but the last ends within a
+/// record that the next one closes. Beside them three blank ones: at both ends and after the tenth.
+fn flat_chunks(opened: usize, size: usize) -> Vec<Vec<u8>> {
+    let mut records = vec![short(0, 1)];
+    records.extend((1..opened).flat_map(|_| [short(1, 1), close(1)]));
+    records.push(close(0));
+    let mut chunks: Vec<Vec<u8>> = records.chunks(size).map(<[_]>::concat).collect();
+    chunks.insert(10, Vec::new());
+    chunks.insert(0, Vec::new());
+    chunks.push(Vec::new());
+    chunks
+}
+
+/// What the log above comes to, by counting: 9 above 100,000. Else its net is one gram a record, which is all eaten, its heaviest line
+/// 1 + 1, its stamp 1 + 31 for each record that the first one holds.
+fn flat_outcome(mode: Mode, opened: usize) -> Result<i64, u8> {
+    let grams = opened as i64;
+    let figure = match mode {
+        Mode::Net | Mode::Eaten => grams,
+        Mode::Heaviest => 2,
+        Mode::Stamp => 1 + 31 * (grams - 1),
+    };
+    if opened > 100_000 {
+        Err(9)
+    } else {
+        Ok(figure)
+    }
+}
+
+#[test]
+fn lists_on_100_000_opened_and_one_more() {
+    // 8,190 records of 10 and 6 bytes have 65,520, so there are 25 chunks and the three blank ones. A hill has 24 bytes, a spoilt one 16.
+    for (opened, length) in [(100_000, 24), (100_001, 16)] {
+        let chunks = flat_chunks(opened, 8190);
+        assert_eq!(chunks.len(), 28);
+        let steps = [
+            // 19 chunks and two blank ones: the first record and the last are still open, 24 + 20 × 2.
+            step(Call::MergeRow, 0, 21, 64),
+            // Two chunks from the middle: one record to close and one still open, 24 + 8 + 20.
+            step(Call::Merge, 1, 2, 52),
+            step(Call::MergeRow, 0, 7, length - 1),
+            step(Call::MergeRow, 0, 7, length),
+        ];
+        for mode in Mode::ALL {
+            let (answers, finished) = claim(mode, &chunks, &steps);
+            assert_eq!(answers, [Ok(64), Ok(52), Err(12), Ok(length)]);
+            assert_eq!(finished, Some(flat_outcome(mode, opened)));
+        }
+    }
+}
+
+#[test]
+fn lists_that_carry_a_9() {
+    // 110 chunks of some 1,000 opened records and three blank ones: more than the plan and the work take, and more than one call merges.
+    let chunks = flat_chunks(110_000, 2000);
+    assert_eq!(chunks.len(), 113);
+    let steps = [
+        step(Call::MergeRow, 0, 64, 64),
+        // 62 chunks and 41 more have some 103,000: spoilt before the end of the log, and what comes after does not mend it.
+        step(Call::MergeRow, 0, 42, 15),
+        step(Call::MergeRow, 0, 42, 16),
+        step(Call::Merge, 1, 2, 52),
+        step(Call::Merge, 0, 2, 15),
+        step(Call::Merge, 0, 2, 16),
+        step(Call::MergeRow, 0, 7, 16),
+    ];
+    for mode in Mode::ALL {
+        let (answers, finished) = claim(mode, &chunks, &steps);
+        assert_eq!(answers, [Ok(64), Err(12), Ok(16), Ok(52), Err(12), Ok(16), Ok(16)]);
+        assert_eq!(finished, Some(flat_outcome(mode, 110_000)));
+    }
 }
