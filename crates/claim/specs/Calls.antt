@@ -20,7 +20,7 @@ use Rattle.summary.specs.OutcomeLaws.{merge-is}
 use Rattle.plan_work.specs.LogWork.{ReadableRow, valid-row}
 use Rattle.outcome.specs.Outcomes.{mergeRowOutcome}
 use Rattle.outcome.specs.Laws.{AllAccepted, merge-row-is}
-use Rattle.claim.specs.Claim.{recordsRead, stretchBytes, leaves, Lent, toMerge, toMergeRow, bufferOf, RowSize, Enough, Neighbours, called, byCalls, onStretches}
+use Rattle.claim.specs.Claim.{recordsRead, stretchBytes, leaves, Lent, toMerge, toMergeRow, bufferOf, RowSize, Takes, Neighbours, called, byCalls, onStretches}
 use Rattle.claim.specs.Stretches.{AllRead, reads-readable, in-append, reads-joined, in-joined, read-take, read-drop, read-append}
 
 -- What a call has written stands in its buffer.
@@ -69,7 +69,7 @@ module _ (m : ℕ) (u : modeInUse m ≡ true) where
       ap (λ (s : SummaryIn m). written (length b) (encode m s)) (mergeRow-summaries (modeOf m .algebra) (modeOf m .laws) (map recordsRead l)) ∙
       rw (stretch-encoded m (joined l), in-joined l a)
 
-  called-is : (l : List (List ℕ)) (b : Lent) → AllRead l → Enough b (length l) → called (map (stretchBytes m) l) b ≡ written (length (bufferOf b)) (stretchBytes m (joined l))
+  called-is : (l : List (List ℕ)) (b : Lent) → AllRead l → Takes b (length l) → called (map (stretchBytes m) l) b ≡ written (length (bufferOf b)) (stretchBytes m (joined l))
   called-is [] (toMerge b) a e = absurd (omega arith)
   called-is (x ∷ []) (toMerge b) a e = absurd (omega arith)
   called-is (x ∷ y ∷ []) (toMerge b) a e = two-called x y b a
@@ -77,7 +77,7 @@ module _ (m : ℕ) (u : modeInUse m ≡ true) where
   called-is l (toMergeRow b) a e = row-called l b a e
 
   -- The new piece is the summary of the new stretch; 12 where the buffer is shorter.
-  call-same : (l : List (List ℕ)) (b : Lent) → AllRead l → Enough b (length l) → byCalls (map (stretchBytes m) l) b ≡ onResult (stretchBytes m) (onStretches m l b)
+  call-same : (l : List (List ℕ)) (b : Lent) → AllRead l → Takes b (length l) → byCalls (map (stretchBytes m) l) b ≡ onResult (stretchBytes m) (onStretches m l b)
   call-same l b a e = ap (λ (o : Outcome (List ℕ)). leaves o (bufferOf b)) (called-is l b a e) ∙ go (leb (length (stretchBytes m (joined l))) (length (bufferOf b)))
     where
       go : (t : Bool) → leaves (cond t (result (stretchBytes m (joined l))) (refused 12)) (bufferOf b) ≡ onResult (stretchBytes m) (cond t (result (joined l)) (refused 12))
@@ -94,7 +94,7 @@ module _ (m : ℕ) (u : modeInUse m ≡ true) where
       let w : length l ≡ c .many = length-take (c .many) (drop (c .place) st) ∙ omega (arith, n .inside) in
       let a : AllRead l = read-take (c .many) (drop (c .place) st) (read-drop (c .place) st i) in
       record {
-        same = call-same l (c .lent) a (subst (Enough (c .lent)) (sym w) (n .enough));
+        same = call-same l (c .lent) a (subst (Takes (c .lent)) (sym w) (n .takes));
         kept = go (leb (length (stretchBytes m (joined l))) (length (bufferOf (c .lent))));
       }
     where

@@ -15,14 +15,14 @@ use Rattle.record.specs.Record.{recordsOf}
 use Rattle.record.specs.declared.Fields.{Fields}
 use Rattle.figure.specs.FourModes.{Amounts}
 use Rattle.figure.specs.Mode.{modeOf}
-use Rattle.hill.specs.Verdict.{pass, refuse}
-use Rattle.hill.specs.Log.{Record, logFault}
-use Rattle.hill.specs.Questions.{NoOfLog, Lowest}
+use Rattle.hill.specs.Log.{Record}
+use Rattle.hill.specs.Questions.{NoOfLog}
+use Rattle.hill.specs.Closing.{ClosedBy}
 use Rattle.hill.specs.Tree.{Forest, nil, tree, write, value}
-use Rattle.hill.specs.Row.{joined, Call, answer, put, replay, answers, fitting, onResult}
+use Rattle.hill.specs.Row.{joined, Call, answer, put, replay, answers, Proper, fitting, onResult}
 use Rattle.summary.specs.Outcomes.{chunkOf, summaryBytes, summariseOutcome, mergeOutcome, finishOutcome, logOutcome}
 use Rattle.join_plan.specs.Plan.{Line, joins, folded}
-use Rattle.join_plan.specs.ByRecords.{Joined, IsPlan}
+use Rattle.join_plan.specs.ByRecords.{InChunk, IsPlan}
 use Rattle.outcome.specs.Outcomes.{linesBytes, mergeRowOutcome, planOutcome, workOutcome}
 
 -- ---- a log and its cut
@@ -54,7 +54,7 @@ abbrev pub parts : {A : Type 0} → List A → (a : ℕ) → List ℕ → List (
 parts xs a [] = drop a xs ∷ []
 parts xs a (p ∷ ps) = slice a p xs ∷ parts xs p ps
 
--- "Every cut of the log between records into P chunks": the bytes between P - 1 places.
+-- A cut of the log between records, at P - 1 places: the P chunks are the bytes between them.
 unfoldable pub cutAt : (log places : List ℕ) → List (List ℕ)
 cutAt log places = parts log 0 (map (byteAt (fieldsRead log)) places)
 
@@ -97,7 +97,7 @@ AllChunks mode (c ∷ cs) [] = ⊥
 AllChunks mode [] (b ∷ bs) = ⊥
 AllChunks mode [] [] = Unit {0}
 
--- "For every log of readable records, every mode, every cut of the log between records into P chunks, .. each within the limits, some perhaps blank."
+-- Every log of readable records, every mode, every cut of the log between records into chunks within the limits, some perhaps blank.
 pub record IsCut (mode : ℕ) (log places : List ℕ) (buffers : List (List ℕ)) : Type 0 where
   pub mode-low : 1 ≤ mode
   pub mode-high : mode ≤ 4
@@ -120,14 +120,14 @@ bufferOf (toMergeRow b) = b
 abbrev pub RowSize : ℕ → Type 0
 RowSize many = (2 ≤ many) × (many ≤ 64)
 
--- Merging a row is put on at most 64, though the row may have more: "A row of 2 to 64 summaries can also be merged in one call".
-abbrev pub Enough : Lent → ℕ → Type 0
-Enough (toMerge b) many = many ≡ 2
-Enough (toMergeRow b) many = RowSize many
+-- How many pieces a merge takes. Merging a row takes at most 64, though the row may have more: "A row of 2 to 64 summaries can also be merged in one call".
+abbrev pub Takes : Lent → ℕ → Type 0
+Takes (toMerge b) many = many ≡ 2
+Takes (toMergeRow b) many = RowSize many
 
 -- "Neighbours of the row as it then stands": `many` pieces from `place` on.
 pub record Neighbours (c : Call Lent) (row : List (List ℕ)) : Type 0 where
-  pub enough : Enough (c .lent) (c .many)
+  pub takes : Takes (c .lent) (c .many)
   pub inside : c .place + c .many ≤ length row
 
 -- What the call comes to on these pieces; merging a row has them "lent end to end".
@@ -148,9 +148,17 @@ told (c ∷ cs) row = lengthAnswered (answer called c row) ∷ told cs (put byCa
 abbrev pub onStretches : (mode : ℕ) → List (List ℕ) → Lent → Outcome (List ℕ)
 onStretches mode = fitting (λ l stretch. leb (length (stretchBytes mode stretch)) (length (bufferOf l))) joined
 
--- ---- the claim
+-- ---- what a log says, and its joins
 
--- The recursion on a log without fault: the log is the traversal of exactly one tree, and what it says is that tree's figure, stored.
+-- "A log's lowest-numbered fault is the lowest of questions 7 to 11 below that gets a \"no\" for the uncut log": it is n.
+abbrev pub LowestFault : List (Record Amounts) → (n : ℕ) → Type 0
+LowestFault log n = NoOfLog log n × ((m : ℕ) → NoOfLog log m → n ≤ m)
+
+-- "A log is well formed if it has a record, begins and ends at level 0, ..": no question of 7 to 11 gets a "no".
+abbrev pub WellFormed : List (Record Amounts) → Type 0
+WellFormed log = (n : ℕ) → NoOfLog log n → ⊥
+
+-- "The recursion's figure": the log is the traversal of exactly one tree, and what it says is this tree's figure by METR 2006-64, stored.
 pub record Recursion (mode : ℕ) (log : List ℕ) : Type 0 where
   pub root : Amounts
   pub below : Forest Amounts
@@ -158,13 +166,16 @@ pub record Recursion (mode : ℕ) (log : List ℕ) : Type 0 where
   pub only : (f : Forest Amounts) → write 0 f ≡ recordsRead log → f ≡ tree root below nil
   pub figure : logSays mode log ≡ result (modeOf mode .store (value (modeOf mode .algebra) (tree root below nil)))
 
--- "Some record opened in i is closed in j", and the lines of a plan for chunks i and j.
-abbrev pub SomeJoined : List (List (Record Amounts)) → (i j : ℕ) → Type 0
-SomeJoined chunks i j = (d : ℕ) × Joined chunks i j d
+-- "A join of chunks i < j: some record opened in i is closed in j": one of depth d, opened at place p of the log, in chunk i, and closed at place q, in chunk j.
+abbrev pub AreJoined : List (List (Record Amounts)) → (i j : ℕ) → Type 0
+AreJoined chunks i j = (d : ℕ) × (p : ℕ) × (q : ℕ) × InChunk chunks i p × InChunk chunks j q × ClosedBy (joined chunks) p q d
 
+-- The lines of a plan that have i and j.
 abbrev pub linesFor : (i j : ℕ) → List Line → List Line
 linesFor i j [] = []
 linesFor i j (l ∷ ls) = cond (eqb (l .i) i && eqb (l .j) j) (l ∷ linesFor i j ls) (linesFor i j ls)
+
+-- ---- the claim
 
 module _ (mode : ℕ) (log places : List ℕ) (buffers : List (List ℕ)) where
   -- The chunks, their records, and the row "before any merge", "its summaries end to end".
@@ -180,34 +191,36 @@ module _ (mode : ℕ) (log places : List ℕ) (buffers : List (List ℕ)) where
   abbrev pub lentRow : List ℕ
   lentRow = endToEnd startRow
 
-  -- The plan and the work along it.
+  -- Each merge of the list is on neighbours of the row as it then stands.
+  abbrev pub AreMerges : List (Call Lent) → Type 0
+  AreMerges merges = Proper byCalls Neighbours merges startRow
+
+  -- The plan of a well-formed log, and the work along it.
   pub record Planned : Type 0 where
     -- "just the lines described above", by the chunks' records: there is one such list
     pub lines : List Line
     pub described : IsPlan chunkRecords lines
     pub only : (ls : List Line) → IsPlan chunkRecords ls → ls ≡ lines
-    -- a line for two chunks exactly when one closes a record that the other opened: one line, else none
-    pub one-line : (i j : ℕ) → i < j → SomeJoined chunkRecords i j ↔ (length (linesFor i j lines) ≡ 1)
-    pub no-line : (i j : ℕ) → i < j → (SomeJoined chunkRecords i j → ⊥) ↔ (length (linesFor i j lines) ≡ 0)
+    -- "one line a join": exactly one where some record opened in i is closed in j, and none where none is
+    pub one-line : (i j : ℕ) → i < j → AreJoined chunkRecords i j ↔ (length (linesFor i j lines) ≡ 1)
+    pub no-line : (i j : ℕ) → i < j → (AreJoined chunkRecords i j → ⊥) ↔ (length (linesFor i j lines) ≡ 0)
     -- at most 2P - 3
     pub few : length lines + 3 ≤ 2 * length chunks
     -- "the plan's call writes just the lines .., or, where its buffer is too short for them, answers 12"
-    pub planned : (cap : ℕ) → planOutcome lentRow cap ≡ written cap (linesBytes lines)
+    pub plan : (cap : ℕ) → planOutcome lentRow cap ≡ written cap (linesBytes lines)
     -- "the figure, the joins used (its lines) and the number of levels folded"
-    pub worked : workOutcome lentRow ≡ onResult (λ f. record { figure = f; joins = joins lines; levels = folded lines }) (logSays mode log)
+    pub work : workOutcome lentRow ≡ onResult (λ f. record { figure = f; joins = joins lines; levels = folded lines }) (logSays mode log)
 
   -- "A single claim about the log, its cut, the mode and the whole list."
   pub record Claimed (merges : List (Call Lent)) : Type 0 where
-    -- the cut: each chunk is readable and has just the records between its places, and the chunks joined are the log, of bytes and of records
+    -- the cut: each chunk is readable and has just the records between its places; the chunks joined are the log, of bytes and of records
     pub cut-read : map recordsOf chunks ≡ map result (parts (fieldsRead log) 0 places)
     pub cut-joined : joined chunks ≡ log
     pub cut-records : joined chunkRecords ≡ recordsRead log
-    -- what the log says: "a log's lowest-numbered fault is the lowest of questions 7 to 11 .. that gets a \"no\" for the uncut log", ..
-    pub lowest : Lowest (NoOfLog (recordsRead log)) (logFault (recordsRead log))
-    pub faulty : (n : ℕ) → (logSays mode log ≡ refused n) ↔ (logFault (recordsRead log) ≡ refuse n)
-    -- .. or, where there is none, the recursion's figure
-    pub recursion : logFault (recordsRead log) ≡ pass → Recursion mode log
-    -- the stretches are readable, and joined are the log
+    -- what the log says: its "lowest-numbered fault" or, where it is well formed, "the recursion's figure"
+    pub fault : (n : ℕ) → (logSays mode log ≡ refused n) ↔ LowestFault (recordsRead log) n
+    pub recursion : WellFormed (recordsRead log) → Recursion mode log
+    -- the stretches after the whole list: each is readable, and joined they are the log
     pub readable : (s : List ℕ) → List·Memᴰ s (replay (onStretches mode) merges chunks) → (fs : List Fields) × (recordsOf s ≡ result fs)
     pub stretches : joined (replay (onStretches mode) merges chunks) ≡ log
     -- each merge answers 12, or "that summary's length"
@@ -216,7 +229,10 @@ module _ (mode : ℕ) (log places : List ℕ) (buffers : List (List ℕ)) where
     pub pieces : replay byCalls merges startRow ≡ map (stretchBytes mode) (replay (onStretches mode) merges chunks)
     -- where one piece is left, finish says what the log says
     pub finished : (p : List ℕ) → replay byCalls merges startRow ≡ p ∷ [] → finishOutcome p ≡ logSays mode log
-    -- and so does the work along the plan, where question 4 lets it be asked for
+    -- and so does the work along the plan, "taken from the row before any merge", where P is 2 to 64
     pub worked : RowSize (length chunks) → onResult (λ w. w .figure) (workOutcome lentRow) ≡ logSays mode log
-    -- the plan of a well-formed log, likewise
-    pub planned : RowSize (length chunks) → logFault (recordsRead log) ≡ pass → Planned
+    -- the plan, likewise: of a well-formed log its lines, of any other its fault
+    pub planned : RowSize (length chunks) → WellFormed (recordsRead log) → Planned
+    pub plan-refused : RowSize (length chunks) → (n : ℕ) → LowestFault (recordsRead log) n → (cap : ℕ) → planOutcome lentRow cap ≡ refused n
+    -- of any other number of chunks both answer 4
+    pub row-refused : (RowSize (length chunks) → ⊥) → ((cap : ℕ) → planOutcome lentRow cap ≡ refused 4) × (workOutcome lentRow ≡ refused 4)

@@ -142,7 +142,7 @@ byte-le (f ∷ fs) (suc a) (suc b) h = omega (arith, byte-le fs a b (omega arith
 
 bytes-in-order : (fs : List Fields) (a : ℕ) (ps : List ℕ) (n : ℕ) → InOrder a ps n → InOrder (byteAt fs a) (map (byteAt fs) ps) (byteAt fs n)
 bytes-in-order fs a [] n h = byte-le fs a n h
-bytes-in-order fs a (p ∷ ps) n h = (byte-le fs a p (h .0), bytes-in-order fs p ps n (h .1))
+bytes-in-order fs a (p ∷ ps) n h = (byte-le fs a p (omega (arith, h .0)), bytes-in-order fs p ps n (h .1))
 
 -- ---- parts
 
@@ -154,7 +154,7 @@ seam (suc a) (suc p) (x ∷ xs) h = seam a p xs (omega arith)
 
 pub parts-joined : {A : Type 0} (xs : List A) (a : ℕ) (ps : List ℕ) (n : ℕ) → InOrder a ps n → joined (parts xs a ps) ≡ drop a xs
 parts-joined xs a [] n h = append-nil (drop a xs)
-parts-joined xs a (p ∷ ps) n h = ap (λ (t : List _). slice a p xs ++ t) (parts-joined xs p ps n (h .1)) ∙ seam a p xs (h .0)
+parts-joined xs a (p ∷ ps) n h = ap (λ (t : List _). slice a p xs ++ t) (parts-joined xs p ps n (h .1)) ∙ seam a p xs (omega (arith, h .0))
 
 module _ {A B : Type 0} (f : A → B) where
   map-take : (n : ℕ) (xs : List A) → map f (take n xs) ≡ take n (map f xs)
@@ -181,7 +181,7 @@ module _ (s : List ℕ) (fs : List Fields) (e : recordsOf s ≡ result fs) where
 
   parts-read : (a : ℕ) (ps : List ℕ) (n : ℕ) → InOrder a ps n → map recordsOf (parts s (byteAt fs a) (map (byteAt fs) ps)) ≡ map result (parts fs a ps)
   parts-read a [] n h = ap (λ (o : Outcome (List Fields)). o ∷ []) (records-rest fs a s e)
-  parts-read a (p ∷ ps) n h = ap₂ (λ (o : Outcome (List Fields)) (os : List (Outcome (List Fields))). o ∷ os) (part-read a p (h .0)) (parts-read p ps n (h .1))
+  parts-read a (p ∷ ps) n h = ap₂ (λ (o : Outcome (List Fields)) (os : List (Outcome (List Fields))). o ∷ os) (part-read a p (omega (arith, h .0))) (parts-read p ps n (h .1))
 
 -- What was read of each chunk, as records; and each was read.
 read-records : (cs : List (List ℕ)) (gs : List (List Fields)) → map recordsOf cs ≡ map result gs → map recordsRead cs ≡ map chunkOf gs

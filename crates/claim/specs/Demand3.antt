@@ -20,13 +20,32 @@ use Rattle.hill.specs.Row.{joined, Call, replay, answers, Proper, onResult}
 use Rattle.hill.specs.RowLaws.{SameRows, replay-joined}
 use Rattle.join_plan.specs.PlanOfLog.{plan-few}
 use Rattle.summary.specs.Outcomes.{finishOutcome, logOutcome}
-use Rattle.claim.specs.Claim.{fieldsRead, recordsRead, parts, cutAt, stretchBytes, logSays, firstRow, AllChunks, IsCut, RowSize, Lent, bufferOf, Neighbours, byCalls, onStretches, Recursion, Planned, Claimed}
+use Rattle.claim.specs.Claim.{fieldsRead, recordsRead, parts, cutAt, stretchBytes, logSays, firstRow, AllChunks, IsCut, RowSize, Lent, bufferOf, Neighbours, byCalls, onStretches, LowestFault, WellFormed, Recursion, AreMerges, Planned, Claimed}
 use Rattle.claim.specs.Stretches.{AllRead, Reads, read-each, reads-joined, in-joined}
 use Rattle.claim.specs.Cut.{parts-joined, cut-read, cut-reads, cut-records, cut-joined, every-cut}
 use Rattle.claim.specs.Lines.{PlanBy, plan-by}
 use Rattle.claim.specs.Calls.{list-same}
-use Rattle.claim.specs.LogRow.{says, finish-log, lines, work-log, figure-log, plan-log}
+use Rattle.claim.specs.LogRow.{says, finish-log, lines, work-log, figure-log, plan-log, plan-fault, plan-4, work-4}
 use Rattle.claim.specs.FirstRow.{first-row, in-use, only-one, told-lengths, lengths}
+
+-- The verdict on a log, by its questions.
+module _ (xs : List (Record Amounts)) where
+  by-fault : (n : ℕ) → LowestFault xs n → logFault xs ≡ refuse n
+  by-fault n f = go (logFault xs) refl
+    where
+      go : (v : Verdict) → logFault xs ≡ v → v ≡ refuse n
+      go pass e = absurd (lowest-log xs .none e n (f .0))
+      go (refuse k) e =
+          let l = lowest-log xs .least k e in
+          let k-is : k ≡ n = omega (arith, l .1 n (f .0), f .1 k (l .0)) in
+          ap refuse k-is
+
+  no-fault : WellFormed xs → logFault xs ≡ pass
+  no-fault w = go (logFault xs) refl
+    where
+      go : (v : Verdict) → logFault xs ≡ v → v ≡ pass
+      go pass e = refl
+      go (refuse k) e = absurd (w k (lowest-log xs .least k e .0))
 
 -- What a readable log says, by its lowest fault.
 module _ (m : ℕ) (log : List ℕ) (r : Reads log) where
@@ -34,15 +53,16 @@ module _ (m : ℕ) (log : List ℕ) (r : Reads log) where
   unfolding logOutcome
   says-by v e = says m log r ∙ ap (λ (w : Verdict). outcome w (modeOf m .store (figureOf (modeOf m .algebra) (recordsRead log)))) e
 
-  faulty : (n : ℕ) → (logSays m log ≡ refused n) ↔ (logFault (recordsRead log) ≡ refuse n)
-  faulty n = (go (logFault (recordsRead log)) refl, says-by (refuse n))
+  fault : (n : ℕ) → (logSays m log ≡ refused n) ↔ LowestFault (recordsRead log) n
+  fault n = (go (logFault (recordsRead log)) refl, λ f. says-by (refuse n) (by-fault (recordsRead log) n f))
     where
-      go : (v : Verdict) → logFault (recordsRead log) ≡ v → logSays m log ≡ refused n → v ≡ refuse n
+      go : (v : Verdict) → logFault (recordsRead log) ≡ v → logSays m log ≡ refused n → LowestFault (recordsRead log) n
       go pass e h = let z : _≡_ {A = ℕ} 0 1 = cc (says-by pass e) in absurd (omega arith)
-      go (refuse k) e h = let k-is : k ≡ n = cc (says-by (refuse k) e) in ap refuse k-is
+      go (refuse k) e h = let k-is : k ≡ n = cc (says-by (refuse k) e) in subst (LowestFault (recordsRead log)) k-is (lowest-log (recordsRead log) .least k e)
 
-  recursion : logFault (recordsRead log) ≡ pass → Recursion m log
-  recursion v =
+  recursion : WellFormed (recordsRead log) → Recursion m log
+  recursion w =
+      let v : logFault (recordsRead log) ≡ pass = no-fault (recordsRead log) w in
       let t : TreeOfLog (modeOf m .algebra) (recordsRead log) = log-tree (modeOf m .algebra) (modeOf m .laws) (recordsRead log) v in
       record {
         root = t .root;
@@ -71,9 +91,12 @@ module _ (m : ℕ) (log places : List ℕ) (buffers : List (List ℕ)) (i : IsCu
   records-are : map recordsRead cs ≡ parts (recordsRead log) 0 places
   records-are = cut-records log places (i .readable) (i .between)
 
-  planned : RowSize (length cs) → logFault (recordsRead log) ≡ pass → Planned m log places buffers
-  planned z v =
-      let e : logFault (joined (map recordsRead cs)) ≡ pass = ap logFault (sym (in-joined cs reads) ∙ ap recordsRead whole) ∙ v in
+  joined-fault : logFault (joined (map recordsRead cs)) ≡ logFault (recordsRead log)
+  joined-fault = ap logFault (sym (in-joined cs reads) ∙ ap recordsRead whole)
+
+  planned : RowSize (length cs) → WellFormed (recordsRead log) → Planned m log places buffers
+  planned z w =
+      let e : logFault (joined (map recordsRead cs)) ≡ pass = joined-fault ∙ no-fault (recordsRead log) w in
       let q : PlanBy (parts (recordsRead log) 0 places) (lines m used cs reads (z .0) (z .1)) =
       subst (λ (rs : List (List (Record Amounts))). PlanBy rs (lines m used cs reads (z .0) (z .1))) records-are (plan-by (modeOf m .algebra) (modeOf m .laws) (map recordsRead cs) e) in
       record {
@@ -85,11 +108,11 @@ module _ (m : ℕ) (log places : List ℕ) (buffers : List (List ℕ)) (i : IsCu
         few =
             let n : length (map recordsRead cs) ≡ length cs = length-map cs recordsRead in
             omega (arith, plan-few (modeOf m .algebra) (modeOf m .laws) (map recordsRead cs) e (omega (arith, z .0)));
-        planned = λ cap. rw row-is (plan-log m used cs reads (z .0) (z .1) e cap);
-        worked = rw row-is (rw whole at (work-log m used cs reads (z .0) (z .1)));
+        plan = λ cap. rw row-is (plan-log m used cs reads (z .0) (z .1) e cap);
+        work = rw row-is (rw whole at (work-log m used cs reads (z .0) (z .1)));
       }
 
-  holds : (merges : List (Call Lent)) → Proper byCalls Neighbours merges (firstRow m cs buffers) → Claimed m log places buffers merges
+  holds : (merges : List (Call Lent)) → AreMerges m log places buffers merges → Claimed m log places buffers merges
   holds merges p =
       let w : SameRows (stretchBytes m) (onStretches m) byCalls Neighbours AllRead merges cs =
       list-same m used merges cs reads (rw row-is at p) in
@@ -99,8 +122,7 @@ module _ (m : ℕ) (log places : List ℕ) (buffers : List (List ℕ)) (i : IsCu
         cut-read = cut-read log places (i .readable) (i .between);
         cut-joined = whole;
         cut-records = parts-joined (recordsRead log) 0 places (length (fieldsRead log)) (i .between);
-        lowest = lowest-log (recordsRead log);
-        faulty = faulty m log (i .readable);
+        fault = fault m log (i .readable);
         recursion = recursion m log (i .readable);
         readable = read-each (replay (onStretches m) merges cs) (w .stays);
         stretches = j;
@@ -111,10 +133,13 @@ module _ (m : ℕ) (log places : List ℕ) (buffers : List (List ℕ)) (i : IsCu
             finish-log m used log (i .readable);
         worked = λ z. rw row-is (figure-log m used cs reads (z .0) (z .1) ∙ ap (logSays m) whole);
         planned = planned;
+        plan-refused = λ z n f cap. rw row-is (plan-fault m used cs reads (z .0) (z .1) n (joined-fault ∙ by-fault (recordsRead log) n f) cap);
+        row-refused = λ k. (λ cap. rw row-is (plan-4 m used cs reads k cap), rw row-is (work-4 m used cs reads k));
       }
 
-pub demand3 : (mode : ℕ) (log places : List ℕ) (buffers : List (List ℕ)) (merges : List (Call Lent)) → IsCut mode log places buffers →
-    Proper byCalls Neighbours merges (firstRow mode (cutAt log places) buffers) → Claimed mode log places buffers merges
+-- For every log of readable records, every mode, every cut of the log between records into chunks within the limits, and every list of merges on neighbours.
+pub demand3 : (mode : ℕ) (log places : List ℕ) (buffers : List (List ℕ)) (merges : List (Call Lent)) →
+    IsCut mode log places buffers → AreMerges mode log places buffers merges → Claimed mode log places buffers merges
 demand3 mode log places buffers merges i p = holds mode log places buffers i merges p
 
 -- Nothing is lost by speaking of places: any readable chunks are a cut of what they join to (Cut, every-cut), so the claim holds of them.

@@ -1,47 +1,51 @@
--- The theorem at work: log D cut after record 2, with a blank chunk between, into buffers that just fit, and three merges, the second with a buffer that is
--- one byte short. So what demand 3 asks for can be met. Assumes nothing.
-use mathlib.Core.Path.{_≡_, refl}
+-- The theorem at work: log D cut after record 2, with a blank chunk at both ends and between, into buffers that just fit, and three merges, the second with a
+-- buffer that is one byte short. So what demand 3 asks for can be met. Assumes nothing.
+use mathlib.Core.Path.{_≡_, refl, sym, _∙_}
 use mathlib.Core.List.{List, [], _∷_}
 use Prim.Native.Nat.{ℕ, zero, suc}
 use lib.Dec.{lit≤}
 use lib.ListN.{take, drop}
+use lib.IntN.{pos, negsuc}
 use Rattle.gate.specs.Outcome.{refused, result}
 use Rattle.number.specs.Bytes.{leAt, bytesOf}
 use Rattle.row.specs.Row.{firstLength, piecesIn, rowPieces}
 use Rattle.record.specs.Record.{within, inRange, accepted, whole, byShape, readOf, recordsIn, recordsOf}
 use Rattle.record.specs.Examples.{logD}
-use Rattle.figure.specs.FourModes.{isStamp}
+use Rattle.figure.specs.FourModes.{Amounts, isStamp}
 use Rattle.figure.specs.Mode.{modeOf, modeInUse}
-use Rattle.hill.specs.Verdict.{joint, count, cut}
-use Rattle.hill.specs.Row.{Call, Proper}
+use Rattle.hill.specs.Verdict.{pass, joint, count, cut, ends}
+use Rattle.hill.specs.Log.{logFault}
+use Rattle.hill.specs.Tree.{Forest, nil, tree, write}
+use Rattle.hill.specs.FigureLaws.{log-tree}
+use Rattle.hill.specs.Row.{Call}
 use Rattle.summary.specs.Layout.{encode}
 use Rattle.summary.specs.Judge.{sumTo, nothingIn, counted}
 use Rattle.summary.specs.Decode.{decode}
 use Rattle.summary.specs.Decide.{allTo, layoutFits, spoiltFits, levelsFit, openedFits, middleFits, recordsFit, valuesFit, hillFits, isSummary}
-use Rattle.summary.specs.Outcomes.{summaryBytes, mergeBytes, summariseOutcome, mergeOutcome}
+use Rattle.summary.specs.Outcomes.{summaryBytes, mergeBytes, summariseOutcome, mergeOutcome, logOutcome}
 use Rattle.outcome.specs.Outcomes.{twoTo64, askRow, mergedBytes, mergeRowOutcome}
-use Rattle.claim.specs.Claim.{fieldsRead, recordsRead, cutAt, stretchBytes, firstRow, IsCut, Lent, toMerge, toMergeRow, byCalls, Neighbours, told, Claimed}
+use Rattle.claim.specs.Claim.{fieldsRead, recordsRead, cutAt, stretchBytes, logSays, firstRow, IsCut, Lent, toMerge, toMergeRow, Recursion, AreMerges, told, Claimed}
 use Rattle.claim.specs.Demand3.{demand3}
 
 abbrev zeros : ℕ → List ℕ
 zeros zero = []
 zeros (suc n) = 0 ∷ zeros n
 
--- After record 2, twice: the chunk between is blank. A buffer for each of the three chunks.
+-- Before the first record, after record 2 twice, and after the last one. A buffer for each of the five chunks.
 abbrev places : List ℕ
-places = 2 ∷ 2 ∷ []
+places = 0 ∷ 2 ∷ 2 ∷ 6 ∷ []
 
 abbrev buffers : List (List ℕ)
-buffers = zeros 64 ∷ zeros 6 ∷ zeros 40 ∷ []
+buffers = zeros 6 ∷ zeros 64 ∷ zeros 6 ∷ zeros 40 ∷ zeros 6 ∷ []
 
 abbrev merges : List (Call Lent)
 merges =
-    record { place = 1; many = 2; lent = toMerge (zeros 40) } ∷
-    record { place = 0; many = 2; lent = toMerge (zeros 23) } ∷
-    record { place = 0; many = 2; lent = toMergeRow (zeros 24) } ∷
+    record { place = 2; many = 2; lent = toMerge (zeros 40) } ∷
+    record { place = 1; many = 2; lent = toMerge (zeros 23) } ∷
+    record { place = 0; many = 4; lent = toMergeRow (zeros 24) } ∷
     []
 
-D-cut : cutAt logD places ≡ take 36 logD ∷ [] ∷ drop 36 logD ∷ []
+D-cut : cutAt logD places ≡ [] ∷ take 36 logD ∷ [] ∷ drop 36 logD ∷ [] ∷ []
 unfolding leAt bytesOf within inRange accepted whole byShape readOf recordsIn recordsOf fieldsRead cutAt
 D-cut = refl
 
@@ -51,18 +55,45 @@ is-cut = record {
   mode-low = lit≤ tt;
   mode-high = lit≤ tt;
   readable = (_, refl);
-  between = (lit≤ tt, (lit≤ tt, lit≤ tt));
-  each = (record { short = lit≤ tt; long-enough = lit≤ tt }, (record { short = lit≤ tt; long-enough = lit≤ tt }, (record { short = lit≤ tt; long-enough = lit≤ tt }, tt)));
+  between = (lit≤ tt, (lit≤ tt, (lit≤ tt, (lit≤ tt, lit≤ tt))));
+  each = (record { short = lit≤ tt; long-enough = lit≤ tt }, (record { short = lit≤ tt; long-enough = lit≤ tt }, (record { short = lit≤ tt; long-enough = lit≤ tt }, (record { short = lit≤ tt; long-enough = lit≤ tt }, (record { short = lit≤ tt; long-enough = lit≤ tt }, tt)))));
 }
 
-are-neighbours : Proper byCalls Neighbours merges (firstRow 1 (cutAt logD places) buffers)
+are-merges : AreMerges 1 logD places buffers merges
 unfolding leAt bytesOf within inRange accepted whole byShape readOf recordsIn recordsOf modeInUse modeOf joint count cut encode decode sumTo nothingIn counted isStamp allTo layoutFits spoiltFits levelsFit openedFits middleFits recordsFit valuesFit hillFits isSummary summaryBytes mergeBytes summariseOutcome mergeOutcome fieldsRead cutAt
-are-neighbours = (record { enough = refl; inside = lit≤ tt }, (record { enough = refl; inside = lit≤ tt }, (record { enough = (lit≤ tt, lit≤ tt); inside = lit≤ tt }, tt)))
+are-merges = (record { takes = refl; inside = lit≤ tt }, (record { takes = refl; inside = lit≤ tt }, (record { takes = (lit≤ tt, lit≤ tt); inside = lit≤ tt }, tt)))
 
 D-holds : Claimed 1 logD places buffers merges
-D-holds = demand3 1 logD places buffers merges is-cut are-neighbours
+D-holds = demand3 1 logD places buffers merges is-cut are-merges
 
 -- The first is told 40, the second 12, the third 24.
 D-told : told merges (firstRow 1 (cutAt logD places) buffers) ≡ result 40 ∷ refused 12 ∷ result 24 ∷ []
 unfolding leAt bytesOf firstLength piecesIn rowPieces within inRange accepted whole byShape readOf recordsIn recordsOf modeInUse modeOf joint count cut encode decode sumTo nothingIn counted isStamp allTo layoutFits spoiltFits levelsFit openedFits middleFits recordsFit valuesFit hillFits isSummary summaryBytes mergeBytes summariseOutcome mergeOutcome twoTo64 askRow mergedBytes mergeRowOutcome fieldsRead cutAt
 D-told = refl
+
+-- D's one tree: 10 g that holds 5 g and -3 g. By the recursion its net is 12.
+abbrev root : Amounts
+root = record { value = pos 10; floor = pos 0; ceiling = pos 100 }
+
+abbrev below : Forest Amounts
+below = tree (record { value = pos 5; floor = pos 0; ceiling = pos 4 }) nil (tree (record { value = negsuc 2; floor = pos 0; ceiling = pos 100 }) nil nil)
+
+D-traversal : write 0 (tree root below nil) ≡ recordsRead logD
+unfolding leAt bytesOf within inRange accepted whole byShape readOf recordsIn recordsOf fieldsRead recordsRead
+D-traversal = refl
+
+D-fault : logFault (recordsRead logD) ≡ pass
+unfolding leAt bytesOf within inRange accepted whole byShape readOf recordsIn recordsOf joint count ends fieldsRead recordsRead
+D-fault = refl
+
+D-recursion : Recursion 1 logD
+unfolding leAt bytesOf within inRange accepted whole byShape readOf recordsIn recordsOf modeOf joint count ends logOutcome logSays
+D-recursion = record {
+  root = root;
+  below = below;
+  traversal = D-traversal;
+  only = λ f e.
+      let t = log-tree (modeOf 1 .algebra) (modeOf 1 .laws) (recordsRead logD) D-fault in
+      t .only f e ∙ sym (t .only (tree root below nil) D-traversal);
+  figure = refl;
+}

@@ -22,7 +22,7 @@ use Rattle.join_plan.specs.LogLevels.{levelsOf, log-well-formed, levels-of-log}
 use Rattle.join_plan.specs.LogJoins.{joins-exact}
 use Rattle.join_plan.specs.LogPlan.{row-of}
 use Rattle.join_plan.specs.PlanOfLog.{plan-of-log, plan-only}
-use Rattle.claim.specs.Claim.{SomeJoined, linesFor}
+use Rattle.claim.specs.Claim.{AreJoined, linesFor}
 
 module _ (i j : ℕ) where
   -- A line for i and j.
@@ -79,8 +79,8 @@ module _ (i j : ℕ) where
 pub record PlanBy (cs : List (List (Record Amounts))) (ls : List Line) : Type 0 where
   pub described : IsPlan cs ls
   pub only : (ms : List Line) → IsPlan cs ms → ms ≡ ls
-  pub one-line : (i j : ℕ) → i < j → SomeJoined cs i j ↔ (length (linesFor i j ls) ≡ 1)
-  pub no-line : (i j : ℕ) → i < j → (SomeJoined cs i j → ⊥) ↔ (length (linesFor i j ls) ≡ 0)
+  pub one-line : (i j : ℕ) → i < j → AreJoined cs i j ↔ (length (linesFor i j ls) ≡ 1)
+  pub no-line : (i j : ℕ) → i < j → (AreJoined cs i j → ⊥) ↔ (length (linesFor i j ls) ≡ 0)
 
 module _ (𝒜 : Algebra Amounts) (ℒ : Laws 𝒜) (cs : List (List (Record Amounts))) (v : logFault (joined cs) ≡ pass) where
   -- A join has a line.
@@ -99,21 +99,22 @@ module _ (𝒜 : Algebra Amounts) (ℒ : Laws 𝒜) (cs : List (List (Record Amo
     at-most : many ≤ 1
     at-most = one-for i j plan (plan-of-log 𝒜 ℒ cs v .sorted)
 
-    there : SomeJoined cs i j → 1 ≤ many
-    there h = let (l, m, f, g) = has-line i j (h .0) b (h .1) in found-for i j plan l m (f, g)
+    there : AreJoined cs i j → 1 ≤ many
+    there (d, p, q, x, y, c) = let (l, m, f, g) = has-line i j d b (p, q, x, y, c) in found-for i j plan l m (f, g)
 
-    back : 1 ≤ many → SomeJoined cs i j
+    back : 1 ≤ many → AreJoined cs i j
     back h =
         let (l, m, f) = for-found i j plan h in
         let x : Joined cs (l .i) (l .j) (l .lowest) = plan-of-log 𝒜 ℒ cs v .lines l .0 m .low in
-        (l .lowest, subst (λ (k : ℕ). Joined cs i k (l .lowest)) (f .1) (subst (λ (k : ℕ). Joined cs k (l .j) (l .lowest)) (f .0) x))
+        let (p, q, y, z, c) = subst (λ (k : ℕ). Joined cs i k (l .lowest)) (f .1) (subst (λ (k : ℕ). Joined cs k (l .j) (l .lowest)) (f .0) x) in
+        (l .lowest, p, q, y, z, c)
 
     -- One line for two chunks that are joined, ..
-    one-line : SomeJoined cs i j ↔ (many ≡ 1)
+    one-line : AreJoined cs i j ↔ (many ≡ 1)
     one-line = (λ h. omega (arith, at-most, there h), λ e. back (omega arith))
 
     -- .. and none for others.
-    no-line : (SomeJoined cs i j → ⊥) ↔ (many ≡ 0)
+    no-line : (AreJoined cs i j → ⊥) ↔ (many ≡ 0)
     no-line = (λ n. go many at-most (λ h. n (back h)), λ e h. omega (arith, there h))
       where
         go : (n : ℕ) → n ≤ 1 → (1 ≤ n → ⊥) → n ≡ 0
