@@ -17,14 +17,14 @@ use Rattle.hill.specs.Verdict.{pass, joint, count, cut, ends}
 use Rattle.hill.specs.Log.{logFault}
 use Rattle.hill.specs.Tree.{Forest, nil, tree, write}
 use Rattle.hill.specs.FigureLaws.{log-tree}
-use Rattle.hill.specs.Row.{Call}
+use Rattle.hill.specs.Row.{Call, answers}
 use Rattle.summary.specs.Layout.{encode}
 use Rattle.summary.specs.Judge.{sumTo, nothingIn, counted}
 use Rattle.summary.specs.Decode.{decode}
 use Rattle.summary.specs.Decide.{allTo, layoutFits, spoiltFits, levelsFit, openedFits, middleFits, recordsFit, valuesFit, hillFits, isSummary}
 use Rattle.summary.specs.Outcomes.{summaryBytes, mergeBytes, summariseOutcome, mergeOutcome, logOutcome}
 use Rattle.outcome.specs.Outcomes.{twoTo64, askRow, mergedBytes, mergeRowOutcome}
-use Rattle.claim.specs.Claim.{fieldsRead, recordsRead, cutAt, stretchBytes, logSays, firstRow, IsCut, Lent, toMerge, toMergeRow, Recursion, AreMerges, told, Claimed}
+use Rattle.claim.specs.Claim.{fieldsRead, recordsRead, cutAt, stretchBytes, logSays, firstRow, IsCut, Lent, toMerge, toMergeRow, told, onStretches, Recursion, AreMerges, Claimed}
 use Rattle.claim.specs.Demand3.{demand3}
 
 abbrev zeros : ℕ → List ℕ
@@ -70,6 +70,11 @@ D-holds = demand3 1 logD places buffers merges is-cut are-merges
 D-told : told merges (firstRow 1 (cutAt logD places) buffers) ≡ result 40 ∷ refused 12 ∷ result 24 ∷ []
 unfolding leAt bytesOf firstLength piecesIn rowPieces within inRange accepted whole byShape readOf recordsIn recordsOf modeInUse modeOf joint count cut encode decode sumTo nothingIn counted isStamp allTo layoutFits spoiltFits levelsFit openedFits middleFits recordsFit valuesFit hillFits isSummary summaryBytes mergeBytes summariseOutcome mergeOutcome twoTo64 askRow mergedBytes mergeRowOutcome fieldsRead cutAt
 D-told = refl
+
+-- The same list on the stretches gives the second half of D, with a blank one before it, then a refusal, then D.
+D-stretches : answers (onStretches 1) merges (cutAt logD places) ≡ result (drop 36 logD) ∷ refused 12 ∷ result logD ∷ []
+unfolding leAt bytesOf within inRange accepted whole byShape readOf recordsIn recordsOf modeOf joint count cut encode summaryBytes fieldsRead recordsRead cutAt stretchBytes
+D-stretches = refl
 
 -- D's one tree: 10 g that holds 5 g and -3 g. By the recursion its net is 12.
 abbrev root : Amounts
