@@ -126,7 +126,6 @@ INPUTS = {
     "merge/right_fault_ignored": merge(spoilt(1, 8, 0, 1, 2), spoilt(1, 7, 1, 0, 2)),
     "merge/takes_65": call("merge::merge_row", 65 * blank(1)),
     "merge/two_pieces_as_one": call("merge::merge_row", 2 * blank(1) + HEAD + TAIL),
-    "merge/written_elsewhere": call("merge::merge_row", HEAD + TAIL),
     "number/big_endian_read": call("record::read_first", D),
     "number/big_endian_write": summarise(1, D),
     "number/product_not_wrapped": call("day::figures", TEN_OVER_MINUS_3),

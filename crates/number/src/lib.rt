@@ -20,7 +20,9 @@ pub fn read_u16(s: &[u8], at: usize) -> u16
     requires { ⌜ at + 2 ≤ length (now s) ⌝ }
     ensures { λ r. ⌜ r ≡ leAt 2 (now (s .entry)) at ⌝ }
 {
-    wide(s[at]) + wide(s[at + 1]) * 256
+    let low = wide(s[at]);
+    let high = wide(s[at + 1]);
+    low + high * 256
 }
 
 pub fn read_u32(s: &[u8], at: usize) -> u32
