@@ -1,3 +1,2 @@
-mod Helds
 mod Modes
 mod Rooms

@@ -5,14 +5,16 @@ use Prim.Native.Nat.{ℕ, _^_, _≤_, _<_}
 use native.Mathlib.Nat.{mod-eq-of-lt}
 use native.Mathlib.Omega.{arith}
 use lib.Dec.{T, leb, leb·zero, eqb, eqb→eq, lit<}
-use borrow.Author.Tests.{leb-true, le-leb, ne-eqb}
+use borrow.Author.Tests.{leb-true, le-leb}
 use lib.IntN.{ℤ, pos, negsuc, natAbs}
+use lib.Signed.{_≤ℤ_}
 use mir.Syntax.{w64}
 use mir.Val.{SFits}
-use Rattle.number.specs.IntegerLaws.{zed, sfits-abs}
-use Rattle.figure.specs.FourModes.{Stamp, nothing, storeHeld, readHeld, heldIf, storeStamp, readStamp, isStamp}
+use Rattle.number.specs.Integer.{maxZ}
+use Rattle.number.specs.IntegerLaws.{zed, max-law, max-comm, sfits-abs}
+use Rattle.figure.specs.FourModes.{Stamp, lift, nothing, storeHeld, readHeld, heldIf, storeStamp, readStamp, isStamp}
 use Rattle.figure.specs.ModeLaws.{stamp-≡}
-use Rattle.figure.specs.Run.{netRun, HeaviestNumbers, heaviestRun, Between, eatenRun, Affine, stampRun}
+use Rattle.figure.specs.Run.{netRun, HeaviestNumbers, atLeast, heaviestRun, Between, eatenRun, Affine, stampRun}
 use Rattle.figure.specs.Bound.{sizeHeld, LineIn, BetweenIn}
 use Rattle.figure.specs.declared.Held.{Held}
 use Rattle.figure.specs.declared.Held.the-variants.{Nothing, Figure}
@@ -20,20 +22,23 @@ use Rattle.figure.specs.declared.Run.{Run}
 
 -- ---- figures
 
-pub read-figure : (z : ℤ) → (z ≡ nothing → ⊥) → readHeld z ≡ Figure z
+-- a number is read as nothing where it is -2^63, and else as the figure that it is
+read-by : (z : ℤ) (P : Held → Type 0) → (z ≡ nothing → P Nothing) → P (Figure z) → P (readHeld z)
 unfolding readHeld
-read-figure (pos n) h = refl
-read-figure (negsuc n) h = ap (λ (t : Bool). heldIf t (negsuc n)) (ne-eqb n 9223372036854775807 (λ e. h (ap negsuc e)))
+read-by (pos n) P p q = q
+read-by (negsuc n) P p q = go (eqb n 9223372036854775807) (λ t. eqb→eq n 9223372036854775807 t)
+  where
+    go : (t : Bool) → (T t → n ≡ 9223372036854775807) → P (heldIf t (negsuc n))
+    go true h = p (ap negsuc (h tt))
+    go false h = q
+
+pub read-figure : (z : ℤ) → (z ≡ nothing → ⊥) → readHeld z ≡ Figure z
+read-figure z h = read-by z (λ k. k ≡ Figure z) (λ e. absurd (h e)) refl
 
 -- every number is what it stores
 pub held-stored : (z : ℤ) → storeHeld (readHeld z) ≡ z
-unfolding storeHeld readHeld
-held-stored (pos n) = refl
-held-stored (negsuc n) = go (eqb n 9223372036854775807) (λ t. eqb→eq n 9223372036854775807 t)
-  where
-    go : (t : Bool) → (T t → n ≡ 9223372036854775807) → storeHeld (heldIf t (negsuc n)) ≡ negsuc n
-    go true h = ap negsuc (sym (h tt))
-    go false h = refl
+unfolding storeHeld
+held-stored z = read-by z (λ k. storeHeld k ≡ z) sym refl
 
 pub held-back : (h : Held) → sizeHeld h < 2 ^ 63 → readHeld (storeHeld h) ≡ h
 unfolding sizeHeld readHeld storeHeld
@@ -44,6 +49,27 @@ pub held-fits : (h : Held) → sizeHeld h < 2 ^ 63 → SFits w64 (storeHeld h)
 unfolding sizeHeld storeHeld
 held-fits Nothing p = record { sfits = lit< tt }
 held-fits (Figure z) p = sfits-abs w64 z p
+
+-- nothing is stored as the least 64-bit number
+nothing-least : (z : ℤ) → SFits w64 z → nothing ≤ℤ z
+nothing-least (pos n) f = omega zed
+nothing-least (negsuc n) f = omega (zed, f .sfits)
+
+max-nothing : (a z : ℤ) → a ≡ nothing → SFits w64 z → maxZ a z ≡ z
+max-nothing a z e f = omega (zed, max-law a z, e, nothing-least z f)
+
+-- so two figures combined are stored as the greater of the two numbers
+pub held-max : (a b : ℤ) → SFits w64 a → SFits w64 b → storeHeld (lift maxZ (readHeld a) (readHeld b)) ≡ maxZ a b
+unfolding storeHeld lift
+held-max a b f g =
+    read-by a (λ h. storeHeld (lift maxZ h (readHeld b)) ≡ maxZ a b)
+    (λ e. held-stored b ∙ sym (max-nothing a b e g))
+    (read-by b (λ h. storeHeld (lift maxZ (Figure a) h) ≡ maxZ a b) (λ e. sym (max-comm a b ∙ max-nothing b a e f)) refl)
+
+-- and a figure beside a stored one likewise
+pub at-least-max : (a y : ℤ) → SFits w64 y → atLeast (readHeld a) y ≡ maxZ a y
+unfolding atLeast
+at-least-max a y f = read-by a (λ h. atLeast h y ≡ maxZ a y) (λ e. sym (max-nothing a y e f)) refl
 
 pub stamp-back : (s : Stamp) → readStamp (storeStamp s) ≡ s
 stamp-back s = stamp-≡ (mod-eq-of-lt (s .small))

@@ -2,9 +2,8 @@
 ghost use mathlib.Core.Path.{_≡_};
 ghost use Prim.Native.Nat.{_+_, _*_, _^_, _<_};
 ghost use lib.IntN.{pos, _+ℤ_, natAbs};
-ghost use Rattle.number.specs.Integer.{maxZ, clamp, wrap};
-ghost use Rattle.figure.specs.FourModes.{lift, lineOf, readHeld, storeHeld};
-ghost use Rattle.figure.specs.Run.{atLeast};
+ghost use Rattle.number.specs.Integer.{clamp, wrap};
+ghost use Rattle.figure.specs.FourModes.{lineOf, readHeld, storeHeld};
 ghost use Rattle.figure.specs.Runs.{moved};
 ghost use Rattle.figure.specs.Bound.{sizeHeld};
 ghost use Rattle.figure.specs.Mode.{modeInUse, modeOf};
@@ -49,18 +48,6 @@ pub fn store_held(h: Held) -> i64
     }
 }
 
-fn max_held(a: Held, b: Held) -> Held
-    ensures { λ r. ⌜ r ≡ lift maxZ a b ⌝ }
-{
-    match a {
-        Held::Nothing => b,
-        Held::Figure(x) => match b {
-            Held::Nothing => Held::Figure(x),
-            Held::Figure(y) => Held::Figure(number::max(x, y)),
-        },
-    }
-}
-
 fn line(value: i64, h: Held) -> i64
     requires { ⌜ natAbs value + sizeHeld h < 2 ^ 63 ⌝ }
     ensures { λ r. ⌜ r ≡ lineOf value h ⌝ }
@@ -68,16 +55,6 @@ fn line(value: i64, h: Held) -> i64
     match h {
         Held::Nothing => value,
         Held::Figure(x) => number::sum(value, x),
-    }
-}
-
-// The greater of the two, or y where there is no other.
-fn at_least(other: Held, y: i64) -> i64
-    ensures { λ r. ⌜ r ≡ atLeast other y ⌝ }
-{
-    match other {
-        Held::Nothing => y,
-        Held::Figure(a) => number::max(a, y),
     }
 }
 
@@ -141,10 +118,11 @@ pub fn nothing(mode: u16) -> i64
     }
 }
 
+// Nothing is stored as the least number that there is, so that no test for it is needed.
 fn combine_heaviest(a: i64, b: i64) -> i64
     ensures { λ r. ⌜ r ≡ combined (modeOf 2) a b ⌝ }
 {
-    store_held(max_held(read_held(a), read_held(b)))
+    number::max(a, b)
 }
 
 fn combine_stamps(a: i64, b: i64) -> i64

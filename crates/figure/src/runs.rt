@@ -5,11 +5,10 @@ ghost use lib.IntN.{_+ℤ_, natAbs};
 ghost use Rattle.figure.specs.Mode.{modeOf};
 ghost use Rattle.figure.specs.Stored.{amounts, levelRun, runAfter, Levels, Composes};
 use super::Run;
-use super::at_least;
 use super::clamped_sum;
+use super::combine_heaviest;
 use super::combine_stamps;
 use super::line;
-use super::max_held;
 use super::moved_by;
 use super::read_held;
 use super::store_held;
@@ -40,7 +39,7 @@ fn level_heaviest(value: i32, floor: i32, ceiling: i32, before: i64, behind: i64
     ensures { λ r. ⌜ r ≡ levelRun (modeOf 2) (amounts value floor ceiling) before behind ⌝ }
 {
     let v = number::widen(value);
-    let other = max_held(read_held(before), read_held(behind));
+    let other = read_held(combine_heaviest(before, behind));
     let z = line(v, other);
     let a = store_held(moved_by(other, v));
     Run {
@@ -112,9 +111,9 @@ fn compose_heaviest(outer: Run, inner: Run) -> Run
     let z = inner.first;
     let b = inner.second;
     let w = inner.third;
-    let other = read_held(a);
-    let first = at_least(other, number::sum(z, v));
-    let second = store_held(max_held(other, moved_by(read_held(b), v)));
+    // Nothing is the least number: where there is no A, the sum is the greater of the two.
+    let first = number::max(a, number::sum(z, v));
+    let second = combine_heaviest(a, store_held(moved_by(read_held(b), v)));
     let third = number::sum(w, v);
     Run {
         first,
