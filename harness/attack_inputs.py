@@ -77,7 +77,7 @@ SHUT = hill(1, 1, 0, 0, 0, [0], 0)
 NESTED = hill(1, 0, 0, 2, 2, [], 0, [(10, 0, 100, 0), (1, 0, 100, 0)]) + hill(1, 2, 1, 1, 0, [0], 0) + SHUT
 NEGATIVE = opening(0, -3) + close(0)
 TEN_OVER_MINUS_3 = opening(0, 10) + opening(1, -3) + close(1) + close(0)
-TEN_OVER = short(0, 10) + short(1, 1) + close(1) + short(1, 5) + close(1) + close(0)
+TEN_OVER_5_AND_1 = short(0, 10) + short(1, 5) + close(1) + short(1, 1) + close(1) + close(0)
 NINE = short(0, 0) + short(1, 9) + close(1) + short(1, 1) + close(1) + close(0)
 TWO_DAYS = 2 * (short(0, 1) + close(0))
 LONGEST = short(0, 1) + 4095 * (short(1, 1) + close(1)) + close(0)
@@ -101,9 +101,9 @@ INPUTS = {
     "fault/ground_not_asked": summarise(1, TWO_DAYS),
     "fault/no_fault_found": summarise(1, short(0, 1) + TWO_DAYS),
     "fault/takes_100001": call("plan::plan", hill(1, 0, 0, 1, 50_001, [], 0, [(10, 0, 100, 0)]) + hill(1, 1, 0, 0, 50_000, [0], 0)),
-    "figure/first_held": call("day::figures", TEN_OVER),
     "figure/floor_as_ceiling": call("day::figures", D),
     "figure/floor_once": runs(3, 50),
+    "figure/last_held": call("day::figures", TEN_OVER_5_AND_1),
     "figure/nothing_moved": runs(2),
     "figure/other_figure_dropped": runs(2),
     "figure/stamp_factor": call("day::figures", D),
