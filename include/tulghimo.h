@@ -2,7 +2,13 @@
  *
  * A call answers 0 or a length, or it is refused: the answer is minus the number of the question that got a "no", and nothing is
  * written. Of several the lowest is answered. A pointer may be NULL where its length is 0. A buffer does not overlap an input.
- * Numbers in bytes are little-endian. */
+ * Numbers in bytes are little-endian.
+ *
+ * Summaries are merged as neighbours, the left one first, each stretch of the log exactly once; which neighbours are merged first
+ * makes no difference. A summary does not know its place in the log: two inner stretches exchanged, one given twice or one left out
+ * can give another figure, with no refusal. So send the number of a stretch with its summary, and look at the numbers before merging,
+ * as examples/two_stations.c does. Neither a log nor a summary has a check sum: what carries the bytes must carry a check of its
+ * own. */
 #ifndef TULGHIMO_H
 #define TULGHIMO_H
 
@@ -54,16 +60,16 @@ int64_t tulghimo_read(const uint8_t *chunk, size_t n, int64_t fields[6]);
 /* The summary of a chunk, in a mode: its length, or -1, -2, -3 or -12. */
 int64_t tulghimo_summarise(const uint8_t *chunk, size_t n, uint32_t mode, uint8_t *out, size_t cap);
 
-/* Two summaries merged, the left first: the length of theirs, or -5, -6 or -12. */
+/* Two summaries of neighbours merged, the left first: the length of theirs, or -5, -6 or -12. */
 int64_t tulghimo_merge(const uint8_t *left, size_t ln, const uint8_t *right, size_t rn, uint8_t *out, size_t cap);
 
-/* A row of 2 to 64 summaries, end to end, merged: the length of theirs, or -4, -5, -6 or -12. */
+/* A row of 2 to 64 summaries, end to end in log order, merged: the length of theirs, or -4, -5, -6 or -12. */
 int64_t tulghimo_merge_row(const uint8_t *row, size_t n, uint8_t *out, size_t cap);
 
 /* The figure of one summary: 0 and the figure, or -5 or -7 to -11. */
 int64_t tulghimo_finish(const uint8_t *summary, size_t n, int64_t figure[1]);
 
-/* The join plan of a row of 2 to 64 summaries, end to end: the length of its lines, or -4 to -12. */
+/* The join plan of a row of 2 to 64 summaries, end to end in log order: the length of its lines, or -4 to -12. */
 int64_t tulghimo_plan(const uint8_t *row, size_t n, uint8_t *out, size_t cap);
 
 /* The runs of that plan, one for each line, in its order: their length, or -4 to -12. */

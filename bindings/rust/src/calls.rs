@@ -64,7 +64,8 @@ pub fn summarise(chunk: &[u8], mode: Mode) -> Result<Vec<u8>, Refusal> {
     written(raw::LONGEST_SUMMARY, |out| raw::summarise(chunk, mode.number(), out))
 }
 
-/// Two summaries merged: the summary of the joined chunks, the left one first. Refused: 5, 6.
+/// Two summaries merged: the summary of the joined chunks, the left one first. That they are neighbours is for the caller to know
+/// ([why](crate#what-the-caller-must-see-to)). Refused: 5, 6.
 ///
 /// ```
 /// use tulghimo::{example, finish, merge, summarise, Mode};
@@ -81,7 +82,8 @@ pub fn merge(left: &[u8], right: &[u8]) -> Result<Vec<u8>, Refusal> {
     written(raw::LONGEST_SUMMARY, |out| raw::merge(left, right, out))
 }
 
-/// A row of 2 to 64 summaries, end to end in one slice, merged. Refused: 4, 5, 6.
+/// A row of 2 to 64 summaries, end to end in one slice and in log order, merged. That each is there, once and in its place, is for
+/// the caller to know ([why](crate#what-the-caller-must-see-to)). Refused: 4, 5, 6.
 ///
 /// ```
 /// use tulghimo::{example, merge_row, summarise, Mode, Refusal};
@@ -96,7 +98,7 @@ pub fn merge_row(row: &[u8]) -> Result<Vec<u8>, Refusal> {
     written(raw::LONGEST_SUMMARY, |out| raw::merge_row(row, out))
 }
 
-/// The join plan of a row of 2 to 64 summaries, end to end in one slice. Refused: 4 to 11.
+/// The join plan of a row of 2 to 64 summaries, end to end in one slice and in log order. Refused: 4 to 11.
 ///
 /// ```
 /// use tulghimo::{example, plan, summarise, Line, Mode};
