@@ -1,6 +1,7 @@
-//! Merging, the plan, the runs and the work. Merging is timed beside summarising one full chunk: 64 full hills are to take less.
+//! Merging, the plan, the runs and the work, on 48 different rows each. Merging is timed beside summarising one full chunk, a random and a
+//! regular one: 64 full hills are to take less.
 
-use crate::{full_chunk, seconds};
+use crate::chunks::{farm_day, many, random, Records, COUNT};
 use reference::gen::forged::{self, Levels};
 use reference::gen::logs::{log, Shape, Values};
 use reference::gen::Rng;
@@ -9,6 +10,19 @@ use reference::mode::Mode;
 use reference::record::encode_all;
 use reference::summary::{Case, Summary};
 use std::hint::black_box;
+use std::time::Instant;
+use tulghimo::raw;
+
+/// Microseconds for one call, which is put to each input once in a round: the best of 100 rounds.
+fn micros(mut call: impl FnMut(usize)) -> f64 {
+    let mut best = f64::MAX;
+    for _ in 0..100 {
+        let start = Instant::now();
+        (0..COUNT).for_each(&mut call);
+        best = best.min(start.elapsed().as_secs_f64());
+    }
+    best * 1e6 / COUNT as f64
+}
 
 /// The longest summary that there is, 1,788 bytes: 63 levels on both sides of a peak at level 1, each with a value.
 fn full_hill(rng: &mut Rng, mode: Mode) -> Vec<u8> {
@@ -17,73 +31,76 @@ fn full_hill(rng: &mut Rng, mode: Mode) -> Vec<u8> {
 }
 
 /// The summaries of a log of full depth, cut into 64 chunks, end to end.
-fn deep_row(mode: Mode) -> Vec<u8> {
-    let records = log(&mut Rng::new(7), Shape::Deep, Values::Small, 4_096);
+fn deep_row(rng: &mut Rng, mode: Mode) -> Vec<u8> {
+    let records = log(rng, Shape::Deep, Values::Small, 4_096);
     let mut row = Vec::new();
-    let mut out = vec![0u8; 2048];
+    let mut out = vec![0u8; raw::LONGEST_SUMMARY];
     for chunk in records.chunks(records.len().div_ceil(64)) {
-        let length = tulghimo::raw::summarise(&encode_all(chunk), mode.number(), &mut out);
+        let length = raw::summarise(&encode_all(chunk), mode.number(), &mut out);
         row.extend(&out[..length as usize]);
     }
     row
 }
 
-fn merging(mode: Mode, out: &mut [u8]) {
-    let mut rng = Rng::new(11);
-    let row: Vec<Vec<u8>> = (0..64).map(|_| full_hill(&mut rng, mode)).collect();
-    let lent = row.concat();
-    assert_eq!(tulghimo::raw::merge(&row[0], &row[1], out), 1_788);
-    assert_eq!(tulghimo::raw::merge_row(&lent, out), 1_788);
-    let two = seconds(2_000, || {
-        black_box(tulghimo::raw::merge(black_box(&row[0]), black_box(&row[1]), out));
-    });
-    let all = seconds(50, || {
-        black_box(tulghimo::raw::merge_row(black_box(&lent), out));
-    });
-    let chunk = full_chunk(Shape::Deep);
-    let one = seconds(200, || {
-        black_box(tulghimo::raw::summarise(black_box(&chunk), mode.number(), out));
-    });
-    println!("merge {:<16} {:>9.2} {:>9.2} {:>9.2} {:>7.2}", mode.number(), two * 1e6, all * 1e6, one * 1e6, one / all);
-}
-
-/// The calls on a row of 64 chunks of a deep log, beside merging the same row.
-fn along_the_plan(mode: Mode, out: &mut [u8]) {
-    let row = deep_row(mode);
-    let lines = tulghimo::raw::plan(&row, out) / 12;
-    let mut totals = [0i64; 3];
-    assert!(lines > 0 && tulghimo::raw::runs(&row, out) == 30 * lines && tulghimo::raw::work(&row, &mut totals) == 0);
-    let plan = seconds(200, || {
-        black_box(tulghimo::raw::plan(black_box(&row), out));
-    });
-    let runs = seconds(200, || {
-        black_box(tulghimo::raw::runs(black_box(&row), out));
-    });
-    let work = seconds(200, || {
-        black_box(tulghimo::raw::work(black_box(&row), &mut totals));
-    });
-    let merge = seconds(200, || {
-        black_box(tulghimo::raw::merge_row(black_box(&row), out));
-    });
-    println!(
-        "row {:<18} {:>9} {:>9.2} {:>9.2} {:>7.2} {:>7.2}",
-        mode.number(),
-        lines,
-        plan * 1e6,
-        runs * 1e6,
-        work * 1e6,
-        merge * 1e6
-    );
-}
-
-pub fn bench() {
-    let mut out = vec![0u8; 4096];
-    println!("\n{:<22} {:>9} {:>9} {:>9} {:>7}", "full hills, in us", "two", "64", "a chunk", "ratio");
-    for mode in Mode::ALL {
-        merging(mode, &mut out);
+/// Two full hills, 64 of them, one random chunk and one regular.
+fn merging(mode: Mode, out: &mut [u8]) -> [f64; 4] {
+    let rows = many(|rng| (0..64).flat_map(|_| full_hill(rng, mode)).collect::<Vec<u8>>());
+    let chunks = [many(|rng| random(rng, 63, Records::Mixed)), many(farm_day)];
+    let (left, right) = (0..1_788, 1_788..2 * 1_788);
+    for row in &rows {
+        assert_eq!(raw::merge(&row[left.clone()], &row[right.clone()], out), 1_788);
+        assert_eq!(raw::merge_row(row, out), 1_788);
     }
-    println!("\n{:<22} {:>9} {:>9} {:>9} {:>7} {:>7}", "64 chunks, in us", "lines", "plan", "runs", "work", "merge");
+    let two = micros(|k| {
+        black_box(raw::merge(black_box(&rows[k][left.clone()]), black_box(&rows[k][right.clone()]), out));
+    });
+    let all = micros(|k| {
+        black_box(raw::merge_row(black_box(&rows[k]), out));
+    });
+    let [random, regular] = chunks.map(|chunks| {
+        micros(|k| {
+            black_box(raw::summarise(black_box(&chunks[k]), mode.number(), out));
+        })
+    });
+    [two, all, random, regular]
+}
+
+/// The lines of a plan, on average; then the plan, the runs and the work of a row of 64 chunks of a deep log, beside merging the same row.
+fn along_the_plan(mode: Mode, out: &mut [u8]) -> [f64; 5] {
+    let rows = many(|rng| deep_row(rng, mode));
+    let mut totals = [0i64; 3];
+    let mut all_lines = 0;
+    for row in &rows {
+        let lines = raw::plan(row, out) / 12;
+        assert!(lines > 0 && raw::runs(row, out) == 30 * lines && raw::work(row, &mut totals) == 0);
+        all_lines += lines;
+    }
+    let plan = micros(|k| {
+        black_box(raw::plan(black_box(&rows[k]), out));
+    });
+    let runs = micros(|k| {
+        black_box(raw::runs(black_box(&rows[k]), out));
+    });
+    let work = micros(|k| {
+        black_box(raw::work(black_box(&rows[k]), &mut totals));
+    });
+    let merge = micros(|k| {
+        black_box(raw::merge_row(black_box(&rows[k]), out));
+    });
+    [all_lines as f64 / COUNT as f64, plan, runs, work, merge]
+}
+
+/// Two tables in microseconds, a line for each mode.
+pub fn bench() {
+    let mut out = vec![0u8; raw::LONGEST_RUNS];
+    println!("\n| Longest summaries, mode | two | 64 | one chunk, depth 63, mixed | one chunk, farm day |\n|---|---|---|---|---|");
     for mode in Mode::ALL {
-        along_the_plan(mode, &mut out);
+        let [two, all, random, regular] = merging(mode, &mut out);
+        println!("| {} | {two:.2} | {all:.1} | {random:.1} | {regular:.1} |", mode.number());
+    }
+    println!("\n| 64 chunks, mode | lines | plan | runs | work | merging the row |\n|---|---|---|---|---|---|");
+    for mode in Mode::ALL {
+        let [lines, plan, runs, work, merge] = along_the_plan(mode, &mut out);
+        println!("| {} | {lines:.0} | {plan:.1} | {runs:.1} | {work:.1} | {merge:.1} |", mode.number());
     }
 }

@@ -1,0 +1,223 @@
+/* The plain recursion on one uncut log, a function for each of document 01's modes and one for all four: what the library is timed
+   beside. Each record is held to document 01 ("Records"): length and kind, all bytes there, depth, ranges, floor and ceiling; and the log
+   to questions 7 to 11: levels meet, level 0 is at both ends and nowhere else, at most 100,000 opened. A log that is found wrong has no
+   figure, and is read no further. */
+#include <stdbool.h>
+#include <stddef.h>
+#include <stdint.h>
+
+#define GRAMS 1000000000
+#define DEEPEST 63
+#define MOST_OPENED 100000
+
+struct reader {
+    const uint8_t *at;
+    const uint8_t *end;
+    uint32_t opened;
+    bool failed;
+};
+
+struct record {
+    bool opens;
+    unsigned depth;
+    int32_t value;
+    int32_t floor;
+    int32_t ceiling;
+};
+
+static unsigned u16_at(const uint8_t *p)
+{
+    return p[0] | (unsigned)p[1] << 8;
+}
+
+static int32_t i32_at(const uint8_t *p)
+{
+    return (int32_t)(u16_at(p) | (uint32_t)u16_at(p + 2) << 16);
+}
+
+static bool in_range(int32_t grams)
+{
+    return -GRAMS <= grams && grams <= GRAMS;
+}
+
+/* Nothing is read after this. */
+static bool fail(struct reader *in)
+{
+    in->failed = true;
+    in->at = in->end;
+    return false;
+}
+
+/* The next record, if it is readable. */
+static bool next(struct reader *in, struct record *r)
+{
+    const uint8_t *p = in->at;
+    size_t left = (size_t)(in->end - p);
+    if (left < 6)
+        return fail(in);
+    unsigned length = u16_at(p);
+    unsigned kind = u16_at(p + 2);
+    r->depth = u16_at(p + 4);
+    r->opens = kind == 1;
+    if (length > left || r->depth > DEEPEST)
+        return fail(in);
+    in->at = p + length;
+    if (kind == 2 && length == 6)
+        return true;
+    if (kind != 1 || (length != 10 && length != 18))
+        return fail(in);
+    r->value = i32_at(p + 6);
+    r->floor = length == 18 ? i32_at(p + 10) : -GRAMS;
+    r->ceiling = length == 18 ? i32_at(p + 14) : GRAMS;
+    if (!in_range(r->value) || !in_range(r->floor) || !in_range(r->ceiling) || r->floor > r->ceiling)
+        return fail(in);
+    return true;
+}
+
+/* True where the next record opens one that the record at this depth holds; false where it closes that record, or the log is wrong. */
+static bool next_held(struct reader *in, unsigned depth, struct record *held)
+{
+    if (!next(in, held))
+        return false;
+    if (!held->opens)
+        return held->depth == depth ? false : fail(in);
+    if (held->depth != depth + 1 || ++in->opened > MOST_OPENED)
+        return fail(in);
+    return true;
+}
+
+static int64_t clamp(int64_t x, int64_t low, int64_t high)
+{
+    return x < low ? low : x > high ? high : x;
+}
+
+static int64_t net(struct reader *in, unsigned depth, int64_t value)
+{
+    int64_t sum = 0;
+    struct record held;
+    while (next_held(in, depth, &held))
+        sum += net(in, held.depth, held.value);
+    return value + sum;
+}
+
+static int64_t heaviest(struct reader *in, unsigned depth, int64_t value)
+{
+    struct record held;
+    if (!next_held(in, depth, &held))
+        return value;
+    int64_t most = heaviest(in, held.depth, held.value);
+    while (next_held(in, depth, &held)) {
+        int64_t figure = heaviest(in, held.depth, held.value);
+        most = figure > most ? figure : most;
+    }
+    return value + most;
+}
+
+static int64_t eaten(struct reader *in, unsigned depth, int64_t value, int32_t floor, int32_t ceiling)
+{
+    int64_t sum = 0;
+    struct record held;
+    while (next_held(in, depth, &held))
+        sum += eaten(in, held.depth, held.value, held.floor, held.ceiling);
+    return clamp(value + sum, floor, ceiling);
+}
+
+static uint32_t stamp(struct reader *in, unsigned depth, int32_t value)
+{
+    uint32_t sum = 0;
+    struct record held;
+    while (next_held(in, depth, &held))
+        sum += stamp(in, held.depth, held.value);
+    return (uint32_t)value + 31 * sum;
+}
+
+struct figures {
+    int64_t net;
+    int64_t heaviest;
+    int64_t eaten;
+    uint32_t stamp;
+};
+
+static struct figures all(struct reader *in, const struct record *r)
+{
+    struct figures sum = {0, INT64_MIN, 0, 0};
+    struct record held;
+    while (next_held(in, r->depth, &held)) {
+        struct figures f = all(in, &held);
+        sum.net += f.net;
+        sum.heaviest = f.heaviest > sum.heaviest ? f.heaviest : sum.heaviest;
+        sum.eaten += f.eaten;
+        sum.stamp += f.stamp;
+    }
+    sum.net += r->value;
+    sum.heaviest = sum.heaviest == INT64_MIN ? r->value : sum.heaviest + r->value;
+    sum.eaten = clamp(sum.eaten + r->value, r->floor, r->ceiling);
+    sum.stamp = (uint32_t)r->value + 31 * sum.stamp;
+    return sum;
+}
+
+/* The record that the log begins with. */
+static bool begin(struct reader *in, const uint8_t *log, size_t length, struct record *first)
+{
+    *in = (struct reader){log, log + length, 1, false};
+    return next(in, first) && first->opens && first->depth == 0;
+}
+
+static bool ended(const struct reader *in)
+{
+    return !in->failed && in->at == in->end;
+}
+
+bool plain_net(const uint8_t *log, size_t length, int64_t *figure)
+{
+    struct reader in;
+    struct record r;
+    if (!begin(&in, log, length, &r))
+        return false;
+    *figure = net(&in, r.depth, r.value);
+    return ended(&in);
+}
+
+bool plain_heaviest(const uint8_t *log, size_t length, int64_t *figure)
+{
+    struct reader in;
+    struct record r;
+    if (!begin(&in, log, length, &r))
+        return false;
+    *figure = heaviest(&in, r.depth, r.value);
+    return ended(&in);
+}
+
+bool plain_eaten(const uint8_t *log, size_t length, int64_t *figure)
+{
+    struct reader in;
+    struct record r;
+    if (!begin(&in, log, length, &r))
+        return false;
+    *figure = eaten(&in, r.depth, r.value, r.floor, r.ceiling);
+    return ended(&in);
+}
+
+bool plain_stamp(const uint8_t *log, size_t length, int64_t *figure)
+{
+    struct reader in;
+    struct record r;
+    if (!begin(&in, log, length, &r))
+        return false;
+    *figure = stamp(&in, r.depth, r.value);
+    return ended(&in);
+}
+
+bool plain_all(const uint8_t *log, size_t length, int64_t figures[4])
+{
+    struct reader in;
+    struct record r;
+    if (!begin(&in, log, length, &r))
+        return false;
+    struct figures f = all(&in, &r);
+    figures[0] = f.net;
+    figures[1] = f.heaviest;
+    figures[2] = f.eaten;
+    figures[3] = f.stamp;
+    return ended(&in);
+}
