@@ -74,7 +74,10 @@ INSIDE = hill(1, 1, 1, 1, 1, [], 1)
 OPEN = hill(1, 0, 0, 1, 1, [], 0, [(10, 0, 100, 0)])
 SHUT = hill(1, 1, 0, 0, 0, [0], 0)
 # 10 g that holds 1 g, the inner closed by the second of three chunks and the outer by the third.
-NESTED = hill(1, 0, 0, 2, 2, [], 0, [(10, 0, 100, 0), (1, 0, 100, 0)]) + hill(1, 2, 1, 1, 0, [0], 0) + SHUT
+TWO_OPEN = hill(1, 0, 0, 2, 2, [], 0, [(10, 0, 100, 0), (1, 0, 100, 0)])
+NESTED = TWO_OPEN + hill(1, 2, 1, 1, 0, [0], 0) + SHUT
+# The same, and the second chunk has 7 g more in the outer one.
+NESTED_AND_7 = TWO_OPEN + hill(1, 2, 1, 1, 1, [0], 7) + SHUT
 NEGATIVE = opening(0, -3) + close(0)
 TEN_OVER_MINUS_3 = opening(0, 10) + opening(1, -3) + close(1) + close(0)
 TEN_OVER_5_AND_1 = short(0, 10) + short(1, 5) + close(1) + short(1, 1) + close(1) + close(0)
@@ -85,7 +88,7 @@ LONGEST = short(0, 1) + 4095 * (short(1, 1) + close(1)) + close(0)
 # What tells each edit from the program.
 INPUTS = {
     "codec/deeper_dropped": merge(HEAD, TAIL),
-    "codec/held_for_left": summarise(1, D[36:]),
+    "codec/first_value_for_all": summarise(1, D[36:]),
     "codec/held_over_ceiling": merge(hill(1, 0, 0, 1, 2, [], 0, [(10, 0, 100, 5)]), SHUT),
     "codec/middle_left_out": merge(HEAD, hill(1, 2, 1, 1, 1, [0], 7)),
     "codec/start_for_end": summarise(1, D[:36]),
@@ -118,11 +121,10 @@ INPUTS = {
     "merge/counts_before_piece": merge(HEAD, TAIL),
     "merge/end_for_peak": merge(OPEN, hill(1, 1, 1, 2, 1, [], 0, [(5, 0, 4, 0)])),
     "merge/hands_back_left": merge(HEAD, TAIL),
-    "merge/join_fault_ignored": merge(OPEN, OPEN),
+    "merge/join_turned_round": merge(HEAD, TAIL),
     "merge/modes_not_compared": merge(HEAD, halves(3)[1]),
     "merge/modes_of_row_not_compared": call("merge::merge_row", HEAD + halves(3)[1]),
     "merge/opened_not_cut": merge(spoilt(1, 9, 0, 1, 100_001), INSIDE),
-    "merge/pieces_cut_alike": call("merge::merge_row", blank(1) + HEAD),
     "merge/right_fault_ignored": merge(spoilt(1, 8, 0, 1, 2), spoilt(1, 7, 1, 0, 2)),
     "merge/takes_65": call("merge::merge_row", 65 * blank(1)),
     "merge/two_pieces_as_one": call("merge::merge_row", 2 * blank(1) + HEAD + TAIL),
@@ -147,6 +149,7 @@ INPUTS = {
     "row/length_7": call("merge::merge_row", 2 * blank(1)),
     "row/length_field_off": call("merge::merge_row", blank(1) + HEAD),
     "row_plan/blank_at_ground": call("plan::plan", OPEN + blank(1) + SHUT),
+    "row_plan/levels_invented": call("work::work", HEAD + TAIL),
     "row_plan/meets_is_7": call("plan::plan", OPEN + OPEN),
     "row_plan/modes_not_compared": call("plan::plan", HEAD + halves(3)[1]),
     "row_plan/no_shared_record": call("plan::plan", OPEN + INSIDE + SHUT),
@@ -206,8 +209,7 @@ INPUTS = {
     "work/highest_level_only": call("work::work", HEAD + TAIL),
     "work/joins_invented": call("work::work", HEAD + TAIL),
     "work/left_value_dropped": call("work::work", HEAD + TAIL),
-    "work/levels_invented": call("work::work", HEAD + TAIL),
-    "work/middles_at_highest": call("work::work", OPEN + INSIDE + SHUT),
+    "work/middles_by_start": call("work::work", NESTED_AND_7),
     "work/no_earlier_outcomes": call("work::work", NESTED),
     "work/no_middles": call("work::work", OPEN + INSIDE + SHUT),
     "work/outcomes_at_highest": call("work::work", NESTED),
