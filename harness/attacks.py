@@ -13,9 +13,9 @@ byte of it, and every lent buffer begins with other bytes in each place.
     python3 harness/attacks.py               all of them
     python3 harness/attacks.py merge/ day/   those whose name begins so
 
-Prints each one's answers and "N told apart, M not"; the exit status is 0 only if M is 0,
-every change of code has an input in attack_inputs.py, and what means the same as the code
-answers the same.
+Prints each one's answers and how many are as they should be; the exit status is 0 only if
+all are: every change of code has an input in attack_inputs.py that tells it from the program,
+and what means the same as the code answers the same.
 """
 
 import pathlib
@@ -222,27 +222,32 @@ def cut(text, most=120):
 def told(program, number, change):
     """Whether a change shows what it claims: an input tells it from the program, or, where it means the same, does not."""
     right, wrong = ask(program, 0, INPUTS[change.title]), ask(program, number, INPUTS[change.title])
-    good = (right == wrong) if change.same else (right != wrong)
+    good = right not in ("stopped", "does not end") and change.same == (right == wrong)
     verdict = "the same" if right == wrong else "edited"
     print(f"{change.title}: {INPUTS[change.title].split(' ')[0]}\n    right: {cut(right)}\n"
-          f"    {verdict if good else 'NOT TOLD APART' if right == wrong else 'NOT THE SAME'}: {cut(wrong)}", flush=True)
+          f"    {verdict if good else verdict.upper() + ', WHICH IS WRONG'}: {cut(wrong)}", flush=True)
     return good
 
 
+def misfits(of_code):
+    """What is wrong before anything is run."""
+    return (edits.misfits() + [f"{name}: no such change" for name in sorted(set(INPUTS) - {c.title for c in of_code})]
+            + [f"{change.title}: no input" for change in of_code if change.title not in INPUTS])
+
+
 def main(chosen):
-    of_code = [change for change in edits.all_changes() if edits.function_of(change)]
-    wrong = edits.misfits() + [f"{name}: NO SUCH CHANGE" for name in sorted(set(INPUTS) - {c.title for c in of_code})]
-    wrong += [f"{change.title}: NO INPUT" for change in of_code if change.title not in INPUTS]
-    for line in wrong:
-        print(line)
+    of_code = [change for change in edits.all_changes() if change.pairs and change.pairs[0].file.startswith("src/")]
+    if wrong := misfits(of_code):
+        print("\n".join(wrong))
+        return 1
     numbered = [(number, change) for number, change in enumerate(of_code, 1)
-                if change.title in INPUTS and (not chosen or any(change.title.startswith(word) for word in chosen))]
+                if not chosen or any(change.title.startswith(word) for word in chosen)]
     with tempfile.TemporaryDirectory() as scratch:
         program = build(pathlib.Path(scratch), numbered)
-        good = sum(told(program, number, change) for number, change in numbered)
-    failed = len(wrong) + len(numbered) - good
-    print(f"{good} told apart, {failed} not")
-    return 0 if failed == 0 else 1
+        failed = sum(not told(program, number, change) for number, change in numbered)
+    same = sum(change.same for _, change in numbered)
+    print(f"{len(numbered) - same} changes and {same} that mean the same: {len(numbered) - failed} answer as they should, {failed} do not")
+    return 0 if numbered and failed == 0 else 1
 
 
 if __name__ == "__main__":

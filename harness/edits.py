@@ -9,8 +9,8 @@ An edit file, crates/CRATE/must-fail/LABEL.edit, is tried by one check of its cr
     old: TEXT           a text that stands there once, in one line
     new: TEXT           what takes its place; another pair may follow
 
-The changes of one file are of different functions, so each has a refusal of its own to show.
-A change of a definition or a constant stands alone in its file.
+A change is of one function, in src/, or of definitions, in specs/. The changes of one file are of
+different functions, so each has a refusal of its own to show; one of definitions stands alone.
 """
 
 import pathlib
@@ -42,7 +42,7 @@ class Change(NamedTuple):
 
 
 def changes_of(path):
-    """The changes of one edit file, in order."""
+    """The changes of one edit file, in order, its lines read as rt reads them."""
     found, file, old = [], None, None
     for line in path.read_text(encoding="utf-8").splitlines():
         word, _, rest = line.partition(": ")
@@ -52,8 +52,9 @@ def changes_of(path):
             file = rest
         elif word == "old":
             old = rest
-        elif word == "new" and found:
-            found[-1].pairs.append(Pair(file, old, rest))
+        elif line.startswith("new:") and found:
+            found[-1].pairs.append(Pair(file, old, line[4:].removeprefix(" ")))
+            old = None
     return found
 
 
@@ -71,14 +72,18 @@ def function_at(text, old) -> Optional[str]:
     return next((m[1] for m in FUNCTION.finditer(text) if m.start() <= at < m.end()), None)
 
 
-def function_of(change) -> Optional[str]:
-    """The function that a change is of, with its module in front: none for a definition or a constant."""
+def functions_of(change):
+    """The functions that a change of code is of, with their module in front; None stands for what is in no function."""
     names = set()
     for pair in change.pairs:
-        name = function_at(source(change.crate, pair.file), pair.old) if pair.file.endswith(".rt") else None
-        module = pathlib.Path(pair.file).stem
+        name, module = function_at(source(change.crate, pair.file), pair.old), pathlib.Path(pair.file).stem
         names.add(name if name is None or module == "lib" else f"{module}::{name}")
-    return names.pop() if len(names) == 1 else None
+    return names
+
+
+def function_of(change) -> Optional[str]:
+    """The function that a change is of; none for definitions."""
+    return functions_of(change).pop() if change.pairs[0].file.startswith("src/") else None
 
 
 def edited(text, pairs):
@@ -87,26 +92,30 @@ def edited(text, pairs):
     return text
 
 
+def faults(change):
+    """What is wrong with a change by itself."""
+    folders = {pair.file.split("/")[0] for pair in change.pairs if pair.file}
+    if not change.pairs or folders not in ({"src"}, {"specs"}):
+        return ["it is not of files in src/ alone, or in specs/ alone"]
+    stale = [f"'{pair.old}' does not stand once in {pair.file}" for pair in change.pairs
+             if not pair.old or source(change.crate, pair.file).count(pair.old) != 1]
+    if stale or folders == {"specs"}:
+        return stale
+    functions = functions_of(change)
+    return [] if len(functions) == 1 and None not in functions else ["it is not of one function"]
+
+
 def misfits():
     """What is wrong with the edit files themselves."""
     wrong, titles = [], set()
     for path in sorted(CRATES.glob("*/must-fail/*")):
-        changes = changes_of(path) if path.suffix == ".edit" else []
-        place = path.relative_to(CRATES)
-        if not changes:
-            wrong.append(f"{place}: no change in it")
-        for change in changes:
-            wrong += [f"{change.title}: {why}" for why in faults(change)]
-            wrong += [f"{change.title}: stands twice"] if change.title in titles else []
-            titles.add(change.title)
-        functions = [function_of(change) for change in changes if not faults(change)]
+        place, changes = path.relative_to(CRATES), changes_of(path) if path.suffix == ".edit" else []
+        if not changes or sum(len(change.pairs) for change in changes) != path.read_text(encoding="utf-8").count("\nold: "):
+            wrong.append(f"{place}: not a list of changes, each with its pairs of 'old:' and 'new:'")
+        unsound = [f"{change.title}: {why}" for change in changes for why in faults(change)]
+        wrong += unsound + [f"{change.title}: stands twice" for change in changes if change.title in titles]
+        titles |= {change.title for change in changes}
+        functions = [] if unsound else [function_of(change) for change in changes]
         if len(functions) > 1 and (None in functions or len(set(functions)) < len(functions)):
             wrong.append(f"{place}: its changes are not of different functions")
     return wrong
-
-
-def faults(change):
-    if not change.pairs:
-        return ["it has no 'old:' and 'new:'"]
-    return [f"'{pair.old}' does not stand once in {pair.file}" for pair in change.pairs
-            if source(change.crate, pair.file).count(pair.old) != 1]

@@ -78,7 +78,8 @@ int64_t tulghimo_runs(const uint8_t *row, size_t n, uint8_t *out, size_t cap);
 /* The work along the plan of a row: 0 and the figure, the joins used and the number of levels folded, or -4 to -11. */
 int64_t tulghimo_work(const uint8_t *row, size_t n, int64_t totals[3]);
 
-/* The figures of a whole log, of the length of a chunk: 0 and net, heaviest, eaten and stamp, or -2, -3 or -7 to -11. */
+/* The figures of a whole log, of the length of a chunk: 0 and net, heaviest, eaten and stamp, or -2, -3, -7, -8, -10 or -11. (No log
+ * of this length has enough records for -9.) */
 int64_t tulghimo_day(const uint8_t *log, size_t n, int64_t figures[4]);
 
 #ifdef __cplusplus

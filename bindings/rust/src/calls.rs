@@ -164,7 +164,8 @@ pub fn finish(summary: &[u8]) -> Result<i64, Refusal> {
     numbers(|figure| raw::finish(summary, figure)).map(|[figure]| figure)
 }
 
-/// The four figures of a whole log of at most 65,536 bytes. Refused: 2, 3, 7 to 11.
+/// The four figures of a whole log of at most 65,536 bytes. Refused: 2, 3, 7, 8, 10, 11; none has enough
+/// records for 9.
 ///
 /// ```
 /// use tulghimo::{day, example, Figures, Refusal};

@@ -75,7 +75,8 @@ pub fn work(row: &[u8], totals: &mut [i64; 3]) -> i64 {
     unsafe { ffi::tulghimo_work(row.as_ptr(), row.len(), totals.as_mut_ptr()) }
 }
 
-/// The figures of a whole log: 0 and net, heaviest, eaten and stamp, or minus the refusal (2, 3 or 7 to 11).
+/// The figures of a whole log: 0 and net, heaviest, eaten and stamp, or minus the refusal (2, 3, 7, 8, 10 or
+/// 11).
 pub fn day(log: &[u8], figures: &mut [i64; 4]) -> i64 {
     // SAFETY: the slice has as many bytes as it is said to have, and the array has the four numbers that the call may store.
     unsafe { ffi::tulghimo_day(log.as_ptr(), log.len(), figures.as_mut_ptr()) }

@@ -99,10 +99,10 @@ fn put_records(
     requires { ⌜ (n ≤ 64) × (at + 20 * n ≤ length (now out)) ⌝ }
     ensures { λ _. ⌜ now (out .exit) ≡ sets (now (out .entry)) at (recordsBytes (now (values .entry)) (now (floors .entry)) (now (ceilings .entry)) (now (held .entry)) n) ⌝ }
 {
-    let mut i: usize = 0;
-    while i < n {
-        put_record(out, at + 20 * i, values[i], floors[i], ceilings[i], held[i]);
-        i += 1;
+    let mut k: usize = 0;
+    while k < n {
+        put_record(out, at + 20 * k, values[k], floors[k], ceilings[k], held[k]);
+        k += 1;
     }
 }
 

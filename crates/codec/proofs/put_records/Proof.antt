@@ -1,4 +1,4 @@
--- `codec::put_records` meets its contract: so far the first i records are written. Assumes nothing.
+-- `codec::put_records` meets its contract: so far the first k records are written. Assumes nothing.
 use mathlib.Core.Path.{_≡_, refl, ap, _∙_}
 use Prim.Native.Nat.{_≤_, _-_}
 use native.Mathlib.Omega.{arith}
@@ -14,10 +14,10 @@ use Rattle.codec.proofs.put_records.Statement.{statement}
 use Rattle.codec.proofs.put_records.Tie as tie
 
 abbrev Inv-loop : tie.InvT-loop
-Inv-loop values floors ceilings held n out₀ at i₀ out i = (i ≤ n) × (out ≡ sets out₀ at (recordsBytes values floors ceilings held i))
+Inv-loop values floors ceilings held n out₀ at k₀ out k = (k ≤ n) × (out ≡ sets out₀ at (recordsBytes values floors ceilings held k))
 
 abbrev μ-loop : tie.MeasureT-loop
-μ-loop values floors ceilings held n out₀ at i₀ out i = n - i
+μ-loop values floors ceilings held n out₀ at k₀ out k = n - k
 
 out-length : (c : tie.At-loop Inv-loop μ-loop) → length (c .loop .out) ≡ length (now (c .before .before .args .out))
 out-length c = ap length (c .loop .inv .1) ∙ simp length-sets
@@ -58,8 +58,8 @@ element-copy-out-put-record-4 c = search needs
 put-record-requires : tie.Need-put-record-requires Inv-loop μ-loop
 put-record-requires c κs = let e = out-length (c .before .before .before .before .before .before) in omega arith
 
-add-i : tie.Need-add-i Inv-loop μ-loop
-add-i c = search needs
+add-k : tie.Need-add-k Inv-loop μ-loop
+add-k c = search needs
 
 loop-less : tie.Need-loop-less Inv-loop μ-loop
 loop-less c = search needs
@@ -69,7 +69,7 @@ loop-again c =
     let a = c .before .before .before .before .before .before .before .before .before .before .before .args in
     let l = c .before .before .before .before .before .before .before .before .before .loop in (
       search needs,
-      records-turn (now (a .out)) (l .out) _ (a .at) (l .i) (now (a .values)) (now (a .floors)) (now (a .ceilings)) (now (a .held)) _ _ _ _
+      records-turn (now (a .out)) (l .out) _ (a .at) (l .k) (now (a .values)) (now (a .floors)) (now (a .ceilings)) (now (a .held)) _ _ _ _
           (back w32 _ (c .before .before .before .before .before .before .put-record-arg2 .given)) (back w32 _ (c .before .before .before .before .before .put-record-arg3 .given)) (back w32 _ (c .before .before .before .before .put-record-arg4 .given)) (back w64 _ (c .before .before .before .put-record-arg5 .given))
           (l .inv .1) (c .before .before .put-record .ensures),
     )
@@ -78,7 +78,7 @@ same-length : tie.Need-same-length Inv-loop μ-loop
 same-length c = out-length (c .before)
 
 returns : tie.Need-returns Inv-loop μ-loop
-returns c = let a = c .before .before .before .args in let e : c .before .loop .i ≡ a .n = omega arith in rw (← e) (c .before .loop .inv .1)
+returns c = let a = c .before .before .before .args in let e : c .before .loop .k ≡ a .n = omega arith in rw (← e) (c .before .loop .inv .1)
 
 pub put-records-spec : {M : Type 1} → statement M
 put-records-spec =
@@ -98,7 +98,7 @@ put-records-spec =
     mul-put-record-5
     element-copy-out-put-record-4
     put-record-requires
-    add-i
+    add-k
     loop-less
     loop-again
     same-length

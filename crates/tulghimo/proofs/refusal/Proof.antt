@@ -6,7 +6,6 @@ use native.Mathlib.Omega.{arith}
 use lib.IntN.{pos, negℤ, natAbs, _-ℤ_, +ℤ-idl}
 use mir.Syntax.{w64}
 use mir.Facts.{toZ-pos, toZ-ofZ}
-use mir.Val.{SFits}
 use Rattle.number.specs.IntegerLaws.{sfits-abs}
 use borrow.Author.Needs.{needs}
 use Rattle.tulghimo.proofs.refusal.Statement.{statement}
@@ -22,11 +21,8 @@ small (suc n) h = omega arith
 cast-result : tie.Need-cast-result
 cast-result c = search needs
 
-minus-fits : (n : ℕ) → n < 256 → SFits w64 (pos 0 -ℤ pos n)
-minus-fits n h = rw (minus-pos n) (sfits-abs w64 (negℤ (pos n)) (small n h))
-
 sub-result : tie.Need-sub-result
-sub-result c = rw (toZ-pos w64 {n = c .args .n} (omega arith)) (minus-fits (c .args .n) (omega arith))
+sub-result c = rw (toZ-pos w64 {n = c .args .n} (omega arith), minus-pos (c .args .n)) (sfits-abs w64 (negℤ (pos (c .args .n))) (small (c .args .n) (omega arith)))
 
 returns : tie.Need-returns
 returns c = toZ-ofZ (sub-result c) ∙ rw (toZ-pos w64 {n = c .args .n} (omega arith)) (minus-pos (c .args .n))
