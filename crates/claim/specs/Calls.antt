@@ -6,8 +6,8 @@ use Prim.Native.Nat.{ℕ, _-_}
 use native.Mathlib.Omega.{arith}
 use lib.Dec.{leb}
 use lib.ListN.{length, take, drop, length-map, length-take, length-drop}
-use lib.Seq.{take-at}
 use Rattle.gate.specs.Outcome.{Outcome, refused, result, written}
+use Rattle.gate.specs.Laws.{result-first}
 use Rattle.row.specs.Row.{endToEnd}
 use Rattle.figure.specs.Mode.{modeOf, modeInUse}
 use Rattle.hill.specs.Summary.{summaryOf}
@@ -22,10 +22,6 @@ use Rattle.outcome.specs.Outcomes.{mergeRowOutcome}
 use Rattle.outcome.specs.Laws.{AllAccepted, merge-row-is}
 use Rattle.claim.specs.Claim.{recordsRead, stretchBytes, leaves, Lent, toMerge, toMergeRow, bufferOf, RowSize, Takes, Neighbours, called, byCalls, onStretches}
 use Rattle.claim.specs.Stretches.{AllRead, reads-readable, in-append, reads-joined, in-joined, read-take, read-drop, read-append}
-
--- What a call has written stands in its buffer.
-pub left-is : (w buffer : List ℕ) → take (length w) (w ++ drop (length w) buffer) ≡ w
-left-is w buffer = take-at w (drop (length w) buffer) (length w) refl
 
 module _ (m : ℕ) where
   -- The summaries of a row of stretches, and their bytes.
@@ -81,7 +77,7 @@ module _ (m : ℕ) (u : modeInUse m ≡ true) where
   call-same l b a e = ap (λ (o : Outcome (List ℕ)). leaves o (bufferOf b)) (called-is l b a e) ∙ go (leb (length (stretchBytes m (joined l))) (length (bufferOf b)))
     where
       go : (t : Bool) → leaves (cond t (result (stretchBytes m (joined l))) (refused 12)) (bufferOf b) ≡ onResult (stretchBytes m) (cond t (result (joined l)) (refused 12))
-      go true = ap result (left-is (stretchBytes m (joined l)) (bufferOf b))
+      go true = ap result (result-first (stretchBytes m (joined l)) (bufferOf b))
       go false = refl
 
   -- ---- the list

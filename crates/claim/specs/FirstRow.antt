@@ -7,13 +7,13 @@ use lib.ListN.{length}
 use borrow.Author.Tests.{le-leb}
 use Rattle.gate.specs.Outcome.{Outcome, refused, result}
 use Rattle.gate.specs.Answers.{lengthAnswered}
+use Rattle.gate.specs.Laws.{result-first}
 use Rattle.figure.specs.Mode.{modeInUse}
 use Rattle.hill.specs.Row.{joined, Call, answer, put, answers, onResult}
 use Rattle.summary.specs.Outcomes.{chunkOf, summaryBytes, summariseOutcome}
 use Rattle.summary.specs.OutcomeLaws.{summarise-is}
 use Rattle.claim.specs.Claim.{recordsRead, stretchBytes, leaves, wrote, firstRow, IsChunk, AllChunks, Lent, bufferOf, called, byCalls, told}
 use Rattle.claim.specs.Stretches.{Reads, AllRead, found}
-use Rattle.claim.specs.Calls.{left-is}
 
 module _ (m : ℕ) (u : modeInUse m ≡ true) where
   -- Summarise writes the summary of each chunk.
@@ -23,7 +23,7 @@ module _ (m : ℕ) (u : modeInUse m ≡ true) where
       let e : recordsRead c ≡ chunkOf (r .0) = found c (r .0) (r .1) in
       let n : length (summaryBytes m (recordsRead c)) ≤ length b = i .long-enough in
       ap (λ (o : Outcome (List ℕ)). wrote (leaves o b)) (summarise-is c m (length b) (r .0) u (i .short) (r .1)) ∙
-      rw (← e, le-leb (length (summaryBytes m (recordsRead c))) (length b) n) (left-is (summaryBytes m (recordsRead c)) b)
+      rw (← e, le-leb (length (summaryBytes m (recordsRead c))) (length b) n) (result-first (summaryBytes m (recordsRead c)) b)
 
   pub first-row : (cs bs : List (List ℕ)) → AllRead cs → AllChunks m cs bs → firstRow m cs bs ≡ map (stretchBytes m) cs
   first-row (c ∷ cs) (b ∷ bs) a i = ap₂ (λ (x : List ℕ) (xs : List (List ℕ)). x ∷ xs) (wrote-chunk c b (a .0) (i .0)) (first-row cs bs (a .1) (i .1))
@@ -44,7 +44,7 @@ only-one f (s ∷ t ∷ st) p e = cc
 -- What a call leaves has the length that it answers.
 answer-length : (o : Outcome (List ℕ)) (b : List ℕ) → lengthAnswered o ≡ onResult length (leaves o b)
 answer-length (refused n) b = refl
-answer-length (result w) b = ap (λ (x : List ℕ). result (length x)) (sym (left-is w b))
+answer-length (result w) b = ap (λ (x : List ℕ). result (length x)) (sym (result-first w b))
 
 pub told-lengths : (cs : List (Call Lent)) (row : List (List ℕ)) → told cs row ≡ map (onResult length) (answers byCalls cs row)
 told-lengths [] row = refl
