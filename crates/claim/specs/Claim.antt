@@ -20,7 +20,8 @@ use Rattle.hill.specs.Questions.{NoOfLog}
 use Rattle.hill.specs.Closing.{ClosedBy}
 use Rattle.hill.specs.Tree.{Forest, nil, tree, write, value}
 use Rattle.hill.specs.Row.{joined, Call, answer, put, replay, answers, Proper, fitting, onResult}
-use Rattle.summary.specs.Outcomes.{chunkOf, summaryBytes, summariseOutcome, mergeOutcome, finishOutcome, logOutcome}
+use Rattle.summary.specs.Outcomes.{summaryBytes, summariseOutcome, mergeOutcome, finishOutcome, logOutcome}
+use Rattle.chunk.specs.Chunk.{chunkOf}
 use Rattle.join_plan.specs.Plan.{Line, joins, folded}
 use Rattle.join_plan.specs.ByRecords.{InChunk, IsPlan}
 use Rattle.outcome.specs.Outcomes.{linesBytes, mergeRowOutcome, planOutcome, workOutcome}

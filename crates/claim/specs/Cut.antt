@@ -18,7 +18,7 @@ use Rattle.record.specs.declared.Fields.{Fields}
 use Rattle.figure.specs.FourModes.{Amounts}
 use Rattle.hill.specs.Log.{Record}
 use Rattle.hill.specs.Row.{joined}
-use Rattle.summary.specs.Outcomes.{recordOf, chunkOf}
+use Rattle.chunk.specs.Chunk.{recordOf, chunkOf}
 use Rattle.claim.specs.Claim.{fieldsFound, fieldsRead, recordsRead, byteAt, InOrder, parts, cutAt}
 use Rattle.claim.specs.Stretches.{Reads, AllRead, fields-found, append-fields, reads-joined}
 

@@ -10,7 +10,8 @@ use Rattle.gate.specs.Answers.{lengthAnswered}
 use Rattle.gate.specs.Laws.{result-first}
 use Rattle.figure.specs.Mode.{modeInUse}
 use Rattle.hill.specs.Row.{joined, Call, answer, put, answers, onResult}
-use Rattle.summary.specs.Outcomes.{chunkOf, summaryBytes, summariseOutcome}
+use Rattle.summary.specs.Outcomes.{summaryBytes, summariseOutcome}
+use Rattle.chunk.specs.Chunk.{chunkOf}
 use Rattle.summary.specs.OutcomeLaws.{summarise-is}
 use Rattle.claim.specs.Claim.{recordsRead, stretchBytes, leaves, wrote, firstRow, IsChunk, AllChunks, Lent, bufferOf, called, byCalls, told}
 use Rattle.claim.specs.Stretches.{Reads, AllRead, found}

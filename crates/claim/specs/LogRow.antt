@@ -19,7 +19,8 @@ use Rattle.hill.specs.Figure.{figureOf}
 use Rattle.hill.specs.Finish.{outcome}
 use Rattle.hill.specs.Row.{joined, onResult}
 use Rattle.summary.specs.Layout.{encode}
-use Rattle.summary.specs.Outcomes.{chunkOf, finishOutcome, logOutcome}
+use Rattle.summary.specs.Outcomes.{finishOutcome, logOutcome}
+use Rattle.chunk.specs.Chunk.{chunkOf}
 use Rattle.summary.specs.OutcomeLaws.{finish-chunk}
 use Rattle.join_plan.specs.Plan.{Line, joins, folded, planOfRow}
 use Rattle.plan_work.specs.Work.{Work}

@@ -11,7 +11,7 @@ use Rattle.record.specs.Joined.{records-append}
 use Rattle.record.specs.declared.Fields.{Fields}
 use Rattle.hill.specs.Row.{joined}
 use Rattle.summary.specs.MergeBytes.{Readables}
-use Rattle.summary.specs.Outcomes.{recordOf, chunkOf}
+use Rattle.chunk.specs.Chunk.{recordOf, chunkOf}
 use Rattle.summary.specs.OutcomeLaws.{chunk-readable}
 use Rattle.claim.specs.Claim.{fieldsFound, fieldsRead, recordsRead}
 

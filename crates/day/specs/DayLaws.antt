@@ -4,7 +4,6 @@ use mathlib.Core.List.{List}
 use Prim.Native.Nat.{ℕ, _≤_, _<_}
 use native.Mathlib.Omega.{arith}
 use lib.ListN.{length}
-use borrow.Author.Tests.{le-leb, lt-leb}
 use Rattle.gate.specs.Outcome.{refused, result}
 use Rattle.record.specs.Record.{recordsOf}
 use Rattle.record.specs.declared.Fields.{Fields}
@@ -17,27 +16,21 @@ use Rattle.hill.specs.Faults.{lowest-log}
 use Rattle.hill.specs.Tree.{Forest, nil, tree, write, value}
 use Rattle.hill.specs.FigureLaws.{log-tree}
 use Rattle.hill.specs.Finish.{outcome}
-use Rattle.summary.specs.Outcomes.{chunkOf}
-use Rattle.summary.specs.OutcomeLaws.{onward-outcome}
-use Rattle.day.specs.Day.{wholeLog, figureIn, figuresOf, dayOutcome}
+use Rattle.chunk.specs.Chunk.{chunkOf}
+use Rattle.chunk.specs.Laws.{too-long as log-too-long, readable as log-readable}
+use Rattle.day.specs.Day.{figureIn, figuresOf, dayOutcome}
 
 -- ---- by questions
 
 -- 2
 pub too-long : (log : List ℕ) → 65_536 < length log → dayOutcome log ≡ refused 2
-unfolding dayOutcome wholeLog
-too-long log h = rw (lt-leb (length log) 65_536 h)
+unfolding dayOutcome
+too-long log h = log-too-long figuresOf log h
 
-module _ (log : List ℕ) (short : length log ≤ 65_536) where
-  -- 3
-  pub unreadable : (n : ℕ) → recordsOf log ≡ refused n → dayOutcome log ≡ refused n
-  unfolding dayOutcome wholeLog
-  unreadable n e = rw (le-leb (length log) 65_536 short, e)
-
-  -- 7 to 11, and then the figures
-  pub readable : (fs : List Fields) → recordsOf log ≡ result fs → dayOutcome log ≡ outcome (logFault (chunkOf fs)) (figuresOf (chunkOf fs))
-  unfolding dayOutcome wholeLog
-  readable fs e = rw (le-leb (length log) 65_536 short, e) (onward-outcome figuresOf (logFault (chunkOf fs)) (chunkOf fs))
+-- 7 to 11, and then the figures
+pub readable : (log : List ℕ) → length log ≤ 65_536 → (fs : List Fields) → recordsOf log ≡ result fs → dayOutcome log ≡ outcome (logFault (chunkOf fs)) (figuresOf (chunkOf fs))
+unfolding dayOutcome
+readable log short fs e = log-readable figuresOf log short fs e
 
 -- ---- the recursion
 

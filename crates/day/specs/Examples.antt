@@ -7,7 +7,8 @@ use Rattle.record.specs.Record.{within, inRange, accepted, whole, byShape, read
 use Rattle.hill.specs.Verdict.{joint, count, ends}
 use Rattle.text.specs.Decimal.{digitsIn, digitsOf}
 use Rattle.text.specs.Line.{ascii, lineText, dayLine}
-use Rattle.day.specs.Day.{wholeLog, dayOutcome}
+use Rattle.day.specs.Day.{dayOutcome}
+use Rattle.chunk.specs.Chunk.{wholeLog}
 
 -- "No bytes: .. 10. \"close 1\" alone: 11. open 0, close 0 twice over: 8. open 0, open 0: 7." An open and two stray bytes: 3.
 abbrev close0 : List ℕ → List ℕ

@@ -1,7 +1,6 @@
 -- What the calls on a whole log mean, and how the pass over it goes.
 pub mod Day
 pub mod DayLaws
-pub mod Levels
 pub mod Pass
 pub mod Loop
 pub mod Examples

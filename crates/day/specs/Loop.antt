@@ -1,18 +1,17 @@
 -- What the pass over a log keeps from turn to turn, and what it comes to at the end. Assumes nothing.
 use mathlib.Core.Path.{_≡_, refl, sym, ap, subst, _∙_}
-use mathlib.Core.Bool.{false}
 use mathlib.Core.List.{List, [], _∷_, _++_}
 use Prim.Native.Nat.{ℕ, _-_, _≤_, _<_}
 use native.Mathlib.Omega.{arith}
+use lib.Dec.{eqb}
 use lib.IntN.{ℤ}
-use lib.ListN.{length, length-map, take, drop}
+use lib.ListN.{length, take, drop}
+use borrow.Author.Tests.{eq-eqb}
 use Rattle.gate.specs.Outcome.{refused, result}
 use Rattle.record.specs.Record.{readOf}
 use Rattle.record.specs.Laws.{sound}
-use Rattle.record.specs.Handed as handing
-use Rattle.record.specs.Handed.{Handed}
 use Rattle.record.specs.declared.Fields.{Fields}
-use Rattle.hill.specs.Verdict.{Verdict, pass, refuse}
+use Rattle.hill.specs.Verdict.{Verdict, pass, refuse, low, ask}
 use Rattle.hill.specs.Log.{Record, startLevel, logFault}
 use Rattle.hill.specs.Tree.{nil, tree, value}
 use Rattle.hill.specs.TreeLaws.{hillOf-write}
@@ -24,16 +23,18 @@ use Rattle.figure.specs.FourModes.{Amounts}
 use Rattle.figure.specs.Mode.{modeOf}
 use Rattle.figure.specs.Stored.{IsStored, amounts, none}
 use Rattle.slopes.specs.Laws.{emptied}
-use Rattle.fault.specs.Fault.{noFault}
+use Rattle.fault.specs.Fault.{noFault, verdictOf}
+use Rattle.fault.specs.Laws.{clear, is-clear}
 use Rattle.summary.specs.Values.{tells-range}
-use Rattle.summary.specs.Outcomes.{recordOf, chunkOf}
-use Rattle.summary.specs.OutcomeLaws.{chunk-append}
-use Rattle.hill.specs.Growth.{opened-few}
+use Rattle.chunk.specs.Chunk.{recordOf, chunkOf}
+use Rattle.chunk.specs.Laws.{chunk-append}
+use Rattle.whole_log.specs.declared.Tally.{Tally}
+use Rattle.whole_log.specs.Tallies.{Fresh, Tallied, logVerdict}
+use Rattle.whole_log.specs.TallyLaws.{level-is, faultless, so-far, grounded, meets, log-verdict, through}
+use Rattle.whole_log.specs.Pass as reading
+use Rattle.whole_log.specs.Pass.{Reading}
 use Rattle.text.specs.declared.Figures.{Figures}
-use Rattle.day.specs.declared.Tally.{Tally}
 use Rattle.day.specs.Day.{figureIn, figuresOf, dayOutcome}
-use Rattle.day.specs.DayLaws.{unreadable, readable}
-use Rattle.day.specs.Levels.{Noted, Tallied, verdictAfter, none-yet, tallied, was-none, meets, log-verdict, all-passed}
 use Rattle.day.specs.Pass.{noFigures, rising, Stands, Standing, Ready, Applied}
 
 -- ---- the figures
@@ -57,17 +58,14 @@ all-figures xs {mid} v s =
 
 -- ---- the invariant
 
--- Of the log, at most 65,536 bytes, the records `done` are read and `rest` is left; their levels are noted, and as long as there is no fault
--- the arrays stand for their hill in each mode.
+-- The pass so far; as long as there is no fault and the log starts at level 0, the arrays stand for the hill of the records read in each mode.
 pub record Inv (log rest : List ℕ) (t : Tally) (mid : Figures) (vs fs cs ns hs es ss : List ℤ) : Type 0 where
-  pub short : length log ≤ 65_536
   pub done : List Fields
-  pub handed : Handed log rest done
-  pub noted : Tallied t (chunkOf done)
-  pub standing : noFault ≤ t .fault → Standing (chunkOf done) (t .level) mid vs fs cs ns hs es ss
+  pub read : Reading log rest done t
+  pub standing : noFault ≤ t .fault → t .start ≡ 0 → Standing (chunkOf done) (t .level) mid vs fs cs ns hs es ss
 
 -- arrays of 64, and nothing in them yet
-pub record Fresh (mid : Figures) (vs fs cs ns hs es ss : List ℤ) : Type 0 where
+pub record Empty (mid : Figures) (vs fs cs ns hs es ss : List ℤ) : Type 0 where
   pub values : length vs ≡ 64
   pub floors : length fs ≡ 64
   pub ceilings : length cs ≡ 64
@@ -81,14 +79,11 @@ stands-none : (m : ℕ) {vs fs cs hs : List ℤ} {mid : ℤ} → length vs ≡ 6
 stands-none m {vs} {fs} {cs} {hs} {mid} ev ef ec eh e =
     emptied (modeOf m) (rising vs fs cs hs) mid (record { left = ev; values = ev; floors = ef; ceilings = ec; held = eh }) e
 
-pub begin : {log : List ℕ} {t : Tally} {mid : Figures} {vs fs cs ns hs es ss : List ℤ} → length log ≤ 65_536 → t .begun ≡ false → t .level ≡ 0 → noFault ≤ t .fault → Fresh mid vs fs cs ns hs es ss
-    → Inv log log t mid vs fs cs ns hs es ss
-begin {log} short b l f e = record {
-  short = short;
+pub begin : {log : List ℕ} {t : Tally} {mid : Figures} {vs fs cs ns hs es ss : List ℤ} → length log ≤ 65_536 → Fresh t → Empty mid vs fs cs ns hs es ss → Inv log log t mid vs fs cs ns hs es ss
+begin {mid} {vs} {fs} {cs} {ns} {hs} {es} {ss} short u e = record {
   done = [];
-  handed = handing.start log;
-  noted = none-yet b l f;
-  standing = λ _. rw l record {
+  read = reading.begin short u;
+  standing = λ _ _. subst (λ (l : ℕ). Standing [] l mid vs fs cs ns hs es ss) (sym (u .level)) record {
     net = stands-none 1 (e .values) (e .floors) (e .ceilings) (e .held-net) (ap (λ (x : Figures). x .net) (e .figures));
     heaviest = stands-none 2 (e .values) (e .floors) (e .ceilings) (e .held-heaviest) (ap (λ (x : Figures). x .heaviest) (e .figures));
     eaten = stands-none 3 (e .values) (e .floors) (e .ceilings) (e .held-eaten) (ap (λ (x : Figures). x .eaten) (e .figures));
@@ -97,55 +92,57 @@ begin {log} short b l f e = record {
 }
 
 module _ {log rest : List ℕ} {t : Tally} {mid : Figures} {vs fs cs ns hs es ss : List ℤ} (i : Inv log rest t mid vs fs cs ns hs es ss) where
-  few : length (chunkOf (i .done)) ≤ 100_000
-  few = omega (arith, i .short, i .handed .few, length-map (i .done) recordOf)
+  abbrev xs : List (Record Amounts)
+  xs = chunkOf (i .done)
 
   -- ---- one turn
 
-  module _ {f : Fields} (e : readOf rest ≡ result f) where
-    pub read-deep : f .depth ≤ 63
-    read-deep = tells-range (f .depth) (amounts (f .value) (f .floor) (f .ceiling)) .from (sound rest f e .ranged) .0
+  module _ {f : Fields} (e : readOf rest ≡ result f) (u : Tally) (n : Tallied (xs ++ (recordOf f ∷ [])) u) (fault : ℕ) (v : verdictOf fault ≡ low (verdictOf (u .fault)) (ask 11 (eqb (u .start) 0))) where
+    standing-before : noFault ≤ u .fault → u .start ≡ 0 → Standing xs (startLevel (recordOf f)) mid vs fs cs ns hs es ss
+    standing-before z g =
+        rw (sym (meets (recordOf f) u z g xs t (i .read .tallied) n))
+        (i .standing (faultless (recordOf f) u z xs t (i .read .tallied) n) (grounded (recordOf f) u z g xs t (i .read .tallied) n))
 
-    standing-before : {t′ : Tally} → Noted t (recordOf f) t′ → noFault ≤ t′ .fault → Standing (chunkOf (i .done)) (startLevel (recordOf f)) mid vs fs cs ns hs es ss
-    standing-before n z = rw (sym (meets (i .noted) n z)) (i .standing (was-none (i .noted) n z))
-
-    pub ready : {t′ : Tally} → Noted t (recordOf f) t′ → Ready (t′ .fault) f mid vs fs cs ns hs es ss
-    ready n = record {
-      records = chunkOf (i .done);
-      few = omega (arith, few, opened-few (chunkOf (i .done)));
-      standing = standing-before n;
-      deep = read-deep;
+    pub ready : Ready fault f mid vs fs cs ns hs es ss
+    ready = record {
+      records = xs;
+      few = omega (arith, reading.few (i .read));
+      standing = λ z. let s = so-far u v z in standing-before (s .0) (s .1);
+      deep = reading.deep (i .read) e;
       in-range = tells-range (f .depth) (amounts (f .value) (f .floor) (f .ceiling)) .from (sound rest f e .ranged) .1;
     }
 
-    pub next : {t′ : Tally} {mid′ : Figures} {vs′ fs′ cs′ ns′ hs′ es′ ss′ : List ℤ} → Noted t (recordOf f) t′ → Applied (t′ .fault) f mid vs fs cs ns hs es ss mid′ vs′ fs′ cs′ ns′ hs′ es′ ss′
-        → Inv log (take (length rest - f .length) (drop (f .length) rest)) t′ mid′ vs′ fs′ cs′ ns′ hs′ es′ ss′
-    next n a = record {
-      short = i .short;
+    pub next : {mid′ : Figures} {vs′ fs′ cs′ ns′ hs′ es′ ss′ : List ℤ} → Applied fault f mid vs fs cs ns hs es ss mid′ vs′ fs′ cs′ ns′ hs′ es′ ss′
+        → Inv log (take (length rest - f .length) (drop (f .length) rest)) u mid′ vs′ fs′ cs′ ns′ hs′ es′ ss′
+    next {mid′} {vs′} {fs′} {cs′} {ns′} {hs′} {es′} {ss′} a = record {
       done = i .done ++ (f ∷ []);
-      handed = handing.next (i .handed) f e;
-      noted = rw (chunk-append (i .done) (f ∷ [])) (tallied (i .noted) n);
-      standing = λ z. rw (chunk-append (i .done) (f ∷ []), n .level) (a z (chunkOf (i .done)) (standing-before n z));
+      read = reading.next (i .read) e n;
+      standing = λ z g.
+          subst (λ (ys : List (Record Amounts)). Standing ys (u .level) mid′ vs′ fs′ cs′ ns′ hs′ es′ ss′) (sym (chunk-append (i .done) (f ∷ [])))
+          (subst (λ (l : ℕ). Standing (xs ++ (recordOf f ∷ [])) l mid′ vs′ fs′ cs′ ns′ hs′ es′ ss′) (sym (level-is (recordOf f) u xs n))
+          (a (is-clear fault (v ∙ clear-both z g)) xs (standing-before z g)));
     }
+      where
+        clear-both : noFault ≤ u .fault → u .start ≡ 0 → low (verdictOf (u .fault)) (ask 11 (eqb (u .start) 0)) ≡ pass
+        clear-both z g = rw (clear (u .fault) z, eq-eqb (u .start) 0 g)
 
   pub stopped : 0 < length rest → readOf rest ≡ refused 3 → dayOutcome log ≡ refused 3
-  stopped h e = unreadable log (i .short) 3 (handing.unreadable (i .handed) h e)
+  unfolding dayOutcome
+  stopped h e = reading.stopped (i .read) figuresOf h e
 
   -- ---- the end
 
   module _ (h : length rest ≤ 0) where
-    judged : dayOutcome log ≡ outcome (logFault (chunkOf (i .done))) (figuresOf (chunkOf (i .done)))
-    judged = readable log (i .short) (i .done) (handing.finished (i .handed) h)
+    judged : dayOutcome log ≡ outcome (logVerdict t) (figuresOf xs)
+    unfolding dayOutcome
+    judged = reading.ended (i .read) figuresOf h
 
-    asked : verdictAfter t ≡ logFault (chunkOf (i .done))
-    asked = log-verdict (chunkOf (i .done)) (i .noted) few
-
-    pub ended : dayOutcome log ≡ outcome (verdictAfter t) mid
-    ended = judged ∙ ap (λ v. outcome v (figuresOf (chunkOf (i .done)))) (sym asked) ∙ go (verdictAfter t) refl
+    pub ended : dayOutcome log ≡ outcome (logVerdict t) mid
+    ended = judged ∙ go (logVerdict t) refl
       where
-        go : (v : Verdict) → verdictAfter t ≡ v → outcome v (figuresOf (chunkOf (i .done))) ≡ outcome v mid
+        go : (v : Verdict) → logVerdict t ≡ v → outcome v (figuresOf xs) ≡ outcome v mid
         go (refuse n) e = refl
         go pass e =
-            let p = all-passed t e in
-            let st : Standing (chunkOf (i .done)) 0 mid vs fs cs ns hs es ss = subst (λ (l : ℕ). Standing (chunkOf (i .done)) l mid vs fs cs ns hs es ss) (p .1) (i .standing (p .0)) in
-            ap result (sym (all-figures (chunkOf (i .done)) (sym asked ∙ e) st))
+            let p = through t e in
+            let st : Standing xs 0 mid vs fs cs ns hs es ss = subst (λ (l : ℕ). Standing xs l mid vs fs cs ns hs es ss) (p .level) (i .standing (p .fault) (p .start)) in
+            ap result (sym (all-figures xs (sym (log-verdict xs t (i .read .tallied) (omega (arith, reading.few (i .read)))) ∙ e) st))

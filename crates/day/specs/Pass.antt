@@ -5,7 +5,6 @@ use Prim.Native.Nat.{ℕ, suc, _*_, _≤_, _<_}
 use native.Mathlib.Omega.{arith}
 use lib.IntN.{ℤ}
 use lib.ListN.{length}
-use borrow.Author.Tests.{eq-eqb, ne-eqb}
 use Rattle.hill.specs.Log.{Record, opening, closing, startLevel, endLevel, openedOf}
 use Rattle.hill.specs.Summary.{Hill}
 use Rattle.hill.specs.Building.{empty, close, step, hillOf, run-append}
@@ -18,7 +17,8 @@ use Rattle.slopes.specs.Actions.{Pushed, Top, ClosedTop}
 use Rattle.fault.specs.Fault.{noFault}
 use Rattle.slopes.specs.Laws.{counts, able, restate, opened, after, after-more, close-top, is-top}
 use Rattle.record.specs.declared.Fields.{Fields}
-use Rattle.summary.specs.Outcomes.{recordOf}
+use Rattle.chunk.specs.Chunk.{recordOf}
+use Rattle.chunk.specs.Laws.{is-open, is-close}
 use Rattle.text.specs.declared.Figures.{Figures}
 
 -- ---- definitions
@@ -60,14 +60,6 @@ abbrev pub Applied : ℕ → Fields → (mid : Figures) (vs fs cs ns hs es ss : 
 Applied fault f mid vs fs cs ns hs es ss mid′ vs′ fs′ cs′ ns′ hs′ es′ ss′ =
     noFault ≤ fault → (xs : List (Record Amounts)) → Standing xs (startLevel (recordOf f)) mid vs fs cs ns hs es ss
     → Standing (xs ++ (recordOf f ∷ [])) (endLevel (recordOf f)) mid′ vs′ fs′ cs′ ns′ hs′ es′ ss′
-
--- ---- a record that was read
-
-pub is-open : (f : Fields) → f .kind ≡ 1 → recordOf f ≡ opening (f .depth) (amounts (f .value) (f .floor) (f .ceiling))
-is-open f e = rw (eq-eqb (f .kind) 1 e)
-
-pub is-close : (f : Fields) → (f .kind ≡ 1 → ⊥) → recordOf f ≡ closing (f .depth)
-is-close f e = rw (ne-eqb (f .kind) 1 e)
 
 -- ---- one mode
 

@@ -3,59 +3,20 @@ ghost use mathlib.Core.Path.{_≡_};
 ghost use Prim.Native.Nat.{_≤_, _<_};
 ghost use lib.ListN.{length};
 ghost use lib.Seq.{sets};
-ghost use Rattle.summary.specs.Outcomes.{recordOf};
 ghost use Rattle.text.specs.Line.{dayLine};
 ghost use Rattle.day.specs.Day.{dayOutcome, dayAnswer};
-ghost use Rattle.fault.specs.Fault.{verdictOf};
 ghost use Rattle.hill.specs.Finish.{outcome};
-ghost use Rattle.day.specs.Levels.{meeting, Noted, verdictAfter};
+ghost use Rattle.whole_log.specs.Tallies.{logVerdict};
 ghost use Rattle.day.specs.Pass.{noFigures, Opened, Ready, Applied};
 use record::Fields;
 use record::Read;
 use text::Figures;
+use whole_log::Tally;
 
 // The answer of `figures`. `dayAnswer` says what each case means.
 pub enum Day {
     Figures(Figures),
     Refused(u8),
-}
-
-// The levels of the records so far: whether there is any, the level where the last one ended (0 before the first), and the lowest fault
-// of questions 7, 8 and, for the first level, 11. Question 9 cannot get a "no": 65,536 bytes have too few records.
-pub struct Tally {
-    pub begun: bool,
-    pub level: u16,
-    pub fault: u8,
-}
-
-// The fault where a record starts at level `start`.
-fn meet(begun: bool, level: u16, start: u16) -> u8
-    ensures { λ r. ⌜ verdictOf r ≡ meeting begun level start ⌝ }
-{
-    if begun {
-        return fault::joint(level, start);
-    }
-    fault::ground(start)
-}
-
-// A record goes from one level to another.
-fn note(t: Tally, f: Fields) -> Tally
-    requires { ⌜ f .depth ≤ 63 ⌝ }
-    ensures { λ r. ⌜ Noted t (recordOf f) r ⌝ }
-{
-    let depth = f.depth;
-    if f.kind == 1 {
-        return Tally {
-            begun: true,
-            level: depth + 1,
-            fault: fault::lower(t.fault, meet(t.begun, t.level, depth)),
-        };
-    }
-    Tally {
-        begun: true,
-        level: depth,
-        fault: fault::lower(t.fault, meet(t.begun, t.level, depth + 1)),
-    }
 }
 
 // No figure yet, in each mode.
@@ -158,16 +119,13 @@ fn apply(
 
 // Once all records are read: the middle values, unless a question has a "no".
 fn conclude(t: Tally, mid: Figures) -> Day
-    ensures { λ r. ⌜ dayAnswer r ≡ outcome (verdictAfter t) mid ⌝ }
+    ensures { λ r. ⌜ dayAnswer r ≡ outcome (logVerdict t) mid ⌝ }
 {
-    if t.begun {
-        let fault = fault::lower(t.fault, fault::ground(t.level));
-        if fault < fault::NONE {
-            return Day::Refused(fault);
-        }
-        return Day::Figures(mid);
+    let fault = whole_log::log_fault(t);
+    if fault < fault::NONE {
+        return Day::Refused(fault);
     }
-    Day::Refused(10)
+    Day::Figures(mid)
 }
 
 // The day's four figures, or the first question that gets a "no".
@@ -185,20 +143,16 @@ pub fn figures(log: &[u8]) -> Day
     let mut eaten = [0i64; 64];
     let mut stamp = [0i64; 64];
     let mut mid = no_figures();
-    let mut t = Tally {
-        begun: false,
-        level: 0,
-        fault: fault::NONE,
-    };
+    let mut t = whole_log::fresh();
     let mut rest = log;
     while 0 < rest.len() {
         let Read::Record(f) = record::read_first(rest) else {
             return Day::Refused(3);
         };
         let length = f.length as usize;
-        t = note(t, f);
+        t = whole_log::note(t, f);
         mid = apply(
-            t.fault,
+            whole_log::fault_so_far(t),
             f,
             mid,
             &mut values,

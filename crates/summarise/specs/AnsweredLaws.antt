@@ -19,11 +19,11 @@ use Rattle.slopes.specs.Arrays.{Arrays}
 use Rattle.slopes.specs.Laws.{rise-is, fall-is}
 use Rattle.summary.specs.Layout.{SummaryIn, encode}
 use Rattle.summary.specs.Outcomes.{summaryBytes}
-use Rattle.summarise.specs.declared.Tally.{Tally}
+use Rattle.whole_log.specs.declared.Tally.{Tally}
 use Rattle.fault.specs.Fault.{noFault, verdictOf}
 use Rattle.fault.specs.Laws.{found}
-use Rattle.summarise.specs.Tallies.{Tells}
-use Rattle.summarise.specs.TallyLaws.{begun, not-begun, not-both, joints-pass}
+use Rattle.whole_log.specs.Tallies.{Tells}
+use Rattle.whole_log.specs.TallyLaws.{begun, not-begun, not-both, joints-pass}
 use Rattle.summarise.specs.Scans.{Summed}
 use Rattle.summarise.specs.ScanLaws.{start-low, start-is, end-is, part-whole}
 use Rattle.emit.specs.Emitted.{Said}

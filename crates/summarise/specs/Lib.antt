@@ -1,7 +1,5 @@
 -- What a pass over a chunk keeps, what the functions ask and leave, and their laws.
-pub mod Tallies
 pub mod Scans
-pub mod TallyLaws
 pub mod ScanLaws
 pub mod AnsweredLaws
 pub mod CallLaws

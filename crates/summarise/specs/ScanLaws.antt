@@ -31,11 +31,11 @@ use Rattle.slopes.specs.Arrays.{Arrays, Fig, Arrays64, StandsFor}
 use Rattle.slopes.specs.Actions.{Room, entry, cost}
 use Rattle.slopes.specs.Laws.{counts, able, restate, rise-is, fall-is, after-more, emptied, unit-bound}
 use Rattle.summary.specs.Values.{tells-range}
-use Rattle.summary.specs.Outcomes.{recordOf, chunkOf}
-use Rattle.summary.specs.OutcomeLaws.{chunk-append}
-use Rattle.summarise.specs.declared.Tally.{Tally}
-use Rattle.summarise.specs.Tallies.{Fresh, Tallied}
-use Rattle.summarise.specs.TallyLaws.{opened-is, met, faultless, joints-pass}
+use Rattle.chunk.specs.Chunk.{recordOf, chunkOf}
+use Rattle.chunk.specs.Laws.{chunk-append}
+use Rattle.whole_log.specs.declared.Tally.{Tally}
+use Rattle.whole_log.specs.Tallies.{Fresh, Tallied}
+use Rattle.whole_log.specs.TallyLaws.{opened-is, met, faultless, joints-pass}
 use Rattle.summarise.specs.Scans.{Grows, Grown, Summed}
 
 -- ---- a record that was read

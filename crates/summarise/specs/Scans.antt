@@ -15,12 +15,12 @@ use Rattle.figure.specs.Stored.{amounts}
 use Rattle.slopes.specs.declared.Counts.{Counts}
 use Rattle.slopes.specs.Arrays.{Arrays, slopesOf, weightOf, Able, StandsFor}
 use Rattle.slopes.specs.Actions.{Room, cost}
-use Rattle.summary.specs.Outcomes.{recordOf, chunkOf}
+use Rattle.chunk.specs.Chunk.{recordOf, chunkOf}
 use Rattle.fault.specs.Fault.{noFault}
-use Rattle.summarise.specs.declared.Tally.{Tally}
+use Rattle.whole_log.specs.declared.Tally.{Tally}
 use Rattle.summarise.specs.declared.Scan.{Scan}
 use Rattle.summarise.specs.declared.Scan.the-variants.{Refused, Done}
-use Rattle.summarise.specs.Tallies.{Tallied}
+use Rattle.whole_log.specs.Tallies.{Tallied}
 
 -- Where there is no fault, the arrays can take the record f.
 pub record Grows (M : Mode) (fault : ℕ) (f : Fields) (A : Arrays) (c : Counts) : Type 0 where

@@ -1,19 +1,16 @@
 // Summarising a chunk in a mode: questions 1, 2, 3 and 12. Document 01, "Summaries".
 ghost use mathlib.Core.Path.{_≡_};
-ghost use mathlib.Core.List.{List, [], _∷_, _++_};
-ghost use Prim.Native.Nat.{ℕ, _≤_};
+ghost use mathlib.Core.List.{List};
+ghost use Prim.Native.Nat.{_≤_};
 ghost use lib.ListN.{length};
-ghost use Rattle.hill.specs.Log.{Record, startLevel, endLevel, opens as openedBy};
+ghost use Rattle.hill.specs.Log.{Record};
 ghost use Rattle.hill.specs.Summary.{summaryOf};
 ghost use Rattle.figure.specs.FourModes.{Amounts};
 ghost use Rattle.figure.specs.Mode.{modeOf};
-ghost use Rattle.figure.specs.Stored.{amounts};
-ghost use Rattle.slopes.specs.Actions.{entry};
 ghost use Rattle.gate.specs.Outcome.{bufferAfter, written};
 ghost use Rattle.gate.specs.Answers.{writtenAnswer, lengthAnswered};
 ghost use Rattle.summary.specs.Outcomes.{summariseOutcome, summaryBytes};
 ghost use Rattle.slopes.specs.Arrays.{Arrays, arrays, Arrays64};
-ghost use Rattle.summarise.specs.Tallies.{Tallied};
 ghost use Rattle.summarise.specs.Scans.{Grows, Grown, Summed, Scanned, Concludes};
 ghost use Rattle.emit.specs.Emitted.{Said, Answers};
 use gate::Written;
@@ -23,55 +20,13 @@ use judge::SpoiltHead;
 use record::Fields;
 use record::Read;
 use slopes::Counts;
-
-// What a pass over records keeps beside their hill: whether there was one, the start level, the level reached, the lowest of faults 7 and 8, and the
-// opened records. The case of the summary is settled by the last record, in `chunk_head`.
-struct Tally {
-    begun: bool,
-    start: u16,
-    level: u16,
-    fault: u8,
-    opened: u32,
-}
+use whole_log::Tally;
 
 // What reading a chunk came to. Refused: a record is not readable, which is refusal 3. Done: all were read; what is kept of them, and how much of
 // the arrays their hill takes.
 enum Scan {
     Refused,
     Done(Tally, Counts),
-}
-
-// One record more, which goes from one level to another.
-fn passed(t: Tally, from: u16, to: u16, opens: u32) -> Tally
-    requires { ⌜ (t .opened ≤ 65536) × (opens ≤ 1) ⌝ }
-    ensures { λ r. ⌜ ((xs : List (Record Amounts)) (y : Record Amounts) → Tallied xs t → startLevel y ≡ from → endLevel y ≡ to → openedBy y ≡ opens → Tallied (xs ++ (y ∷ [])) r) ⌝ }
-{
-    if !t.begun {
-        return Tally {
-            begun: true,
-            start: from,
-            level: to,
-            fault: fault::NONE,
-            opened: opens,
-        };
-    }
-    Tally {
-        begun: true,
-        start: t.start,
-        level: to,
-        fault: fault::lower(t.fault, fault::joint(t.level, from)),
-        opened: t.opened + opens,
-    }
-}
-
-fn note(t: Tally, opens: bool, depth: u16) -> Tally
-    requires { ⌜ (t .opened ≤ 65536) × (depth ≤ 63) ⌝ }
-    ensures { λ r. ⌜ ((xs : List (Record Amounts)) (a : Amounts) → Tallied xs t → Tallied (xs ++ (entry opens depth a ∷ [])) r) ⌝ }
-{
-    if opens {
-        return passed(t, depth, depth + 1, 1);
-    }
-    passed(t, depth + 1, depth, 0)
 }
 
 // The hill takes a record as long as there is no fault: a chunk with one has no hill.
@@ -122,13 +77,7 @@ fn read_chunk(
     requires { ⌜ Arrays64 (arrays (now left) (now values) (now floors) (now ceilings) (now held)) ⌝ }
     ensures { λ r. ⌜ Scanned (modeOf mode) (now (chunk .entry)) (arrays (now (left .exit)) (now (values .exit)) (now (floors .exit)) (now (ceilings .exit)) (now (held .exit))) r ⌝ }
 {
-    let mut t = Tally {
-        begun: false,
-        start: 0,
-        level: 0,
-        fault: fault::NONE,
-        opened: 0,
-    };
+    let mut t = whole_log::fresh();
     let mut c = Counts {
         nl: 0,
         n: 0,
@@ -140,7 +89,7 @@ fn read_chunk(
             return Scan::Refused;
         };
         let length = f.length as usize;
-        t = note(t, f.kind == 1, f.depth);
+        t = whole_log::note(t, f);
         c = grow(mode, t.fault, f, left, values, floors, ceilings, held, c);
         rest = &rest[length..];
     }

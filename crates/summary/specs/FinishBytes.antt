@@ -19,7 +19,8 @@ use Rattle.summary.specs.Decode.{decode, leftsIn, rightsIn}
 use Rattle.summary.specs.ModeValues.{numbered}
 use Rattle.summary.specs.Values.{lefts-length, rights-length, reading-blank, reading-spoilt, reading-hill}
 use Rattle.summary.specs.Hills.{hill-stored}
-use Rattle.summary.specs.OutcomeLaws.{finish-is, onward-outcome}
+use Rattle.summary.specs.OutcomeLaws.{finish-is}
+use Rattle.chunk.specs.Laws.{onward-outcome}
 use Rattle.summary.specs.Outcomes.{finishOutcome}
 
 -- A fault 7, 8 or 9 is lower than 11.

@@ -14,11 +14,10 @@ use Rattle.record.specs.Ranged.{AllInRange, records-in-range}
 use Rattle.record.specs.declared.Fields.{Fields}
 use Rattle.figure.specs.FourModes.{Amounts, InRange}
 use Rattle.figure.specs.Mode.{modeOf, modeInUse}
-use Rattle.hill.specs.Verdict.{Verdict, pass, refuse}
 use Rattle.hill.specs.Log.{Record, opening, closing, logFault}
 use Rattle.hill.specs.Figure.{figureOf}
 use Rattle.hill.specs.Summary.{summaryOf}
-use Rattle.hill.specs.Finish.{outcome, finishOf}
+use Rattle.hill.specs.Finish.{finishOf}
 use Rattle.hill.specs.FinishLaws.{finish-log}
 use Rattle.hill.specs.Valid.{Readable}
 use Rattle.summary.specs.Layout.{encode}
@@ -29,7 +28,9 @@ use Rattle.summary.specs.DecideLaws.{decide-summary}
 use Rattle.summary.specs.Values.{tells-range}
 use Rattle.summary.specs.Accepted.{IsSummaryIn, decode-encode, chunk-accepted}
 use Rattle.summary.specs.MergeBytes.{Readables, chunk-is, merge-chunks}
-use Rattle.summary.specs.Outcomes.{recordOf, chunkOf, summaryBytes, mergeBytes, summariseOutcome, mergeOutcome, finishOutcome, logOutcome}
+use Rattle.summary.specs.Outcomes.{summaryBytes, mergeBytes, summariseOutcome, mergeOutcome, finishOutcome, logOutcome}
+use Rattle.chunk.specs.Chunk.{chunkOf}
+use Rattle.chunk.specs.Laws.{chunk-append, onward-outcome}
 
 -- ---- records that were read
 
@@ -66,10 +67,6 @@ pub finish-is : (m : ℕ) (b : List ℕ) → IsSummaryIn m b → finishOutcome b
 finish-is m b i =
     subst (λ (k : ℕ). finishOutcome b ≡ onward (finishOf (modeOf k .algebra) (decode k b)) (λ v. result (modeOf k .store v))) (i .mode-is) (finish-here b (decide-summary b .to (i .is)))
 
-pub onward-outcome : {A B : Type 0} (f : A → B) (v : Verdict) (a : A) → onward (outcome v a) (λ x. result (f x)) ≡ outcome v (f a)
-onward-outcome f pass a = refl
-onward-outcome f (refuse n) a = refl
-
 -- FINISH of a log's summary: the recursion's figure, or the log's lowest-numbered fault.
 pub finish-chunk : (m : ℕ) (log : List (Record Amounts)) → modeInUse m ≡ true → Readables m log → finishOutcome (summaryBytes m log) ≡ logOutcome m log
 unfolding summaryBytes logOutcome
@@ -104,10 +101,6 @@ pub finish-summarise : (log : List ℕ) (m cap : ℕ) (fs : List Fields) (w : Li
 finish-summarise log m cap fs w e h =
     let s = summarised log m cap fs w e h in
     ap finishOutcome (s .bytes) ∙ finish-chunk m (chunkOf fs) (s .mode-used) (chunk-readable m log fs e)
-
-pub chunk-append : (fs gs : List Fields) → chunkOf (fs ++ gs) ≡ chunkOf fs ++ chunkOf gs
-chunk-append [] gs = refl
-chunk-append (f ∷ fs) gs = ap (λ (xs : List (Record Amounts)). recordOf f ∷ xs) (chunk-append fs gs)
 
 -- MERGE of two chunks' bytes: the summary of the joined chunk, however long that is.
 module _ (a b : List ℕ) (m cap : ℕ) (fs gs : List Fields) (e : recordsOf a ≡ result fs) (f : recordsOf b ≡ result gs) (u : modeInUse m ≡ true) where

@@ -1,31 +1,24 @@
 -- What summarise, merge and finish come to, as functions of bytes. Definitions only.
-use mathlib.Core.Bool.{cond, _&&_}
-use mathlib.Core.List.{List, map}
+use mathlib.Core.Bool.{_&&_}
+use mathlib.Core.List.{List}
 use Prim.Native.Nat.{ℕ}
 use lib.Dec.{leb, eqb}
 use lib.ListN.{length}
 use lib.IntN.{ℤ}
 use Rattle.gate.specs.Outcome.{Outcome, result, question, onward, written}
 use Rattle.record.specs.Record.{recordsOf}
-use Rattle.record.specs.declared.Fields.{Fields}
 use Rattle.figure.specs.FourModes.{Amounts}
 use Rattle.figure.specs.Mode.{modeOf, modeInUse}
-use Rattle.hill.specs.Log.{Record, opening, closing, logFault}
+use Rattle.hill.specs.Log.{Record, logFault}
 use Rattle.hill.specs.Figure.{figureOf}
 use Rattle.hill.specs.Summary.{blank, summaryOf}
 use Rattle.hill.specs.Merge.{mergeSummary}
 use Rattle.hill.specs.Finish.{outcome, finishOf}
+use Rattle.chunk.specs.Chunk.{chunkOf}
 use Rattle.summary.specs.Layout.{encode}
 use Rattle.summary.specs.Judge.{modeAt}
 use Rattle.summary.specs.Decode.{decode}
 use Rattle.summary.specs.Decide.{isSummary}
-
--- A record that was read: "kind 1, open", or "kind 2, close".
-abbrev pub recordOf : Fields → Record Amounts
-recordOf f = cond (eqb (f .kind) 1) (opening (f .depth) (record { value = f .value; floor = f .floor; ceiling = f .ceiling })) (closing (f .depth))
-
-abbrev pub chunkOf : List Fields → List (Record Amounts)
-chunkOf fs = map recordOf fs
 
 -- The bytes of a chunk's summary in mode m, of the blank one, and of two summaries merged.
 unfoldable pub summaryBytes : ℕ → List (Record Amounts) → List ℕ

@@ -21,7 +21,8 @@ use Rattle.summary.specs.Decide.{isSummary}
 use Rattle.summary.specs.DecideLaws.{decide-summary}
 use Rattle.summary.specs.Fields.{AllBytes}
 use Rattle.summary.specs.Accepted.{IsSummaryIn, encode-fits, encode-decode, decoded, chunk-accepted}
-use Rattle.summary.specs.Outcomes.{chunkOf, summaryBytes, mergeBytes, summariseOutcome, mergeOutcome}
+use Rattle.summary.specs.Outcomes.{summaryBytes, mergeBytes, summariseOutcome, mergeOutcome}
+use Rattle.chunk.specs.Chunk.{chunkOf}
 use Rattle.summary.specs.MergeBytes.{merge-accepted, merge-bytes}
 use Rattle.summary.specs.OutcomeLaws.{chunk-readable}
 use Rattle.row.specs.Row.{rowPieces}

@@ -1,5 +1,6 @@
 -- `day::figures` meets its contract. Assumes nothing.
 use mathlib.Core.Path.{_≡_, refl, sym, ap, _∙_}
+use mathlib.Core.List.{[], _∷_, _++_}
 use native.Mathlib.Omega.{arith}
 use lib.ListN.{length}
 use borrow.Author.Needs.{needs}
@@ -7,6 +8,9 @@ use denote.Ref.{now}
 use Rattle.gate.specs.Outcome.{result}
 use Rattle.record.specs.Record.{readOf, answerOf}
 use Rattle.record.specs.Laws.{sound}
+use Rattle.chunk.specs.Chunk.{recordOf, chunkOf}
+use Rattle.whole_log.specs.Tallies.{Tallied}
+use Rattle.whole_log.specs.Pass as pass
 use Rattle.day.specs.DayLaws.{too-long}
 use Rattle.day.specs.Loop as laws
 use Rattle.day.specs.Loop.{Inv}
@@ -31,9 +35,12 @@ returns c = sym (too-long (now (c .before .before .args .log)) (c .if1 .taken))
 no-figures-requires : tie.Need-no-figures-requires Inv-loop μ-loop
 no-figures-requires c κs = search needs
 
+fresh-requires : tie.Need-fresh-requires Inv-loop μ-loop
+fresh-requires c κs = search needs
+
 loop-holds : tie.Need-loop-holds Inv-loop μ-loop
 loop-holds c =
-    laws.begin (c .before .if1 .left) refl refl (omega arith)
+    laws.begin (c .before .before .if1 .left) (c .fresh .ensures)
     (record {
       values = refl;
       floors = refl;
@@ -42,7 +49,7 @@ loop-holds c =
       held-heaviest = refl;
       held-eaten = refl;
       held-stamp = refl;
-      figures = c .no-figures .ensures;
+      figures = c .before .no-figures .ensures;
     })
 
 read-first-requires : tie.Need-read-first-requires Inv-loop μ-loop
@@ -61,25 +68,45 @@ cast-length : tie.Need-cast-length Inv-loop μ-loop
 cast-length c = search needs
 
 note-requires : tie.Need-note-requires Inv-loop μ-loop
-note-requires c κs = laws.read-deep (c .before .before .before .before .before .before .loop .inv) (read (c .before .before))
+note-requires c κs =
+    let i = c .before .before .before .before .before .before .loop .inv .read in
+    (pass.opened-low i, pass.deep i (read (c .before .before)))
+
+-- t tells of the records with this one
+noted : (c : tie.After-note Inv-loop μ-loop) → let f = c .before .before .before in
+    Tallied (chunkOf (f .before .before .before .before .loop .inv .done) ++ (recordOf (f .f .given .0 .0) ∷ [])) (c .note .result)
+noted c =
+    let i = c .before .before .before .before .before .before .before .loop .inv in
+    c .note .ensures (chunkOf (i .done)) (i .read .tallied)
+
+fault-so-far-requires : tie.Need-fault-so-far-requires Inv-loop μ-loop
+fault-so-far-requires c κs = search needs
 
 apply-requires : tie.Need-apply-requires Inv-loop μ-loop
-apply-requires c κs = laws.ready (c .before .before .before .before .before .before .before .before .before .before .before .before .before .before .loop .inv) (read (c .before .before .before .before .before .before .before .before .before .before)) (c .before .before .before .before .before .before .before .note .ensures)
+apply-requires c κs =
+    let s = c .before .before .before .before .before .before .before in
+    let n = c .before .before .before .before .before .before .before .before in
+    let f = n .before .before .before in
+    laws.ready (f .before .before .before .before .loop .inv) (read f) (n .note .result) (noted n) (s .fault-so-far .result) (s .fault-so-far .ensures)
 
 sub-rest : tie.Need-sub-rest Inv-loop μ-loop
-sub-rest c = sound _ _ (read (c .before .before .before .before .before .before .before .before .before .before .before)) .inside
+sub-rest c = sound _ _ (read (c .before .before .before .before .before .before .before .before .before .before .before .before)) .inside
 
 part-rest-start : tie.Need-part-rest-start Inv-loop μ-loop
-part-rest-start c = sound _ _ (read (c .before .before .before .before .before .before .before .before .before .before .before)) .inside
+part-rest-start c = sound _ _ (read (c .before .before .before .before .before .before .before .before .before .before .before .before)) .inside
 
 part-rest-end : tie.Need-part-rest-end Inv-loop μ-loop
 part-rest-end c = search needs
 
 loop-less : tie.Need-loop-less Inv-loop μ-loop
-loop-less c = omega (arith, sound _ _ (read (c .before .before .before .before .before .before .before .before .before .before .before .before)))
+loop-less c = omega (arith, sound _ _ (read (c .before .before .before .before .before .before .before .before .before .before .before .before .before)))
 
 loop-again : tie.Need-loop-again Inv-loop μ-loop
-loop-again c = laws.next (c .before .before .before .before .before .before .before .before .before .before .before .before .before .before .before .before .loop .inv) (read (c .before .before .before .before .before .before .before .before .before .before .before .before)) (c .before .before .before .before .before .before .before .before .before .note .ensures) (c .before .apply .ensures)
+loop-again c =
+    let s = c .before .before .before .before .before .before .before .before .before in
+    let n = c .before .before .before .before .before .before .before .before .before .before in
+    let f = n .before .before .before in
+    laws.next (f .before .before .before .before .loop .inv) (read f) (n .note .result) (noted n) (s .fault-so-far .result) (s .fault-so-far .ensures) (c .before .apply .ensures)
 
 conclude-requires : tie.Need-conclude-requires Inv-loop μ-loop
 conclude-requires c κs = search needs
@@ -95,6 +122,7 @@ figures-spec =
     μ-loop
     returns
     no-figures-requires
+    fresh-requires
     loop-holds
     read-first-requires
     enum-known-f
@@ -102,6 +130,7 @@ figures-spec =
     returns-2
     cast-length
     note-requires
+    fault-so-far-requires
     apply-requires
     sub-rest
     part-rest-start

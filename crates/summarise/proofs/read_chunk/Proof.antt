@@ -1,5 +1,5 @@
 -- `summarise::read_chunk` meets its contract. The invariant's laws are in `ScanLaws`. Assumes nothing.
-use mathlib.Core.Path.{_≡_, refl, sym, ap, _∙_}
+use mathlib.Core.Path.{_≡_, refl, sym, ap, subst, _∙_}
 use mathlib.Core.List.{[], _∷_, _++_}
 use native.Mathlib.Omega.{arith}
 use borrow.Author.Needs.{needs}
@@ -12,13 +12,15 @@ use Rattle.number.specs.Word.{back}
 use Rattle.record.specs.Record.{answerOf, readOf}
 use Rattle.record.specs.Laws.{sound}
 use Rattle.record.specs.Handed.{unreadable, finished}
+use Rattle.hill.specs.Log.{Record}
+use Rattle.figure.specs.FourModes.{Amounts}
 use Rattle.figure.specs.Mode.{modeOf}
 use Rattle.figure.specs.Stored.{amounts}
 use Rattle.slopes.specs.Arrays.{arrays}
 use Rattle.slopes.specs.Actions.{entry}
-use Rattle.summary.specs.Outcomes.{chunkOf}
-use Rattle.summarise.specs.Tallies.{Tallied}
-use Rattle.summarise.specs.ScanLaws.{Inv, begin, opened-low, in-range, grows, again}
+use Rattle.chunk.specs.Chunk.{chunkOf}
+use Rattle.whole_log.specs.Tallies.{Tallied}
+use Rattle.summarise.specs.ScanLaws.{record-entry, Inv, begin, opened-low, in-range, grows, again}
 use Rattle.summarise.proofs.read_chunk.Statement.{statement}
 use Rattle.summarise.proofs.read_chunk.Tie as tie
 
@@ -35,19 +37,22 @@ read : (c : tie.After-f Inv-loop μ-loop) → readOf (c .before .before .before 
 read c = sym (c .before .before .read-first .ensures) ∙ ap answerOf (c .f .given .1)
 
 -- t tells of the records with this one
-noted : (c : tie.After-note Inv-loop μ-loop) → let n = c .before .before .before .before in
+noted : (c : tie.After-note Inv-loop μ-loop) → let n = c .before .before .before in
     Tallied (chunkOf (n .before .before .before .before .loop .inv .done) ++ (entry (eqb (n .f .given .0 .0 .kind) 1) (n .f .given .0 .0 .depth) (amounts (n .f .given .0 .0 .value) (n .f .given .0 .0 .floor) (n .f .given .0 .0 .ceiling)) ∷ [])) (c .note .result)
 noted c =
-    let f = c .before .before .before .before .f .given .0 .0 in
-    c .note .ensures (chunkOf (c .before .before .before .before .before .before .before .before .loop .inv .done)) (amounts (f .value) (f .floor) (f .ceiling)) (c .before .before .before .before .before .before .before .before .loop .inv .summed .tallied)
+    let i = c .before .before .before .before .before .before .before .loop .inv in
+    subst (λ (y : Record Amounts). Tallied (chunkOf (i .done) ++ (y ∷ [])) (c .note .result)) (record-entry (c .before .before .before .f .given .0 .0)) (c .note .ensures (chunkOf (i .done)) (i .summed .tallied))
+
+fresh-requires : tie.Need-fresh-requires Inv-loop μ-loop
+fresh-requires c κs = search needs
 
 nothing-requires : tie.Need-nothing-requires Inv-loop μ-loop
 nothing-requires c κs = search needs
 
 loop-holds : tie.Need-loop-holds Inv-loop μ-loop
 loop-holds c =
-    let a = c .before .before in
-    begin (modeOf (a .args .mode)) _ _ _ _ (a .pre .1) (back w64 (c .nothing .result) (c .nothing .ok) ∙ c .nothing .ensures) (record { begun = refl; fault = omega arith; opened = refl })
+    let a = c .before .before .before in
+    begin (modeOf (a .args .mode)) _ _ _ _ (a .pre .1) (back w64 (c .nothing .result) (c .nothing .ok) ∙ c .nothing .ensures) (c .before .fresh .ensures)
 
 read-first-requires : tie.Need-read-first-requires Inv-loop μ-loop
 read-first-requires c κs = search needs
@@ -68,34 +73,36 @@ cast-length c = search needs
 
 note-requires : tie.Need-note-requires Inv-loop μ-loop
 note-requires c κs =
-    let f = c .before .before .before in
+    let f = c .before .before in
     let i = f .before .before .before .before .loop .inv in
-    let short = f .before .before .before .before .before .before .before .pre .0 in
-    (opened-low (modeOf (f .before .before .before .before .before .before .before .args .mode)) i short, in-range (modeOf (f .before .before .before .before .before .before .before .args .mode)) i short _ (read f) .0)
+    let a = f .before .before .before .before .before .before .before .before in
+    (opened-low (modeOf (a .args .mode)) i (a .pre .0), in-range (modeOf (a .args .mode)) i (a .pre .0) _ (read f) .0)
 
 grow-requires : tie.Need-grow-requires Inv-loop μ-loop
 grow-requires c κs =
     let n = c .before .before .before .before .before in
-    let f = n .before .before .before .before in
-    grows (modeOf (f .before .before .before .before .before .before .before .args .mode)) (f .before .before .before .before .loop .inv) (f .before .before .before .before .before .before .before .pre .0) _ (read f) (n .note .result) (noted n)
+    let f = n .before .before .before in
+    let a = f .before .before .before .before .before .before .before .before in
+    grows (modeOf (a .args .mode)) (f .before .before .before .before .loop .inv) (a .pre .0) _ (read f) (n .note .result) (noted n)
 
 sub-rest : tie.Need-sub-rest Inv-loop μ-loop
-sub-rest c = sound _ _ (read (c .before .before .before .before .before .before .before .before .before .before)) .inside
+sub-rest c = sound _ _ (read (c .before .before .before .before .before .before .before .before .before)) .inside
 
 part-rest-start : tie.Need-part-rest-start Inv-loop μ-loop
-part-rest-start c = sound _ _ (read (c .before .before .before .before .before .before .before .before .before .before)) .inside
+part-rest-start c = sound _ _ (read (c .before .before .before .before .before .before .before .before .before)) .inside
 
 part-rest-end : tie.Need-part-rest-end Inv-loop μ-loop
 part-rest-end c = search needs
 
 loop-less : tie.Need-loop-less Inv-loop μ-loop
-loop-less c = omega (arith, sound _ _ (read (c .before .before .before .before .before .before .before .before .before .before .before)))
+loop-less c = omega (arith, sound _ _ (read (c .before .before .before .before .before .before .before .before .before .before)))
 
 loop-again : tie.Need-loop-again Inv-loop μ-loop
 loop-again c =
     let n = c .before .before .before .before .before .before .before in
-    let f = n .before .before .before .before in
-    again (modeOf (f .before .before .before .before .before .before .before .args .mode)) (f .before .before .before .before .loop .inv) (f .before .before .before .before .before .before .before .pre .0) _ (read f) (n .note .result) (noted n) (c .before .grow .ensures)
+    let f = n .before .before .before in
+    let a = f .before .before .before .before .before .before .before .before in
+    again (modeOf (a .args .mode)) (f .before .before .before .before .loop .inv) (a .pre .0) _ (read f) (n .note .result) (noted n) (c .before .grow .ensures)
 
 returns-2 : tie.Need-returns-2 Inv-loop μ-loop
 returns-2 c =
@@ -108,6 +115,7 @@ read-chunk-spec =
     (tie.spec
     Inv-loop
     μ-loop
+    fresh-requires
     nothing-requires
     loop-holds
     read-first-requires

@@ -6,8 +6,8 @@ use native.Mathlib.Omega.{arith}
 use denote.Ref.{now}
 use Rattle.figure.specs.Mode.{modeInUse}
 use Rattle.summary.specs.OutcomeLaws.{summarise-is}
-use Rattle.summary.specs.Outcomes.{chunkOf}
-use Rattle.summarise.specs.TallyLaws.{begun, not-begun}
+use Rattle.chunk.specs.Chunk.{chunkOf}
+use Rattle.whole_log.specs.TallyLaws.{begun, not-begun}
 use Rattle.summarise.specs.CallLaws.{mode-small, no-mode, too-many, not-readable, refuses, comes-to}
 use Rattle.summarise.proofs.summarise.Statement.{statement}
 use Rattle.summarise.proofs.summarise.Tie as tie

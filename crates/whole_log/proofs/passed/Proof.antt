@@ -1,8 +1,8 @@
--- `summarise::passed` meets its contract. Assumes nothing.
+-- `whole_log::passed` meets its contract. Assumes nothing.
 use borrow.Author.Needs.{needs}
-use Rattle.summarise.specs.TallyLaws.{first, further}
-use Rattle.summarise.proofs.passed.Statement.{statement}
-use Rattle.summarise.proofs.passed.Tie as tie
+use Rattle.whole_log.specs.TallyLaws.{first, further}
+use Rattle.whole_log.proofs.passed.Statement.{statement}
+use Rattle.whole_log.proofs.passed.Tie as tie
 
 returns : tie.Need-returns
 returns c xs y s es ee eo = first y es ee eo (c .before .before .args .t) xs (c .if1 .taken) s

@@ -1,0 +1,24 @@
+-- What the bytes of a chunk say: its records, and whether they are a whole log. Definitions only.
+use mathlib.Core.Bool.{cond}
+use mathlib.Core.List.{List, map}
+use Prim.Native.Nat.{ℕ}
+use lib.Dec.{leb, eqb}
+use lib.ListN.{length}
+use Rattle.gate.specs.Outcome.{Outcome, question, onward}
+use Rattle.record.specs.Record.{recordsOf}
+use Rattle.record.specs.declared.Fields.{Fields}
+use Rattle.figure.specs.FourModes.{Amounts}
+use Rattle.hill.specs.Log.{Record, opening, closing, logFault}
+use Rattle.hill.specs.Finish.{outcome}
+
+-- A record that was read: "kind 1, open", or "kind 2, close".
+abbrev pub recordOf : Fields → Record Amounts
+recordOf f = cond (eqb (f .kind) 1) (opening (f .depth) (record { value = f .value; floor = f .floor; ceiling = f .ceiling })) (closing (f .depth))
+
+abbrev pub chunkOf : List Fields → List (Record Amounts)
+chunkOf fs = map recordOf fs
+
+-- THE GATE ON A WHOLE LOG, "2, 3 and 7 to 11": the log's records, or the number of the first question that gets a "no".
+-- 2: "Is the chunk at most 65,536 bytes?" 3: "Is every record readable?" 7 to 11: `logFault`, the lowest.
+unfoldable pub wholeLog : List ℕ → Outcome (List (Record Amounts))
+wholeLog log = question 2 (leb (length log) 65_536) (onward (recordsOf log) (λ fs. outcome (logFault (chunkOf fs)) (chunkOf fs)))

@@ -1,0 +1,63 @@
+-- Laws of a chunk's records, and of a call on a whole log, question by question. Assumes nothing.
+use mathlib.Core.Path.{_≡_, refl, ap, _∙_}
+use mathlib.Core.Bool.{Bool, true, false, _&&_}
+use mathlib.Core.List.{List, [], _∷_, _++_}
+use Prim.Native.Nat.{ℕ, _≤_, _<_}
+use lib.Dec.{leb}
+use lib.ListN.{length}
+use borrow.Author.Tests.{le-leb, lt-leb, leb-true, eq-eqb, ne-eqb}
+use Rattle.gate.specs.Outcome.{Outcome, refused, result, onward}
+use Rattle.record.specs.Record.{amountsFit, inRange, recordsOf}
+use Rattle.record.specs.declared.Fields.{Fields}
+use Rattle.figure.specs.FourModes.{Amounts}
+use Rattle.figure.specs.Stored.{amounts}
+use Rattle.hill.specs.Verdict.{Verdict, pass, refuse}
+use Rattle.hill.specs.Log.{Record, opening, closing, logFault}
+use Rattle.hill.specs.Finish.{outcome}
+use Rattle.chunk.specs.Chunk.{recordOf, chunkOf, wholeLog}
+
+-- ---- records that were read
+
+pub is-open : (f : Fields) → f .kind ≡ 1 → recordOf f ≡ opening (f .depth) (amounts (f .value) (f .floor) (f .ceiling))
+is-open f e = rw (eq-eqb (f .kind) 1 e)
+
+pub is-close : (f : Fields) → (f .kind ≡ 1 → ⊥) → recordOf f ≡ closing (f .depth)
+is-close f e = rw (ne-eqb (f .kind) 1 e)
+
+pub depth-low : (f : Fields) → inRange (f .depth) (f .value) (f .floor) (f .ceiling) ≡ true → f .depth ≤ 63
+unfolding inRange
+depth-low f e = leb-true (f .depth) 63 (first (leb (f .depth) 63) (amountsFit (f .value) (f .floor) (f .ceiling)) e)
+  where
+    first : (a b : Bool) → a && b ≡ true → a ≡ true
+    first true b e = refl
+    first false b e = e
+
+pub chunk-append : (fs gs : List Fields) → chunkOf (fs ++ gs) ≡ chunkOf fs ++ chunkOf gs
+chunk-append [] gs = refl
+chunk-append (f ∷ fs) gs = ap (λ (xs : List (Record Amounts)). recordOf f ∷ xs) (chunk-append fs gs)
+
+-- ---- a call on a whole log that answers f of its records, by questions
+
+pub onward-outcome : {A B : Type 0} (f : A → B) (v : Verdict) (a : A) → onward (outcome v a) (λ x. result (f x)) ≡ outcome v (f a)
+onward-outcome f pass a = refl
+onward-outcome f (refuse n) a = refl
+
+abbrev pub answerFrom : {B : Type 0} → (List (Record Amounts) → B) → List ℕ → Outcome B
+answerFrom f log = onward (wholeLog log) (λ xs. result (f xs))
+
+module _ {B : Type 0} (f : List (Record Amounts) → B) (log : List ℕ) where
+  -- 2
+  pub too-long : 65_536 < length log → answerFrom f log ≡ refused 2
+  unfolding wholeLog
+  too-long h = rw (lt-leb (length log) 65_536 h)
+
+  module _ (short : length log ≤ 65_536) where
+    -- 3
+    pub unreadable : (n : ℕ) → recordsOf log ≡ refused n → answerFrom f log ≡ refused n
+    unfolding wholeLog
+    unreadable n e = rw (le-leb (length log) 65_536 short, e)
+
+    -- 7 to 11, and then the answer
+    pub readable : (fs : List Fields) → recordsOf log ≡ result fs → answerFrom f log ≡ outcome (logFault (chunkOf fs)) (f (chunkOf fs))
+    unfolding wholeLog
+    readable fs e = rw (le-leb (length log) 65_536 short, e) (onward-outcome f (logFault (chunkOf fs)) (chunkOf fs))
