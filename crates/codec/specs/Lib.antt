@@ -1,5 +1,4 @@
 -- What the functions of `codec` ask and leave; then the laws.
 pub mod Contracts
-pub mod WriteLaws
 pub mod LoadLaws
 pub mod CloseLaws

@@ -24,7 +24,7 @@ use Rattle.slopes.specs.Arrays.{Arrays, slopesOf, Sound, Stored}
 use Rattle.slopes.specs.Laws.{counts, rise-slopes, fall-slopes}
 use Rattle.summary.specs.Layout.{SummaryIn, encode}
 use Rattle.summary.specs.Accepted.{encode-length}
-use Rattle.codec.specs.Contracts.{Wrote, hillLength, Writes}
+use Rattle.emit.specs.Contracts.{Wrote, hillLength, Writes}
 use Rattle.emit.specs.Emitted.{countsOf, spoiltSaid, hillSaid, summarySaid, WritableHill, Writable, Said, Answers}
 
 abbrev pub spoiltHead : (fault start end opened : ℕ) → SpoiltHead

@@ -12,13 +12,15 @@ use judge::HillHead;
 use judge::SpoiltHead;
 use slopes::Counts;
 
+mod bytes;
+
 fn put_blank(mode: u16, out: &mut [u8]) -> Written
     ensures { λ r. ⌜ Answers (written (length (now (out .entry))) (encode mode blank)) (now (out .entry)) (now (out .exit)) r ⌝ }
 {
     if out.len() < 6 {
         return Written::Refused(12);
     }
-    Written::Bytes(codec::write_blank(mode, out))
+    Written::Bytes(bytes::write_blank(mode, out))
 }
 
 fn put_spoilt(mode: u16, s: SpoiltHead, out: &mut [u8]) -> Written
@@ -27,7 +29,7 @@ fn put_spoilt(mode: u16, s: SpoiltHead, out: &mut [u8]) -> Written
     if out.len() < 16 {
         return Written::Refused(12);
     }
-    Written::Bytes(codec::write_spoilt(mode, s.fault, s.start, s.end, s.opened, out))
+    Written::Bytes(bytes::write_spoilt(mode, s.fault, s.start, s.end, s.opened, out))
 }
 
 fn put_hill(
@@ -57,7 +59,7 @@ fn put_hill(
         n,
         mid: figure::store_held(middle),
     };
-    Written::Bytes(codec::write_hill(
+    Written::Bytes(bytes::write_hill(
         mode,
         peak,
         h.opened,

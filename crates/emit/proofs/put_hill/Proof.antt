@@ -11,7 +11,7 @@ use native.Mathlib.Omega.{arith}
 use denote.Ref.{now}
 use Rattle.number.specs.Word.{back}
 use Rattle.summary.specs.Layout.{encode}
-use Rattle.codec.specs.Contracts.{hillLength}
+use Rattle.emit.specs.Contracts.{hillLength}
 use Rattle.slopes.specs.Arrays.{Arrays, arrays}
 use Rattle.emit.specs.Emitted.{countsOf, hillSaid}
 use Rattle.emit.specs.Laws.{answer-short, answer-wrote, hill-length, counts-are, can-write, wrote-said}

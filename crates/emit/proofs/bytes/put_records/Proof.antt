@@ -1,4 +1,4 @@
--- `codec::put_records` meets its contract: so far the first k records are written. Assumes nothing.
+-- `emit::bytes::put_records` meets its contract: so far the first k records are written. Assumes nothing.
 use mathlib.Core.Path.{_≡_, refl, ap, _∙_}
 use Prim.Native.Nat.{_≤_, _-_}
 use native.Mathlib.Omega.{arith}
@@ -8,10 +8,10 @@ use lib.Seq.{sets, length-sets}
 use denote.Ref.{now}
 use mir.Syntax.{w32, w64}
 use Rattle.number.specs.Word.{back}
-use Rattle.codec.specs.Contracts.{recordsBytes}
-use Rattle.codec.specs.WriteLaws.{records-turn}
-use Rattle.codec.proofs.put_records.Statement.{statement}
-use Rattle.codec.proofs.put_records.Tie as tie
+use Rattle.emit.specs.Contracts.{recordsBytes}
+use Rattle.emit.specs.WriteLaws.{records-turn}
+use Rattle.emit.proofs.bytes.put_records.Statement.{statement}
+use Rattle.emit.proofs.bytes.put_records.Tie as tie
 
 abbrev Inv-loop : tie.InvT-loop
 Inv-loop values floors ceilings held n out₀ at k₀ out k = (k ≤ n) × (out ≡ sets out₀ at (recordsBytes values floors ceilings held k))

@@ -1,4 +1,4 @@
--- `codec::put_numbers` meets its contract: so far the first i numbers are written. Assumes nothing.
+-- `emit::bytes::put_numbers` meets its contract: so far the first i numbers are written. Assumes nothing.
 use mathlib.Core.Path.{_≡_, refl, ap, _∙_}
 use Prim.Native.Nat.{_≤_, _-_}
 use native.Mathlib.Omega.{arith}
@@ -8,10 +8,10 @@ use lib.Seq.{sets, length-sets}
 use denote.Ref.{now}
 use mir.Syntax.{w64}
 use Rattle.number.specs.Word.{back}
-use Rattle.codec.specs.Contracts.{numbersBytes}
-use Rattle.codec.specs.WriteLaws.{numbers-turn}
-use Rattle.codec.proofs.put_numbers.Statement.{statement}
-use Rattle.codec.proofs.put_numbers.Tie as tie
+use Rattle.emit.specs.Contracts.{numbersBytes}
+use Rattle.emit.specs.WriteLaws.{numbers-turn}
+use Rattle.emit.proofs.bytes.put_numbers.Statement.{statement}
+use Rattle.emit.proofs.bytes.put_numbers.Tie as tie
 
 abbrev Inv-loop : tie.InvT-loop
 Inv-loop xs n out₀ at i₀ out i = (i ≤ n) × (out ≡ sets out₀ at (numbersBytes xs i))

@@ -1,9 +1,9 @@
--- `codec::write_spoilt` meets its contract. Assumes nothing.
+-- `emit::bytes::write_spoilt` meets its contract. Assumes nothing.
 use denote.Ref.{now}
-use Rattle.codec.specs.WriteLaws.{spoilt-written}
+use Rattle.emit.specs.WriteLaws.{spoilt-written}
 use borrow.Author.Needs.{needs}
-use Rattle.codec.proofs.write_spoilt.Statement.{statement}
-use Rattle.codec.proofs.write_spoilt.Tie as tie
+use Rattle.emit.proofs.bytes.write_spoilt.Statement.{statement}
+use Rattle.emit.proofs.bytes.write_spoilt.Tie as tie
 
 put-front-requires : tie.Need-put-front-requires
 put-front-requires c κs = search needs

@@ -1,10 +1,10 @@
--- `codec::put_record` meets its contract. Assumes nothing.
+-- `emit::bytes::put_record` meets its contract. Assumes nothing.
 use denote.Ref.{now}
 use mir.Facts.{toZ-ofZ}
-use Rattle.codec.specs.WriteLaws.{record-stores}
+use Rattle.emit.specs.WriteLaws.{record-stores}
 use borrow.Author.Needs.{needs}
-use Rattle.codec.proofs.put_record.Statement.{statement}
-use Rattle.codec.proofs.put_record.Tie as tie
+use Rattle.emit.proofs.bytes.put_record.Statement.{statement}
+use Rattle.emit.proofs.bytes.put_record.Tie as tie
 
 write-i32-requires : tie.Need-write-i32-requires
 write-i32-requires c κs = search needs

@@ -1,9 +1,9 @@
--- `codec::write_blank` meets its contract. Assumes nothing.
+-- `emit::bytes::write_blank` meets its contract. Assumes nothing.
 use denote.Ref.{now}
-use Rattle.codec.specs.WriteLaws.{blank-written}
+use Rattle.emit.specs.WriteLaws.{blank-written}
 use borrow.Author.Needs.{needs}
-use Rattle.codec.proofs.write_blank.Statement.{statement}
-use Rattle.codec.proofs.write_blank.Tie as tie
+use Rattle.emit.proofs.bytes.write_blank.Statement.{statement}
+use Rattle.emit.proofs.bytes.write_blank.Tie as tie
 
 put-front-requires : tie.Need-put-front-requires
 put-front-requires c κs = search needs

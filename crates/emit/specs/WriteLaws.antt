@@ -20,7 +20,7 @@ use Rattle.summary.specs.Accepted.{encode-length}
 use Rattle.slopes.specs.declared.Counts.{Counts}
 use Rattle.slopes.specs.Arrays.{Arrays, at, ups, downs, slopesOf, Stored}
 use Rattle.slopes.specs.Laws.{rise-slopes, fall-slopes}
-use Rattle.codec.specs.Contracts.{Wrote, frontBytes, levelBytes, numbersBytes, storedRecord, recordsBytes, hillLength, Writes}
+use Rattle.emit.specs.Contracts.{Wrote, frontBytes, levelBytes, numbersBytes, storedRecord, recordsBytes, hillLength, Writes}
 
 -- ---- runs of stores
 

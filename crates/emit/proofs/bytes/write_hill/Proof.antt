@@ -1,4 +1,4 @@
--- `codec::write_hill` meets its contract: the front, the levels, the left values, the middle, the records. Assumes nothing.
+-- `emit::bytes::write_hill` meets its contract: the front, the levels, the left values, the middle, the records. Assumes nothing.
 use mathlib.Core.Path.{_≡_, refl}
 use Prim.Native.Nat.{_<_, _^_}
 use lib.Signed.{mag}
@@ -7,10 +7,10 @@ use mir.Syntax.{w64}
 use mir.Val.{toZ, ofZ}
 use Rattle.number.specs.Word.{back}
 use Rattle.slopes.specs.Arrays.{Arrays, arrays}
-use Rattle.codec.specs.WriteLaws.{hill-written}
+use Rattle.emit.specs.WriteLaws.{hill-written}
 use borrow.Author.Needs.{needs}
-use Rattle.codec.proofs.write_hill.Statement.{statement}
-use Rattle.codec.proofs.write_hill.Tie as tie
+use Rattle.emit.proofs.bytes.write_hill.Statement.{statement}
+use Rattle.emit.proofs.bytes.write_hill.Tie as tie
 
 -- the arrays at entry, and the middle value read back
 abbrev A : tie.Start → Arrays

@@ -1,9 +1,9 @@
--- `codec::put_levels` meets its contract. Assumes nothing.
+-- `emit::bytes::put_levels` meets its contract. Assumes nothing.
 use denote.Ref.{now}
-use Rattle.codec.specs.WriteLaws.{level-stores}
+use Rattle.emit.specs.WriteLaws.{level-stores}
 use borrow.Author.Needs.{needs}
-use Rattle.codec.proofs.put_levels.Statement.{statement}
-use Rattle.codec.proofs.put_levels.Tie as tie
+use Rattle.emit.proofs.bytes.put_levels.Statement.{statement}
+use Rattle.emit.proofs.bytes.put_levels.Tie as tie
 
 write-u16-requires : tie.Need-write-u16-requires
 write-u16-requires c κs = search needs
