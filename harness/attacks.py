@@ -56,10 +56,10 @@ ARMS = {
             day::Day::Figures(f) => format!("{} {} {} {}", f.net, f.heaviest, f.eaten, f.stamp),
             day::Day::Refused(n) => format!("refused {n}"),
         }""",
-    "day::text": """{
+    "day_line::text": """{
             let mut line = [0_u8; 128];
             line.copy_from_slice(&lent(128));
-            let n = day::text(&input, &mut line);
+            let n = day_line::text(&input, &mut line);
             format!("{n} {:?}; {}", String::from_utf8_lossy(&line[..n.min(128)]), after(&line))
         }""",
 }

@@ -26,9 +26,9 @@ use Rattle.summary.specs.Outcomes.{summaryBytes, summariseOutcome, finishOutcom
 use Rattle.join_plan.specs.Plan.{leftOpen, upTo, downFrom, select, depthsJoined, lineFor, planOf}
 use Rattle.plan_work.specs.Runs.{levelsDown, runLevels, runsAlong}
 use Rattle.text.specs.Decimal.{digitsIn, digitsOf, decimalOf}
-use Rattle.text.specs.Line.{ascii, lineText, dayLine}
-use Rattle.day.specs.Day.{figureIn, figuresOf, dayOutcome}
 use Rattle.chunk.specs.Chunk.{wholeLog}
+use Rattle.day.specs.Day.{figureIn, figuresOf, dayOutcome}
+use Rattle.day_line.specs.Line.{ascii, lineText, dayLine}
 use Rattle.outcome.specs.Outcomes.{twoTo64, askRow, askLog, lineBytes, planBytes, runBytes, runsBytes, planOutcome, runsOutcome}
 
 -- ---- what is asked of the calls, as numbers

@@ -8,7 +8,7 @@ use Rattle.figure.specs.Mode.{modeOf}
 use Rattle.hill.specs.Log.{Record}
 use Rattle.hill.specs.Figure.{figureOf}
 use Rattle.chunk.specs.Chunk.{wholeLog}
-use Rattle.text.specs.declared.Figures.{Figures}
+use Rattle.day.specs.declared.types.Figures.{Figures}
 use Rattle.day.specs.declared.Day.{Day}
 use Rattle.day.specs.declared.Day.the-variants as day
 

@@ -3,4 +3,3 @@ pub mod Day
 pub mod DayLaws
 pub mod Pass
 pub mod Loop
-pub mod Examples

@@ -1,17 +1,16 @@
 // The day's figures: net, heaviest, eaten and stamp of one log, in one pass over its records.
 ghost use mathlib.Core.Path.{_≡_};
 ghost use Prim.Native.Nat.{_≤_, _<_};
-ghost use lib.ListN.{length};
-ghost use lib.Seq.{sets};
-ghost use Rattle.text.specs.Line.{dayLine};
 ghost use Rattle.day.specs.Day.{dayOutcome, dayAnswer};
 ghost use Rattle.hill.specs.Finish.{outcome};
 ghost use Rattle.whole_log.specs.Tallies.{logVerdict};
 ghost use Rattle.day.specs.Pass.{noFigures, Opened, Ready, Applied};
 use record::Fields;
 use record::Read;
-use text::Figures;
+use types::Figures;
 use whole_log::Tally;
+
+pub mod types;
 
 // The answer of `figures`. `dayAnswer` says what each case means.
 pub enum Day {
@@ -166,16 +165,4 @@ pub fn figures(log: &[u8]) -> Day
         rest = &rest[length..];
     }
     conclude(t, mid)
-}
-
-// The line that the day program prints for a log, from the buffer's start; the answer is its length.
-pub fn text(log: &[u8], out: &mut [u8; 128]) -> usize
-    ensures answer { λ r. ⌜ r ≡ length (dayLine (dayOutcome (now (log .entry)))) ⌝ }
-    ensures buffer { λ _. ⌜ now (out .exit) ≡ sets (now (out .entry)) 0 (dayLine (dayOutcome (now (log .entry)))) ⌝ }
-    ensures fits { λ r. ⌜ r ≤ 128 ⌝ }
-{
-    match figures(log) {
-        Day::Figures(f) => text::write_line(f, out),
-        Day::Refused(n) => text::write_refusal(n, out),
-    }
 }

@@ -11,7 +11,7 @@ fn is_at_end() -> bool {
 
 fn print_day(log: &[u8]) {
     let mut line = [0u8; 128];
-    let n = day::text(log, &mut line);
+    let n = day_line::text(log, &mut line);
     io::write_all(STDOUT_FILENO, &line[..n]);
 }
 

@@ -1,6 +1,3 @@
--- Decimal text, and the line that the day program prints.
+-- Decimal text.
 pub mod Decimal
 pub mod DecimalLaws
-pub mod Line
-pub mod Examples
-pub mod LineLaws

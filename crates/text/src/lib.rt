@@ -1,12 +1,10 @@
-// Decimal text at a position of a buffer, where each caller shows that it fits, and the line that the day program prints.
+// Decimal text at a position of a buffer, where each caller shows that it fits.
 ghost use mathlib.Core.Path.{_≡_};
 ghost use Prim.Native.Nat.{_+_, _≤_};
 ghost use mathlib.Core.List.{[], _∷_, _++_};
 ghost use lib.ListN.{length};
 ghost use lib.Seq.{sets};
-ghost use Rattle.gate.specs.Outcome.{refused, result};
 ghost use Rattle.text.specs.Decimal.{digitsOf, decimalOf};
-ghost use Rattle.text.specs.Line.{dayLine};
 
 // How many digits n has.
 fn count_digits(n: u64) -> usize
@@ -55,16 +53,8 @@ fn write_decimal(out: &mut [u8], at: usize, x: i64) -> usize
     }
 }
 
-// The four figures of a log, as the day program prints them.
-pub struct Figures {
-    pub net: i64,
-    pub heaviest: i64,
-    pub eaten: i64,
-    pub stamp: i64,
-}
-
 // A number and the byte after it.
-fn write_item(out: &mut [u8], at: usize, x: i64, after: u8) -> usize
+pub fn write_item(out: &mut [u8], at: usize, x: i64, after: u8) -> usize
     requires { ⌜ at + (length (decimalOf x) + 1) ≤ length (now out) ⌝ }
     ensures answer { λ r. ⌜ r ≡ at + (length (decimalOf x) + 1) ⌝ }
     ensures buffer { λ _. ⌜ now (out .exit) ≡ sets (now (out .entry)) at (decimalOf x ++ (after ∷ [])) ⌝ }
@@ -72,33 +62,4 @@ fn write_item(out: &mut [u8], at: usize, x: i64, after: u8) -> usize
     let i = write_decimal(out, at, x);
     out[i] = after;
     i + 1
-}
-
-// The line of a log's figures, from the buffer's start.
-pub fn write_line(figures: Figures, out: &mut [u8; 128]) -> usize
-    ensures answer { λ r. ⌜ r ≡ length (dayLine (result figures)) ⌝ }
-    ensures buffer { λ _. ⌜ now (out .exit) ≡ sets (now (out .entry)) 0 (dayLine (result figures)) ⌝ }
-    ensures fits { λ r. ⌜ r ≤ 128 ⌝ }
-{
-    let at = write_item(out, 0, figures.net, b' ');
-    let at = write_item(out, at, figures.heaviest, b' ');
-    let at = write_item(out, at, figures.eaten, b' ');
-    write_item(out, at, figures.stamp, b'\n')
-}
-
-// The line of a refusal, from the buffer's start.
-pub fn write_refusal(n: u8, out: &mut [u8; 128]) -> usize
-    ensures answer { λ r. ⌜ r ≡ length (dayLine (refused n)) ⌝ }
-    ensures buffer { λ _. ⌜ now (out .exit) ≡ sets (now (out .entry)) 0 (dayLine (refused n)) ⌝ }
-    ensures fits { λ r. ⌜ r ≤ 128 ⌝ }
-{
-    out[0] = b'r';
-    out[1] = b'e';
-    out[2] = b'f';
-    out[3] = b'u';
-    out[4] = b's';
-    out[5] = b'e';
-    out[6] = b'd';
-    out[7] = b' ';
-    write_item(out, 8, n as i64, b'\n')
 }

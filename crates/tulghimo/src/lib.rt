@@ -11,10 +11,10 @@ ghost use Rattle.day.specs.Day.{dayOutcome};
 ghost use Rattle.work.specs.Answers.{workIn};
 ghost use Rattle.tulghimo.specs.Interface.{statusOf, lengthStatus, Short, fieldsAfter, figureAfter, figuresAfter, workAfter};
 use day::Day;
+use day::types::Figures;
 use gate::Finished;
 use gate::Written;
 use record::Read;
-use text::Figures;
 use work::Totals;
 use work::Worked;
 

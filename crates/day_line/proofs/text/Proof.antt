@@ -1,14 +1,14 @@
--- `day::text` meets its contract: the line of what `figures` answers. Assumes nothing.
+-- `day_line::text` meets its contract: the line of what `figures` answers. Assumes nothing.
 use mathlib.Core.Path.{_≡_, sym, ap, _∙_}
 use lib.ListN.{length}
 use lib.Seq.{sets}
 use denote.Ref.{now}
 use Rattle.gate.specs.Outcome.{refused, result}
-use Rattle.text.specs.Line.{dayLine}
+use Rattle.day_line.specs.Line.{dayLine}
 use Rattle.day.specs.Day.{dayAnswer, dayOutcome}
 use borrow.Author.Needs.{needs}
-use Rattle.day.proofs.text.Statement.{statement}
-use Rattle.day.proofs.text.Tie as tie
+use Rattle.day_line.proofs.text.Statement.{statement}
+use Rattle.day_line.proofs.text.Tie as tie
 
 -- what `figures` answered is the log's outcome
 figures-are : (c : tie.After-f) → result (c .f .given .0 .0) ≡ dayOutcome (now (c .before .before .before .before .args .log))

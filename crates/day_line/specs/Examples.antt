@@ -1,14 +1,35 @@
--- The day program's line for document 01's refused logs, by computation. Its line for log D stands in crate claim, Table. Assumes nothing.
+-- The printed line at document 01's log D, at the ends of the range and for document 01's refused logs, by computation. The line for the bytes of
+-- log D stands in crate claim, Table. Assumes nothing.
 use mathlib.Core.Path.{_≡_, refl}
 use mathlib.Core.List.{List, [], _∷_}
 use Prim.Native.Nat.{ℕ}
+use lib.IntN.{pos, negsuc}
+use Rattle.gate.specs.Outcome.{refused, result}
 use Rattle.number.specs.Bytes.{leAt}
 use Rattle.record.specs.Record.{within, inRange, accepted, whole, byShape, readOf, recordsIn, recordsOf}
 use Rattle.hill.specs.Verdict.{joint, count, ends}
-use Rattle.text.specs.Decimal.{digitsIn, digitsOf}
-use Rattle.text.specs.Line.{ascii, lineText, dayLine}
-use Rattle.day.specs.Day.{dayOutcome}
+use Rattle.text.specs.Decimal.{digitsIn, digitsOf, decimalOf}
 use Rattle.chunk.specs.Chunk.{wholeLog}
+use Rattle.day.specs.Day.{dayOutcome}
+use Rattle.day_line.specs.Line.{ascii, lineText, dayLine}
+
+-- "for D `12 15 14 72`"
+D-line : dayLine (result (record { net = pos 12; heaviest = pos 15; eaten = pos 14; stamp = pos 72 })) ≡ ascii "12 15 14 72\n"
+unfolding digitsIn digitsOf decimalOf ascii lineText dayLine
+D-line = refl
+
+refused-10 : dayLine (refused 10) ≡ ascii "refused 10\n"
+unfolding digitsIn digitsOf ascii lineText dayLine
+refused-10 = refl
+
+-- the least and the greatest 64-bit number, 0 and -1
+edges :
+    dayLine (result (record { net = negsuc 9_223_372_036_854_775_807; heaviest = pos 9_223_372_036_854_775_807; eaten = pos 0; stamp = negsuc 0 })) ≡
+    ascii "-9223372036854775808 9223372036854775807 0 -1\n"
+unfolding digitsIn digitsOf decimalOf ascii lineText dayLine
+edges = refl
+
+-- ---- whole logs
 
 -- "No bytes: .. 10. \"close 1\" alone: 11. open 0, close 0 twice over: 8. open 0, open 0: 7." An open and two stray bytes: 3.
 abbrev close0 : List ℕ → List ℕ

@@ -14,10 +14,10 @@ use mir.Syntax.{w64}
 use mir.Val.{toZ}
 use Rattle.gate.specs.Outcome.{refused, result}
 use Rattle.number.specs.Laws.{sets-append}
 use Rattle.text.specs.Decimal.{decimalOf}
 use Rattle.text.specs.DecimalLaws.{decimal-length}
-use Rattle.text.specs.Line.{ascii, lineText, dayLine}
-use Rattle.text.specs.declared.Figures.{Figures}
+use Rattle.day_line.specs.Line.{ascii, lineText, dayLine}
+use Rattle.day.specs.declared.types.Figures.{Figures}
 
 -- the text so far, what the buffer holds with it, and where it ends
 pub record Wrote (before text now : List ℕ) (at : ℕ) : Type 0 where

@@ -8,10 +8,10 @@ use borrow.Author.Tests.{eq-eqb, ne-eqb}
 use lib.Dec.{lit<, lit≤}
 use lib.IntN.{ℤ, pos, negsuc}
 use Rattle.gate.specs.Outcome.{Outcome, refused, result}
 use Rattle.text.specs.Decimal.{digitsOf, decimalOf, Digits}
 use Rattle.text.specs.DecimalLaws.{digits-digits, read-digits, read-decimal}
-use Rattle.text.specs.Line.{ascii, lineText, dayLine, pieces, readLine}
-use Rattle.text.specs.declared.Figures.{Figures}
+use Rattle.day_line.specs.Line.{ascii, lineText, dayLine, pieces, readLine}
+use Rattle.day.specs.declared.types.Figures.{Figures}
 
 -- ---- cutting
 

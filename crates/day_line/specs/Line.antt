@@ -7,8 +7,8 @@ use Prim.Native.String as String
 use Prim.Native.String.{String}
 use lib.Dec.{eqb}
 use Rattle.gate.specs.Outcome.{Outcome, refused, result}
 use Rattle.text.specs.Decimal.{digitsOf, decimalOf, readDigits, readDecimal}
-use Rattle.text.specs.declared.Figures.{Figures}
+use Rattle.day.specs.declared.types.Figures.{Figures}
 
 -- The bytes of a text in ASCII.
 unfoldable pub ascii : String → List ℕ

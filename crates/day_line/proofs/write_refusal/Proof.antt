@@ -1,4 +1,4 @@
--- `text::write_refusal` meets its contract: the word is stored byte by byte, and the number is one item more.
+-- `day_line::write_refusal` meets its contract: the word is stored byte by byte, and the number is one item more.
 -- Assumes nothing.
 use mathlib.Core.Path.{_≡_, refl}
 use native.Mathlib.Omega.{arith}
@@ -8,11 +8,11 @@ use lib.Seq.{sets}
 use mir.Syntax.{w64}
 use mir.Val.{toZ}
 use mir.Facts.{toZ-pos}
-use Rattle.text.specs.Line.{ascii}
-use Rattle.text.proofs.Wrote.{Wrote, next, word, short}
+use Rattle.day_line.specs.Line.{ascii}
+use Rattle.day_line.proofs.Wrote.{Wrote, next, word, short}
 use borrow.Author.Needs.{needs}
-use Rattle.text.proofs.write_refusal.Statement.{statement}
-use Rattle.text.proofs.write_refusal.Tie as tie
+use Rattle.day_line.proofs.write_refusal.Statement.{statement}
+use Rattle.day_line.proofs.write_refusal.Tie as tie
 
 element-write-out : tie.Need-element-write-out
 element-write-out c = search needs

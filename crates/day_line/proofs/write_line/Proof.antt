@@ -1,4 +1,4 @@
--- `text::write_line` meets its contract: the four items, one after the other, are the line.
+-- `day_line::write_line` meets its contract: the four items, one after the other, are the line.
 -- Assumes nothing.
 use mathlib.Core.Path.{_≡_, refl}
 use native.Mathlib.Omega.{arith}
@@ -7,9 +7,9 @@ use mathlib.Core.List.{[]}
 use mir.Syntax.{w64}
 use mir.Val.{toZ, ofZ}
 use borrow.Author.Needs.{needs}
-use Rattle.text.proofs.Wrote.{Wrote, next, four, short}
-use Rattle.text.proofs.write_line.Statement.{statement}
-use Rattle.text.proofs.write_line.Tie as tie
+use Rattle.day_line.proofs.Wrote.{Wrote, next, four, short}
+use Rattle.day_line.proofs.write_line.Statement.{statement}
+use Rattle.day_line.proofs.write_line.Tie as tie
 
 write-item-requires : tie.Need-write-item-requires
 write-item-requires c κs =

@@ -1,0 +1,4 @@
+-- The line that the day program prints.
+pub mod Line
+pub mod LineLaws
+pub mod Examples
