@@ -27,8 +27,8 @@ use Rattle.join_plan.specs.Plan.{leftOpen, upTo, downFrom, select, depthsJoined
 use Rattle.plan_work.specs.Runs.{levelsDown, runLevels, runsAlong}
 use Rattle.text.specs.Decimal.{digitsIn, digitsOf, decimalOf}
 use Rattle.chunk.specs.Chunk.{wholeLog}
-use Rattle.day.specs.Day.{figureIn, figuresOf, dayOutcome}
-use Rattle.day_line.specs.Line.{ascii, lineText, dayLine}
+use Rattle.outcome.specs.Day.{figureIn, figuresOf, dayOutcome}
+use Rattle.outcome.specs.Line.{ascii, lineText, dayLine}
 use Rattle.outcome.specs.Outcomes.{twoTo64, askRow, askLog, lineBytes, planBytes, runBytes, runsBytes, planOutcome, runsOutcome}
 
 -- ---- what is asked of the calls, as numbers

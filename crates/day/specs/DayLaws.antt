@@ -18,7 +18,7 @@ use Rattle.hill.specs.FigureLaws.{log-tree}
 use Rattle.hill.specs.Finish.{outcome}
 use Rattle.chunk.specs.Chunk.{chunkOf}
 use Rattle.chunk.specs.Laws.{too-long as log-too-long, readable as log-readable}
-use Rattle.day.specs.Day.{figureIn, figuresOf, dayOutcome}
+use Rattle.outcome.specs.Day.{figureIn, figuresOf, dayOutcome}
 
 -- ---- by questions
 

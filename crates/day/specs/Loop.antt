@@ -33,8 +33,8 @@ use Rattle.whole_log.specs.Tallies.{Fresh, Tallied, logVerdict}
 use Rattle.whole_log.specs.TallyLaws.{level-is, faultless, so-far, grounded, meets, log-verdict, through}
 use Rattle.whole_log.specs.Pass as reading
 use Rattle.whole_log.specs.Pass.{Reading}
-use Rattle.day.specs.declared.types.Figures.{Figures}
-use Rattle.day.specs.Day.{figureIn, figuresOf, dayOutcome}
+use Rattle.outcome.specs.declared.Figures.{Figures}
+use Rattle.outcome.specs.Day.{figureIn, figuresOf, dayOutcome}
 use Rattle.day.specs.Pass.{noFigures, rising, Stands, Standing, Ready, Applied}
 
 -- ---- the figures

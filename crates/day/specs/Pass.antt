@@ -19,7 +19,7 @@ use Rattle.slopes.specs.Laws.{counts, able, restate, opened, after, after-more,
 use Rattle.record.specs.declared.Fields.{Fields}
 use Rattle.chunk.specs.Chunk.{recordOf}
 use Rattle.chunk.specs.Laws.{is-open, is-close}
-use Rattle.day.specs.declared.types.Figures.{Figures}
+use Rattle.outcome.specs.declared.Figures.{Figures}
 
 -- ---- definitions
 

@@ -1,16 +1,15 @@
 // The day's figures: net, heaviest, eaten and stamp of one log, in one pass over its records.
 ghost use mathlib.Core.Path.{_≡_};
 ghost use Prim.Native.Nat.{_≤_, _<_};
-ghost use Rattle.day.specs.Day.{dayOutcome, dayAnswer};
+ghost use Rattle.day.specs.Day.{dayAnswer};
+ghost use Rattle.outcome.specs.Day.{dayOutcome};
 ghost use Rattle.hill.specs.Finish.{outcome};
 ghost use Rattle.whole_log.specs.Tallies.{logVerdict};
 ghost use Rattle.day.specs.Pass.{noFigures, Opened, Ready, Applied};
+use outcome::Figures;
 use record::Fields;
 use record::Read;
-use types::Figures;
 use whole_log::Tally;
-
-pub mod types;
 
 // The answer of `figures`. `dayAnswer` says what each case means.
 pub enum Day {

@@ -16,8 +16,8 @@ use Rattle.gate.specs.Outcome.{refused, result}
 use Rattle.number.specs.Laws.{sets-append}
 use Rattle.text.specs.Decimal.{decimalOf}
 use Rattle.text.specs.DecimalLaws.{decimal-length}
-use Rattle.day_line.specs.Line.{ascii, lineText, dayLine}
-use Rattle.day.specs.declared.types.Figures.{Figures}
+use Rattle.outcome.specs.Line.{ascii, lineText, dayLine}
+use Rattle.outcome.specs.declared.Figures.{Figures}
 
 -- the text so far, what the buffer holds with it, and where it ends
 pub record Wrote (before text now : List ℕ) (at : ℕ) : Type 0 where

@@ -10,8 +10,8 @@ use Rattle.record.specs.Record.{within, inRange, accepted, whole, byShape, read
 use Rattle.hill.specs.Verdict.{joint, count, ends}
 use Rattle.text.specs.Decimal.{digitsIn, digitsOf, decimalOf}
 use Rattle.chunk.specs.Chunk.{wholeLog}
-use Rattle.day.specs.Day.{dayOutcome}
-use Rattle.day_line.specs.Line.{ascii, lineText, dayLine}
+use Rattle.outcome.specs.Day.{dayOutcome}
+use Rattle.outcome.specs.Line.{ascii, lineText, dayLine}
 
 -- "for D `12 15 14 72`"
 D-line : dayLine (result (record { net = pos 12; heaviest = pos 15; eaten = pos 14; stamp = pos 72 })) ≡ ascii "12 15 14 72\n"

@@ -10,8 +10,8 @@ use lib.IntN.{ℤ, pos, negsuc}
 use Rattle.gate.specs.Outcome.{Outcome, refused, result}
 use Rattle.text.specs.Decimal.{digitsOf, decimalOf, Digits}
 use Rattle.text.specs.DecimalLaws.{digits-digits, read-digits, read-decimal}
-use Rattle.day_line.specs.Line.{ascii, lineText, dayLine, pieces, readLine}
-use Rattle.day.specs.declared.types.Figures.{Figures}
+use Rattle.outcome.specs.Line.{ascii, lineText, dayLine, pieces, readLine}
+use Rattle.outcome.specs.declared.Figures.{Figures}
 
 -- ---- cutting
 

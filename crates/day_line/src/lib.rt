@@ -4,10 +4,10 @@ ghost use Prim.Native.Nat.{_≤_};
 ghost use lib.ListN.{length};
 ghost use lib.Seq.{sets};
 ghost use Rattle.gate.specs.Outcome.{refused, result};
-ghost use Rattle.day.specs.Day.{dayOutcome};
-ghost use Rattle.day_line.specs.Line.{dayLine};
+ghost use Rattle.outcome.specs.Day.{dayOutcome};
+ghost use Rattle.outcome.specs.Line.{dayLine};
 use day::Day;
-use day::types::Figures;
+use outcome::Figures;
 
 // The line of a log's figures, from the buffer's start.
 fn write_line(figures: Figures, out: &mut [u8; 128]) -> usize

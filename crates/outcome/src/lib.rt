@@ -1,7 +1,16 @@
-// What each call on a row comes to, as definitions over bytes: theory. It all stands in specs/, but for an answer that more than one crate gives.
+// What each call on a row or on a whole log comes to, as definitions over bytes: theory. It all stands in specs/, but for answers that more than one
+// crate gives.
 
 // The mode that all pieces of a row are of, or the refusal. `modeAnswer` says what each case means.
 pub enum OneMode {
     Mode(u16),
     Refused(u8),
+}
+
+// The four figures of a log, in the order in which the day program prints them.
+pub struct Figures {
+    pub net: i64,
+    pub heaviest: i64,
+    pub eaten: i64,
+    pub stamp: i64,
 }

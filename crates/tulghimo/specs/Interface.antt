@@ -5,7 +5,7 @@ use lib.Seq.{sets}
 use lib.IntN.{ℤ, pos, negℤ}
 use Rattle.gate.specs.Outcome.{Outcome, refused, result}
 use Rattle.record.specs.declared.Fields.{Fields}
-use Rattle.day.specs.declared.types.Figures.{Figures}
+use Rattle.outcome.specs.declared.Figures.{Figures}
 use Rattle.plan_work.specs.Work.{Work}
 
 -- A refusal is the question's number, negative; a call that is done answers 0, ..

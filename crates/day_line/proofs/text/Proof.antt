@@ -4,8 +4,9 @@ use lib.ListN.{length}
 use lib.Seq.{sets}
 use denote.Ref.{now}
 use Rattle.gate.specs.Outcome.{refused, result}
-use Rattle.day_line.specs.Line.{dayLine}
-use Rattle.day.specs.Day.{dayAnswer, dayOutcome}
+use Rattle.outcome.specs.Line.{dayLine}
+use Rattle.day.specs.Day.{dayAnswer}
+use Rattle.outcome.specs.Day.{dayOutcome}
 use borrow.Author.Needs.{needs}
 use Rattle.day_line.proofs.text.Statement.{statement}
 use Rattle.day_line.proofs.text.Tie as tie

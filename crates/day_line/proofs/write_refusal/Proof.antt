@@ -8,7 +8,7 @@ use lib.Seq.{sets}
 use mir.Syntax.{w64}
 use mir.Val.{toZ}
 use mir.Facts.{toZ-pos}
-use Rattle.day_line.specs.Line.{ascii}
+use Rattle.outcome.specs.Line.{ascii}
 use Rattle.day_line.proofs.Wrote.{Wrote, next, word, short}
 use borrow.Author.Needs.{needs}
 use Rattle.day_line.proofs.write_refusal.Statement.{statement}

@@ -4,7 +4,8 @@ use mathlib.Core.Path.{_≡_, refl, sym, ap, _∙_}
 use mir.Syntax.{w64}
 use Rattle.gate.specs.Outcome.{refused, result}
 use Rattle.number.specs.Word.{back}
-use Rattle.day.specs.Day.{dayOutcome, dayAnswer}
+use Rattle.day.specs.Day.{dayAnswer}
+use Rattle.outcome.specs.Day.{dayOutcome}
 use borrow.Author.Needs.{needs}
 use Rattle.tulghimo.proofs.tulghimo_day.Statement.{statement}
 use Rattle.tulghimo.proofs.tulghimo_day.Tie as tie

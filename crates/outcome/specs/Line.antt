@@ -8,7 +8,7 @@ use Prim.Native.String.{String}
 use lib.Dec.{eqb}
 use Rattle.gate.specs.Outcome.{Outcome, refused, result}
 use Rattle.text.specs.Decimal.{digitsOf, decimalOf, readDigits, readDecimal}
-use Rattle.day.specs.declared.types.Figures.{Figures}
+use Rattle.outcome.specs.declared.Figures.{Figures}
 
 -- The bytes of a text in ASCII.
 unfoldable pub ascii : String → List ℕ
