@@ -37,7 +37,7 @@ ARMS = {
         }""",
     "summarise::summarise": WRITTEN.format("summarise::summarise(&input, number as u32, &mut out)"),
     "merge::merge": WRITTEN.format("merge::merge(&input[..number], &input[number..], &mut out)"),
-    "merge::merge_row": WRITTEN.format("merge::merge_row(&input, &mut out)"),
+    "merge_row::merge_row": WRITTEN.format("merge_row::merge_row(&input, &mut out)"),
     "finish::finish": """match finish::finish(&input) {
             gate::Finished::Figure(z) => format!("{z}"),
             gate::Finished::Refused(n) => format!("refused {n}"),

@@ -1,43 +1,23 @@
--- The questions of the calls, one for each way out. Assumes nothing.
-use mathlib.Core.Path.{_≡_, refl, ap, sym, subst, _∙_}
-use mathlib.Core.Bool.{Bool, true, false, _&&_}
-use mathlib.Core.List.{List, [], _∷_}
-use Prim.Native.Nat.{ℕ, _-_, _≤_, _<_, min}
-use native.Mathlib.Omega.{arith}
-use lib.Dec.{eqb}
-use lib.ListN.{length, take, drop, length-drop}
-use borrow.Author.Tests.{eq-eqb, ne-eqb}
-use Rattle.gate.specs.Outcome.{Outcome, refused, result, onward, written, bufferAfter}
-use Rattle.gate.specs.Answers.{writtenAnswer, lengthAnswered}
-use Rattle.gate.specs.declared.Written.{Written}
-use Rattle.number.specs.Laws.{part-rest}
-use Rattle.row.specs.Row.{firstLength, rowPieces}
-use Rattle.row.specs.Laws.{first-within, pieces-nil, pieces-next}
+-- Merging two: the questions, one for each way out, and the two as bytes. Assumes nothing.
+use mathlib.Core.Path.{_≡_, refl, sym, _∙_}
+use mathlib.Core.Bool.{true, false}
+use mathlib.Core.List.{List}
+use Prim.Native.Nat.{ℕ}
+use borrow.Author.Tests.{ne-eqb}
+use Rattle.gate.specs.Outcome.{refused}
+use Rattle.figure.specs.Mode.{modeOf}
+use Rattle.hill.specs.Merge.{mergeSummary}
 use Rattle.summary.specs.Judge.{modeAt}
 use Rattle.summary.specs.Decide.{isSummary}
+use Rattle.summary.specs.Layout.{encode}
+use Rattle.summary.specs.Decode.{decode}
 use Rattle.summary.specs.Accepted.{IsSummaryIn}
-use Rattle.summary.specs.Outcomes.{mergeOutcome}
-use Rattle.outcome.specs.Outcomes.{allSummaries, allOf, firstMode, modeOfAll, Summaries, mergedBytes, mergeRowOutcome}
-use Rattle.outcome.specs.Laws.{mode-5, mode-6, mode-all, ask-4, ask-mode, two-to-64, too-many, too-few}
-use Rattle.outcome.specs.Through.{mode-in}
+use Rattle.summary.specs.Outcomes.{mergeBytes, mergeOutcome}
 use Rattle.judge.specs.declared.Piece.{Piece}
 use Rattle.judge.specs.Laws.{Judges}
-use Rattle.emit.specs.Emitted.{Answers}
-use Rattle.merge.specs.RowAsks.{Row, rowSummary, rowMerged, Passed}
+use Rattle.merging.specs.CallLaws.{judged-mode}
 
--- ---- a call that is refused, and one that is not
-
-module _ {o : Outcome (List ℕ)} where
-  pub refusal : {n : ℕ} (b : List ℕ) → o ≡ refused n → (refused n ≡ lengthAnswered o) × (b ≡ bufferAfter o b)
-  refusal b e = rw e (refl, refl)
-
-  pub answered : {u : Outcome (List ℕ)} {b b′ : List ℕ} {r : Written} → o ≡ u → Answers u b b′ r → (writtenAnswer r ≡ lengthAnswered o) × (b′ ≡ bufferAfter o b)
-  answered e a = rw e (a .answered, a .buffer)
-
--- ---- merge: 5, 6
-
-pub judged-mode : {b : List ℕ} {p : Piece} → Judges b p → p .mode ≡ modeAt b
-judged-mode j = ap (λ (x : Piece). x .mode) (j .piece)
+-- ---- 5, 6
 
 module _ (a b : List ℕ) (cap : ℕ) where
   pub left-5 : isSummary a ≡ false → mergeOutcome a b cap ≡ refused 5
@@ -59,95 +39,8 @@ module _ {a b : List ℕ} {p q : Piece} (i : Judges a p) (j : Judges b q) where
   pub both-in : p .mode ≡ q .mode → IsSummaryIn (p .mode) a × IsSummaryIn (p .mode) b
   both-in e = (record { is = i .summary; mode-is = sym (judged-mode i) }, record { is = j .summary; mode-is = sym (judged-mode j) ∙ sym e })
 
--- ---- a row: 5, 6, piece by piece
+-- ---- two pieces, as bytes
 
-and-assoc : (x y z : Bool) → (x && y) && z ≡ x && (y && z)
-and-assoc true y z = refl
-and-assoc false y z = refl
-
-and-true : (x : Bool) → x && true ≡ x
-and-true true = refl
-and-true false = refl
-
--- the first piece of what is left, and the rest as the logic gives a part
-module _ (s : List ℕ) {k : ℕ} (l : 0 < length s) (e : k ≡ firstLength s) where
-  next-pieces : rowPieces s ≡ take k s ∷ rowPieces (take (length s - k) (drop k s))
-  next-pieces = rw (part-rest k s) (subst (λ (i : ℕ). rowPieces s ≡ take i s ∷ rowPieces (drop i s)) (sym e) (pieces-next s l))
-
-  pub not-5 : isSummary (take k s) ≡ false → allSummaries (rowPieces s) ≡ false
-  not-5 n = rw (next-pieces, n)
-
-  pub inside : k ≤ length s
-  inside = rw e (first-within s .inside)
-
-  pub shorter : length (take (length s - k) (drop k s)) < length s
-  shorter = rw (part-rest k s) (omega (arith, length-drop k s, rw (sym e) at (first-within s .some l)))
-
-  pub pass-first : {n : ℕ} → isSummary (take k s) ≡ true → n ≡ modeAt (take k s) → Passed s (take (length s - k) (drop k s)) n true
-  pass-first y en = rw en record {
-    summaries = rw (next-pieces, y);
-    modes = rw (next-pieces, eq-eqb (modeAt (take k s)) (modeAt (take k s)) refl);
-    mode-is = rw next-pieces;
-  }
-
-module _ {row s : List ℕ} {m : ℕ} {t : Bool} (h : Passed row s m t) where
-  pub pass-next : {k n : ℕ} → 0 < length s → k ≡ firstLength s → isSummary (take k s) ≡ true → n ≡ modeAt (take k s) →
-      Passed row (take (length s - k) (drop k s)) m (t && eqb m n)
-  pass-next {k} {n} l e y en = record {
-    summaries = sym (rw (next-pieces s l e, y) refl) ∙ h .summaries;
-    modes = rw en (and-assoc t (eqb m (modeAt (take k s))) (allOf m (rowPieces (take (length s - k) (drop k s)))) ∙ sym (ap (λ (ps : List (List ℕ)). t && allOf m ps) (next-pieces s l e)) ∙ h .modes);
-    mode-is = h .mode-is;
-  }
-
-  pub pass-5 : allSummaries (rowPieces s) ≡ false → modeOfAll (rowPieces row) ≡ refused 5
-  pass-5 n = mode-5 (rowPieces row) (sym (h .summaries) ∙ n)
-
-  none-left : length s ≤ 0 → rowPieces s ≡ []
-  none-left l = go s l
-    where
-      go : (s : List ℕ) → length s ≤ 0 → rowPieces s ≡ []
-      go [] l = pieces-nil
-      go (b ∷ s) l = absurd (omega arith)
-
-  all-passed : length s ≤ 0 → allSummaries (rowPieces row) ≡ true
-  all-passed l = sym (h .summaries) ∙ ap allSummaries (none-left l)
-
-  same-is : length s ≤ 0 → t ≡ allOf (firstMode (rowPieces row)) (rowPieces row)
-  same-is l = sym (and-true t) ∙ sym (ap (λ (ps : List (List ℕ)). t && allOf m ps) (none-left l)) ∙ h .modes
-
-  pub pass-6 : length s ≤ 0 → t ≡ false → modeOfAll (rowPieces row) ≡ refused 6
-  pass-6 l n = mode-6 (rowPieces row) (all-passed l) (sym (same-is l) ∙ n)
-
-  pub pass-all : length s ≤ 0 → t ≡ true → modeOfAll (rowPieces row) ≡ result m
-  pass-all l y = mode-all (rowPieces row) (all-passed l) (sym (same-is l) ∙ y) ∙ ap result (sym (h .mode-is))
-
--- ---- merging a row: 4, 5, 6
-
-module _ (row : List ℕ) (cap : ℕ) {n : ℕ} (e : n ≡ min 65 (length (rowPieces row))) where
-  pub few-4 : n < 2 → mergeRowOutcome row cap ≡ refused 4
-  unfolding mergeRowOutcome
-  few-4 l = rw (ask-4 (rowPieces row) (too-few (rowPieces row) (omega arith)))
-
-  pub many-4 : 64 < n → mergeRowOutcome row cap ≡ refused 4
-  unfolding mergeRowOutcome
-  many-4 l = rw (ask-4 (rowPieces row) (too-many (rowPieces row) (omega arith)))
-
-  module _ (lo : 2 ≤ n) (hi : n ≤ 64) where
-    pub some-bytes : 0 < length row
-    some-bytes = go row e
-      where
-        go : (s : List ℕ) → n ≡ min 65 (length (rowPieces s)) → 0 < length s
-        go [] e = absurd (omega (arith, ap length pieces-nil))
-        go (b ∷ s) e = omega arith
-
-    pub row-refused : {k : ℕ} → refused k ≡ modeOfAll (rowPieces row) → mergeRowOutcome row cap ≡ refused k
-    unfolding mergeRowOutcome
-    row-refused q = ap (λ (o : Outcome Summaries). onward o (λ s. written cap (mergedBytes s))) (ask-mode (rowPieces row) (two-to-64 (rowPieces row) (omega arith) (omega arith)) (sym q))
-
-    module _ {m : ℕ} (q : result m ≡ modeOfAll (rowPieces row)) where
-      pub is-row : Row m row n
-      is-row = record { all = mode-in (rowPieces row) (sym q); count-is = omega arith; some = omega arith; few = hi }
-
-      pub row-is : mergeRowOutcome row cap ≡ written cap (rowMerged m row)
-      unfolding mergeRowOutcome mergedBytes rowSummary
-      row-is = ap (λ (o : Outcome Summaries). onward o (λ s. written cap (mergedBytes s))) (ask-mode (rowPieces row) (two-to-64 (rowPieces row) (omega arith) (omega arith)) (sym q))
+pub two-merged : (m : ℕ) (a b : List ℕ) → encode m (mergeSummary (modeOf m .algebra) (decode m a) (decode m b)) ≡ mergeBytes m a b
+unfolding mergeBytes
+two-merged m a b = refl

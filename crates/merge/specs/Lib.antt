@@ -1,9 +1,2 @@
--- What the functions of `merge` ask and leave; then the laws, one for each way through a function.
-pub mod Side
-pub mod Asks
-pub mod RowAsks
-pub mod SayLaws
-pub mod KeptLaws
-pub mod FrontLaws
+-- The laws of the call on two, one for each way through it.
 pub mod CallLaws
-pub mod RowLaws

@@ -28,9 +28,9 @@ use Rattle.summary.specs.OutcomeLaws.{chunk-readable}
 use Rattle.row.specs.Row.{rowPieces}
 use Rattle.outcome.specs.Outcomes.{modeOfAll, Summaries, askRow, askLog, planBytes, runsBytes, mergeRowOutcome, planOutcome, runsOutcome}
 use Rattle.outcome.specs.Through.{plan-1500}
-use Rattle.merge.specs.RowAsks.{rowMerged}
-use Rattle.merge.specs.RowLaws.{summary-fits}
-use Rattle.merge.specs.CallLaws.{few-4, many-4, row-refused, is-row, row-is}
+use Rattle.merge_row.specs.RowAsks.{rowMerged}
+use Rattle.merge_row.specs.RowLaws.{summary-fits}
+use Rattle.merge_row.specs.CallLaws.{few-4, many-4, row-refused, is-row, row-is}
 use Rattle.runs.specs.CallLaws.{runs-3750}
 use Rattle.tulghimo.specs.Interface.{Short}
 

@@ -115,7 +115,7 @@ pub extern "C" fn tulghimo_merge_row(row: &[u8], out: &mut [u8]) -> i64
     ensures answer { λ r. ⌜ r ≡ lengthStatus (lengthAnswered (mergeRowOutcome (now (row .entry)) (length (now (out .entry))))) ⌝ }
     ensures buffer { λ _. ⌜ now (out .exit) ≡ bufferAfter (mergeRowOutcome (now (row .entry)) (length (now (out .entry)))) (now (out .entry)) ⌝ }
 {
-    let merged = merge::merge_row(row, out);
+    let merged = merge_row::merge_row(row, out);
     status(merged)
 }
 

@@ -8,7 +8,8 @@ use Rattle.hill.specs.Summary.{blank}
 use Rattle.hill.specs.Merge.{mergeSummary}
 use Rattle.summary.specs.Decode.{decode}
 use Rattle.emit.specs.Laws.{answer-same}
-use Rattle.merge.specs.KeptLaws.{zeros, whole-zeros, two-merged}
+use Rattle.merging.specs.KeptLaws.{zeros, whole-zeros}
+use Rattle.merge.specs.CallLaws.{two-merged}
 
 none-merged-requires : tie.Need-none-merged-requires
 none-merged-requires c κs = search needs

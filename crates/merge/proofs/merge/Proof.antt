@@ -1,5 +1,6 @@
 -- `merge::merge` meets its contract: each question in its order, then the two are joined. Assumes nothing.
-use Rattle.merge.specs.CallLaws.{refusal, answered, left-5, right-5, other-mode, both-in}
+use Rattle.merging.specs.CallLaws.{refusal, answered}
+use Rattle.merge.specs.CallLaws.{left-5, right-5, other-mode, both-in}
 use Rattle.summary.specs.OutcomeLaws.{merge-is}
 use Rattle.judge.specs.Laws.{judges, judges-not}
 use lib.ListN.{length}
