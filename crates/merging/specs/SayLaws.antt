@@ -1,5 +1,5 @@
 -- What accepted bytes say before their slopes, and what two sides say together. Assumes nothing.
-use mathlib.Core.Path.{_≡_, refl, ap, ap₂, sym, subst, _∙_}
+use mathlib.Core.Path.{_≡_, refl, ap, ap₂, sym, _∙_}
 use mathlib.Core.List.{List}
 use Prim.Native.Nat.{ℕ, _+_, _≤_, min}
 use native.Mathlib.Omega.{arith}
@@ -15,7 +15,6 @@ use Rattle.summary.specs.Judge.{kindAt, faultAt, spoiltStartAt, peakAt, endAt, 
 use Rattle.summary.specs.Layout.{SummaryIn}
 use Rattle.summary.specs.Decode.{decode, hillIn}
 use Rattle.summary.specs.Values.{lefts-length, rights-length, reading-blank, reading-spoilt, reading-hill}
-use Rattle.summary.specs.Accepted.{Accepted}
 use Rattle.judge.specs.declared.SpoiltHead.{SpoiltHead}
 use Rattle.judge.specs.declared.HillHead.{HillHead}
 use Rattle.judge.specs.declared.Head.the-variants.{Blank, Spoilt, Hill}
@@ -26,7 +25,7 @@ use Rattle.fault.specs.Laws.{clear, found}
 use Rattle.merging.specs.declared.Numbers.{Numbers}
 use Rattle.merging.specs.declared.Side.{Side}
 use Rattle.merging.specs.declared.Side.the-variants as side
-use Rattle.merging.specs.Side.{SaysPart, SaysOf, FewOpened}
+use Rattle.merging.specs.Side.{InBounds, SaysPart, SaysOf, SideInBounds}
 
 -- ---- what they say
 
@@ -55,6 +54,16 @@ module _ (m : ℕ) (b : List ℕ) where
       pub fault-small : h .fault ≤ 9
       fault-small = let v = spoilt-at i h q in omega (arith, ap (λ (x : SpoiltHead). x .fault) (v .1), v .0 .fault-high)
 
+      pub spoilt-bounds : InBounds (numbers (h .fault) (h .start) 0 (h .end) (h .opened))
+      spoilt-bounds =
+          let v = spoilt-at i h q in
+          record {
+            start-high = omega (arith, ap (λ (x : SpoiltHead). x .start) (v .1), v .0 .start-high);
+            peak-high = omega arith;
+            end-high = omega (arith, ap (λ (x : SpoiltHead). x .end) (v .1), v .0 .end-high);
+            opened-few = omega (arith, ap (λ (x : SpoiltHead). x .opened) (v .1), v .0 .opened-few);
+          }
+
       pub says-spoilt : SaysPart m (numbers (h .fault) (h .start) 0 (h .end) (h .opened)) (decode m b)
       says-spoilt =
           let v = spoilt-at i h q in
@@ -67,10 +76,21 @@ module _ (m : ℕ) (b : List ℕ) where
               peak = λ w. refl;
               end = ap (λ (x : SpoiltHead). x .end) (v .1);
               opened = ap (λ (x : SpoiltHead). x .opened) (v .1);
+              bounds = spoilt-bounds;
             };
           }
 
     module _ {h : HillHead} (q : headAt b ≡ Hill h) where
+      pub hill-bounds : InBounds (numbers noFault (h .start) (h .peak) (h .end) (h .opened))
+      hill-bounds =
+          let v = hill-at i h q in
+          record {
+            start-high = omega (arith, ap (λ (x : HillHead). x .start) (v .1), v .0 .start-high);
+            peak-high = omega (arith, ap (λ (x : HillHead). x .peak) (v .1), v .0 .peak-start, v .0 .start-high);
+            end-high = omega (arith, ap (λ (x : HillHead). x .end) (v .1), v .0 .end-high);
+            opened-few = omega (arith, ap (λ (x : HillHead). x .opened) (v .1), v .0 .opened-few);
+          }
+
       pub says-hill : SaysPart m (numbers noFault (h .start) (h .peak) (h .end) (h .opened)) (decode m b)
       says-hill =
           let v = hill-at i h q in
@@ -83,6 +103,7 @@ module _ (m : ℕ) (b : List ℕ) where
               peak = λ w. ap (λ (x : HillHead). x .peak) (v .1);
               end = omega (arith, ap (λ (x : HillHead). x .end) (v .1), rights-length (modeOf m .read) b (fallAt b), v .0 .peak-end);
               opened = ap (λ (x : HillHead). x .opened) (v .1);
+              bounds = hill-bounds;
             };
           }
 
@@ -93,20 +114,15 @@ module _ (m : ℕ) (s : SummaryIn m) (r : Side) (h : SaysOf m r s) where
   pub part-said : {p : Numbers} → r ≡ side.Part p → SaysPart m p s
   part-said e = rw e at h
 
--- ---- few records are opened
-
-pub few-said : {m : ℕ} {s : SummaryIn m} {p : Numbers} → Accepted m s → SaysPart m p s → p .opened ≤ 100001
-few-said {m} {s} {p} v h = go (h .said) (h .says .opened) (subst (Accepted m) (h .is) v)
-  where
-    go : (a : Part (modeOf m .algebra .Fig) Amounts) → p .opened ≡ opened a → Accepted m (part a) → p .opened ≤ 100001
-    go (spoilt f b e o) i v = omega (arith, v .few)
-    go (whole k o g) i v = omega (arith, v .few)
-
-pub few-side : (m : ℕ) (s : SummaryIn m) (r : Side) → Accepted m s → SaysOf m r s → FewOpened r
-few-side m s side.Blank v h = tt
-few-side m s (side.Part p) v h = few-said v h
+pub side-bounds : (m : ℕ) (s : SummaryIn m) (r : Side) → SaysOf m r s → SideInBounds r
+side-bounds m s side.Blank h = tt
+side-bounds m s (side.Part p) h = h .says .bounds
 
 -- ---- two sides
+
+cut-most : (n : ℕ) → cut n ≤ 100001
+unfolding cut
+cut-most n = omega arith
 
 module _ (m : ℕ) where
   abbrev 𝒜 : Algebra Amounts
@@ -136,6 +152,12 @@ module _ (m : ℕ) where
             peak = λ v. lowest a b (sym (verdict-merge 𝒜 a b) ∙ v) ek (l .peak) (r .peak);
             end = r .end ∙ sym (end-merge 𝒜 (modeOf m .laws) a b);
             opened = eo ∙ ap₂ (λ (x y : ℕ). cut (x + y)) (l .opened) (r .opened) ∙ sym (opened-merge 𝒜 a b);
+            bounds = record {
+              start-high = l .bounds .start-high;
+              peak-high = omega (arith, l .bounds .peak-high);
+              end-high = r .bounds .end-high;
+              opened-few = omega (arith, cut-most (q .opened + p .opened));
+            };
           };
         }
       where

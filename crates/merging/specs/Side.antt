@@ -11,13 +11,21 @@ use Rattle.merging.specs.declared.Numbers.{Numbers}
 use Rattle.merging.specs.declared.Side.{Side}
 use Rattle.merging.specs.declared.Side.the-variants as side
 
--- The numbers in p are those of the summary a, which is not blank. (One with a fault has no peak.)
+-- "Levels are 0 to 64"; opened records are "at most 100,001, which means 'more'".
+pub record InBounds (p : Numbers) : Type 0 where
+  pub start-high : p .start ≤ 64
+  pub peak-high : p .peak ≤ 64
+  pub end-high : p .end ≤ 64
+  pub opened-few : p .opened ≤ 100001
+
+-- The numbers in p are those of the summary a, which is not blank, and within their bounds. (One with a fault has no peak, and any level may stand there.)
 pub record Says (m : ℕ) (p : Numbers) (a : Part (modeOf m .algebra .Fig) Amounts) : Type 0 where
   pub fault : verdictOf (p .fault) ≡ verdict a
   pub start : p .start ≡ start a
   pub peak : verdict a ≡ pass → p .peak ≡ peak (modeOf m .algebra) a
   pub end : p .end ≡ end a
   pub opened : p .opened ≡ opened a
+  pub bounds : InBounds p
 
 -- The summary s is not blank, and the numbers in hand are its.
 pub record SaysPart (m : ℕ) (p : Numbers) (s : SummaryIn m) : Type 0 where
@@ -30,7 +38,7 @@ abbrev pub SaysOf : (m : ℕ) → Side → SummaryIn m → Type 0
 SaysOf m side.Blank s = s ≡ blank
 SaysOf m (side.Part p) s = SaysPart m p s
 
--- "at most 100,001, which means 'more'"
-abbrev pub FewOpened : Side → Type 0
-FewOpened side.Blank = Unit {0}
-FewOpened (side.Part p) = p .opened ≤ 100001
+-- A side is blank, or its numbers are within their bounds.
+abbrev pub SideInBounds : Side → Type 0
+SideInBounds side.Blank = Unit {0}
+SideInBounds (side.Part p) = InBounds p

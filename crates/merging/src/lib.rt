@@ -1,7 +1,7 @@
 // Merging summaries piece by piece: what a side says, the faults of a join, and what was merged so far. Each caller shows that the pieces are accepted.
 ghost use mathlib.Core.Path.{_≡_};
 ghost use mathlib.Core.List.{List};
-ghost use Prim.Native.Nat.{ℕ, _+_, _≤_, min};
+ghost use Prim.Native.Nat.{ℕ, _+_, min};
 ghost use lib.IntN.{ℤ};
 ghost use lib.ListN.{length};
 ghost use Rattle.gate.specs.Outcome.{written};
@@ -16,7 +16,7 @@ ghost use Rattle.summary.specs.Accepted.{IsSummaryIn};
 ghost use Rattle.slopes.specs.Arrays.{Arrays, arrays, Arrays64};
 ghost use Rattle.emit.specs.Emitted.{Said, Answers};
 ghost use Rattle.fault.specs.Fault.{verdictOf};
-ghost use Rattle.merging.specs.Side.{SaysPart, SaysOf, FewOpened};
+ghost use Rattle.merging.specs.Side.{SaysPart, SaysOf, InBounds, SideInBounds};
 ghost use Rattle.merging.specs.Asks.{Kept, Keeps};
 use gate::Written;
 use judge::Head;
@@ -56,7 +56,7 @@ fn lower_level(a: u16, b: u16) -> u16
 
 // "The lowest of these faults": the left's, the right's and those of the join.
 fn merge_fault(a: Numbers, b: Numbers) -> u8
-    requires { ⌜ (a .opened ≤ 100001) × (b .opened ≤ 100001) ⌝ }
+    requires { ⌜ InBounds a × InBounds b ⌝ }
     ensures { λ r. ⌜ verdictOf r ≡ low (verdictOf (a .fault)) (low (verdictOf (b .fault)) (low (joint (a .end) (b .start)) (count (a .opened + b .opened)))) ⌝ }
 {
     let join = fault::lower(
@@ -100,7 +100,7 @@ fn side_of(b: &[u8]) -> Side
 
 // A side and one that is not blank after it, as one.
 fn follow(before: Side, p: Numbers) -> Numbers
-    requires { ⌜ FewOpened before × (p .opened ≤ 100001) ⌝ }
+    requires { ⌜ SideInBounds before × InBounds p ⌝ }
     ensures { λ r. ⌜ ((m : ℕ) (s t : SummaryIn m) → SaysOf m before s → SaysPart m p t → SaysPart m r (mergeSummary (modeOf m .algebra) s t)) ⌝ }
 {
     let Side::Part(q) = before else {

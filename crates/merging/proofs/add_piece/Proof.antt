@@ -6,9 +6,8 @@ use denote.Ref.{now}
 use Prim.Native.Nat.{ℕ}
 use mathlib.Core.List.{List}
 use Rattle.summary.specs.Decode.{decode}
-use Rattle.summary.specs.Accepted.{decoded}
 use Rattle.merging.specs.Side.{SaysPart}
-use Rattle.merging.specs.SayLaws.{blank-said, part-said, few-said, few-side}
+use Rattle.merging.specs.SayLaws.{blank-said, part-said, side-bounds}
 use Rattle.merging.specs.KeptLaws.{kept-blank, kept-fault, kept-loads, kept-loaded}
 
 -- the mode, the piece, and what it says where it is not blank
@@ -44,7 +43,7 @@ follow-requires : tie.Need-follow-requires
 follow-requires c κs =
     let p = c .before .before in
     let k = start p .pre .1 .kept in
-    (few-side (m p) (start p .pre .1 .summary) (start p .args .a .side) (k .accepted) (k .says), few-said (decoded (m p) (b p) (start p .pre .0)) (says p))
+    (side-bounds (m p) (start p .pre .1 .summary) (start p .args .a .side) (k .says), says p .says .bounds)
 
 returns-2 : tie.Need-returns-2
 returns-2 c =

@@ -4,7 +4,7 @@ use Rattle.merging.proofs.follow.Statement.{statement}
 use Rattle.merging.proofs.follow.Tie as tie
 use mathlib.Core.Path.{subst}
 use native.Mathlib.Omega.{arith}
-use Rattle.merging.specs.Side.{FewOpened}
+use Rattle.merging.specs.Side.{SideInBounds}
 use Rattle.merging.specs.SayLaws.{blank-said, part-said, after-blank, after-part}
 
 enum-known-before : tie.Need-enum-known-before
@@ -17,10 +17,10 @@ returns : tie.Need-returns
 returns c = λ m s t h g. after-blank m g (blank-said m s (c .before .before .args .before) h (c .enum-told .given .1))
 
 add-opened : tie.Need-add-opened
-add-opened c = let few = subst FewOpened (c .before .before .before .before2 .given .1) (c .before .before .before .before .before .pre .0) in omega arith
+add-opened c = let h = c .before .before .before .before .before .pre in let few = subst SideInBounds (c .before .before .before .before2 .given .1) (h .0) in omega (arith, few .opened-few, h .1 .opened-few)
 
 merge-fault-requires : tie.Need-merge-fault-requires
-merge-fault-requires c κs = (subst FewOpened (c .before .before .before .before2 .given .1) (c .before .before .before .before .before .pre .0), c .before .before .before .before .before .pre .1)
+merge-fault-requires c κs = (subst SideInBounds (c .before .before .before .before2 .given .1) (c .before .before .before .before .before .pre .0), c .before .before .before .before .before .pre .1)
 
 lower-level-requires : tie.Need-lower-level-requires
 lower-level-requires c κs = search needs

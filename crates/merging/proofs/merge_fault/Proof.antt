@@ -3,6 +3,7 @@ use mathlib.Core.Path.{ap, ap₂, _∙_}
 use Rattle.hill.specs.Verdict.{low}
 use Rattle.fault.specs.Fault.{verdictOf}
 use borrow.Author.Needs.{needs}
+use native.Mathlib.Omega.{arith}
 use Rattle.merging.proofs.merge_fault.Statement.{statement}
 use Rattle.merging.proofs.merge_fault.Tie as tie
 
@@ -10,7 +11,7 @@ joint-requires : tie.Need-joint-requires
 joint-requires c κs = search needs
 
 add-count : tie.Need-add-count
-add-count c = search needs
+add-count c = let h = c .before .before .before .pre in omega (arith, h .0 .opened-few, h .1 .opened-few)
 
 count-requires : tie.Need-count-requires
 count-requires c κs = search needs
