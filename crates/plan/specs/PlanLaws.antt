@@ -12,11 +12,12 @@ use Rattle.join_plan.specs.Scan.{plan}
 use Rattle.outcome.specs.Outcomes.{linesBytes, planBytes, planOutcome}
 use Rattle.outcome.specs.Through.{lines-length}
 use Rattle.row_plan.specs.Arrays.{levelsIn, linesIn, Kept}
-use Rattle.row_plan.specs.Asks.{askAll, Through}
-use Rattle.row_plan.specs.AsksLaws.{kept-count}
-use Rattle.row_plan.specs.CallLaws.{call-refused, call-wrote}
-use Rattle.row_plan.specs.Wrote.{Wrote}
-use Rattle.row_plan.specs.WroteLaws.{wrote-all}
+use Rattle.row_gate.specs.Asks.{askAll, Through}
+use Rattle.row_plan.specs.RowLaws.{plan-is}
+use Rattle.row_plan.specs.ScanLaws.{kept-count}
+use Rattle.row_gate.specs.CallLaws.{call-refused, call-wrote}
+use Rattle.row_gate.specs.Wrote.{Wrote}
+use Rattle.row_gate.specs.WroteLaws.{wrote-all}
 
 module _ {these : List Line} {is js lows highs is′ js′ lows′ highs′ : List ℕ} {n : ℕ} (k : Kept these 0 is js lows highs n is′ js′ lows′ highs′) where
   pub line-count : n ≡ length these
@@ -38,4 +39,4 @@ pub plan-wrote : (row before after : List ℕ) (r : Outcome ℕ) (count m : ℕ)
     Wrote (linesBytes (plan (levelsIn starts peaks ends) count)) r before after → (r ≡ lengthAnswered (planOutcome row (length before))) × (after ≡ bufferAfter (planOutcome row (length before)) before)
 unfolding planOutcome planBytes
 plan-wrote row before after r count m states starts peaks ends openeds t w =
-    call-wrote planBytes row before after r count m states starts peaks ends openeds t (subst (λ (l : List Line). Wrote (linesBytes l) r before after) (t .plan-is) w)
+    call-wrote planBytes row before after r count m states starts peaks ends openeds t (subst (λ (l : List Line). Wrote (linesBytes l) r before after) (plan-is t) w)

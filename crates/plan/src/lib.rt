@@ -6,11 +6,12 @@ ghost use Rattle.gate.specs.Outcome.{bufferAfter};
 ghost use Rattle.gate.specs.Answers.{writtenAnswer, lengthAnswered};
 ghost use Rattle.join_plan.specs.Scan.{plan as scanned};
 ghost use Rattle.outcome.specs.Outcomes.{linesBytes, planOutcome};
-ghost use Rattle.row_plan.specs.Arrays.{levelsIn, Noted};
-ghost use Rattle.row_plan.specs.Wrote.{Wrote};
+ghost use Rattle.row_gate.specs.Notes.{Noted};
+ghost use Rattle.row_plan.specs.Arrays.{levelsIn};
+ghost use Rattle.row_gate.specs.Wrote.{Wrote};
 use gate::Written;
-use row_plan::ask::Asked;
-use row_plan::ask::ask;
+use row_gate::ask::Asked;
+use row_gate::ask::ask;
 use row_plan::scan::scan;
 
 mod lines;

@@ -2,7 +2,7 @@
 use mathlib.Core.Path.{_≡_}
 use mathlib.Core.Bool.{cond}
 use mathlib.Core.List.{List, [], _∷_, _++_}
-use Prim.Native.Nat.{ℕ, zero, suc, _≤_}
+use Prim.Native.Nat.{ℕ, zero, suc}
 use native.Mathlib.Decide.{decLt}
 use lib.Dec.{leb}
 use lib.ListN.{length, getD}
@@ -15,10 +15,6 @@ levelsFrom start peak end = cond (leb peak 64) (hill start peak end) blank
 
 abbrev pub levelsIn : (starts peaks ends : List ℕ) → ℕ → Levels
 levelsIn starts peaks ends k = levelsFrom (getD starts k 0) (getD peaks k 0) (getD ends k 0)
-
-pub record Noted (starts peaks ends : List ℕ) : Type 0 where
-  pub start-high : (k : ℕ) → getD starts k 0 ≤ 64
-  pub end-high : (k : ℕ) → getD ends k 0 ≤ 64
 
 abbrev pub line : (i j low high : ℕ) → Line
 line i j low high = record { i = i; j = j; lowest = low; highest = high }

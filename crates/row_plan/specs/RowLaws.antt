@@ -1,15 +1,14 @@
--- What is noted of a row's pieces is what its summaries say: its fault, its levels and its plan. Assumes nothing.
+-- What is noted of a row that is let through says its plan, which has room. Assumes nothing.
 use mathlib.Core.Path.{_≡_, refl, sym, ap, ap₂, _∙_}
-use mathlib.Core.List.{List, [], _∷_, _++_, map}
+use mathlib.Core.List.{List, [], _++_, map}
 use Prim.Native.Nat.{ℕ, zero, suc, _+_, _≤_, _<_}
-use native.Mathlib.Nat.{zero-add}
 use native.Mathlib.Omega.{arith}
-use borrow.Author.Tests.{le-leb, ne-eqb}
+use borrow.Author.Tests.{le-leb}
 use lib.ListN.{length, getD, length-map}
 use Rattle.figure.specs.Mode.{modeOf}
-use Rattle.hill.specs.Verdict.{pass, refuse}
+use Rattle.hill.specs.Verdict.{pass}
 use Rattle.hill.specs.Summary.{blank}
-use Rattle.summary.specs.Judge.{IsSummary, isBlank, isSpoilt, isHill, riseAt, fallAt, startAt, peakAt, endAt, openedAt, faultAt}
+use Rattle.summary.specs.Judge.{IsSummary, isBlank, isSpoilt, isHill, riseAt, fallAt, startAt, peakAt, endAt}
 use Rattle.summary.specs.Decode.{decode}
 use Rattle.summary.specs.Values.{lefts-length, rights-length, reading-blank, reading-spoilt, reading-hill}
 use Rattle.summary.specs.Layout.{SummaryIn}
@@ -21,42 +20,15 @@ use Rattle.plan_work.specs.Gate.{rowFault}
 use Rattle.plan_work.specs.RowLevels.{plan-row}
 use Rattle.outcome.specs.Laws.{AllIn}
 use Rattle.outcome.specs.Through.{few-lines}
+use Rattle.row.specs.Row.{rowPieces}
 use Rattle.row_plan.specs.Arrays.{levelsFrom, levelsIn}
-use Rattle.row_plan.specs.Told.{Told, tells, toldOf, toldFrom, toldIn, toldsFrom, toldFault}
-use Rattle.row_plan.specs.ToldLaws.{told-all, fault-row, own-hill, own-spoilt}
-use Rattle.fault.specs.Fault.{noFault}
-use Rattle.fault.specs.Laws.{clear, found}
-use Rattle.row_plan.specs.Notes.{noteOf, AllNoted}
-use Rattle.row_plan.specs.declared.pieces.Note.{Note}
+use Rattle.row_gate.specs.Notes.{noteOf, AllNoted}
+use Rattle.row_gate.specs.Asks.{Through}
+use Rattle.row_gate.specs.RowLaws.{each-in, decoded-at}
 
 -- ---- one piece
 
-abbrev told : Note → Told
-told n = toldFrom (n .state) (n .start) (n .end) (n .opened)
-
-abbrev levelled : Note → Levels
-levelled n = levelsFrom (n .start) (n .peak) (n .end)
-
-told-spoilt : (f s e o : ℕ) → 7 ≤ f → f ≤ 9 → toldFrom f s e o ≡ tells (refuse f) s e o
-unfolding toldFrom
-told-spoilt f s e o a b = rw (ne-eqb f 0 (omega arith), ← own-spoilt f (omega arith), found f (omega arith))
-
-told-hill : (s e o : ℕ) → toldFrom 1 s e o ≡ tells pass s e o
-unfolding toldFrom
-told-hill s e o = rw (← own-hill 1 refl, clear noFault (omega arith))
-
-pub told-piece : (m : ℕ) (b : List ℕ) → IsSummary b → told (noteOf (headAt b)) ≡ toldOf (decode m b)
-unfolding decode toldFrom
-told-piece m b (isBlank f) = rw (head-blank b (f .kind-fits), reading-blank (modeOf m .read) b (f .kind-fits))
-told-piece m b (isSpoilt v) =
-    rw (head-spoilt b (v .layout .kind-fits), reading-spoilt (modeOf m .read) b (v .layout .kind-fits)) (told-spoilt (faultAt b) _ _ _ (v .fault-low) (v .fault-high))
-told-piece m b (isHill v) =
-    let s : peakAt b + riseAt b ≡ startAt b = omega (arith, v .peak-start) in
-    let e : peakAt b + fallAt b ≡ endAt b = omega (arith, v .peak-end) in
-    rw (head-hill b (λ x. omega (arith, v .layout .kind-fits)) (λ x. omega (arith, v .layout .kind-fits)), reading-hill (modeOf m .read) b (v .layout .kind-fits), lefts-length (modeOf m .read) b (riseAt b), rights-length (modeOf m .read) b (fallAt b), s, e)
-    (told-hill (startAt b) (endAt b) (openedAt b))
-
-pub levels-piece : (m : ℕ) (b : List ℕ) → IsSummary b → levelled (noteOf (headAt b)) ≡ levelsOfSummary (decode m b)
+pub levels-piece : (m : ℕ) (b : List ℕ) → IsSummary b → levelsFrom (noteOf (headAt b) .start) (noteOf (headAt b) .peak) (noteOf (headAt b) .end) ≡ levelsOfSummary (decode m b)
 unfolding decode levelsFrom
 levels-piece m b (isBlank f) = rw (head-blank b (f .kind-fits), reading-blank (modeOf m .read) b (f .kind-fits))
 levels-piece m b (isSpoilt v) = rw (head-spoilt b (v .layout .kind-fits), reading-spoilt (modeOf m .read) b (v .layout .kind-fits))
@@ -93,37 +65,23 @@ module _ (f g : ℕ → Levels) where
 
 -- ---- the pieces of a row
 
-module _ (m : ℕ) where
-  pub each-in : (ps : List (List ℕ)) → AllIn m ps → (i : ℕ) → i < length ps → IsSummary (getD ps i [])
-  each-in [] a i h = absurd (omega arith)
-  each-in (p ∷ ps) a zero h = a .0 .is
-  each-in (p ∷ ps) a (suc i) h = each-in ps (a .1) i (omega arith)
+module _ (m : ℕ) (ps : List (List ℕ)) (a : AllIn m ps) where
+  abbrev row : List (SummaryIn m)
+  row = map (decode m) ps
 
-  pub decoded-at : (ps : List (List ℕ)) (i : ℕ) → i < length ps → getD (map (decode m) ps) i blank ≡ decode m (getD ps i [])
-  decoded-at [] i h = absurd (omega arith)
-  decoded-at (p ∷ ps) zero h = refl
-  decoded-at (p ∷ ps) (suc i) h = decoded-at ps i (omega arith)
+  pub row-plan : (states starts peaks ends openeds : List ℕ) → AllNoted ps states starts peaks ends openeds → (count : ℕ) → length ps ≡ count → plan (levelsIn starts peaks ends) count ≡ planOfRow row
+  row-plan states starts peaks ends openeds noted count e =
+      plan-cong (levelsIn starts peaks ends) (λ k. levelsOfSummary (getD row k blank)) count each ∙ ap (plan (λ (k : ℕ). levelsOfSummary (getD row k blank))) (sym e ∙ sym (length-map ps (decode m))) ∙ sym (plan-row (modeOf m .algebra) row)
+    where
+      each : (k : ℕ) → k < count → levelsIn starts peaks ends k ≡ levelsOfSummary (getD row k blank)
+      each k h = ap (λ n. levelsFrom (n .start) (n .peak) (n .end)) (noted k (omega arith)) ∙ levels-piece m (getD ps k []) (each-in m ps a k (omega arith)) ∙ ap levelsOfSummary (sym (decoded-at m ps k (omega arith)))
 
-  module _ (ps : List (List ℕ)) (a : AllIn m ps) (states starts peaks ends openeds : List ℕ) (noted : AllNoted ps states starts peaks ends openeds) where
-    abbrev row : List (SummaryIn m)
-    row = map (decode m) ps
+-- ---- a row that is let through
 
-    pub row-fault : (count : ℕ) → length ps ≡ count → toldFault (toldsFrom states starts ends openeds 0 count) ≡ rowFault row
-    row-fault count e =
-        ap toldFault (ap (toldsFrom states starts ends openeds 0) (sym e ∙ sym (length-map ps (decode m))) ∙ told-all states starts ends openeds row 0 each) ∙ fault-row row
-      where
-        each : (i : ℕ) → i < length row → toldIn states starts ends openeds (0 + i) ≡ toldOf (getD row i blank)
-        each i h =
-            let l : i < length ps = omega (arith, length-map ps (decode m)) in
-            ap (toldIn states starts ends openeds) (zero-add i) ∙ ap told (noted i l) ∙ told-piece m (getD ps i []) (each-in ps a i l) ∙ ap toldOf (sym (decoded-at ps i l))
-
-    pub row-plan : (count : ℕ) → length ps ≡ count → plan (levelsIn starts peaks ends) count ≡ planOfRow row
-    row-plan count e =
-        plan-cong (levelsIn starts peaks ends) (λ k. levelsOfSummary (getD row k blank)) count each ∙ ap (plan (λ (k : ℕ). levelsOfSummary (getD row k blank))) (sym e ∙ sym (length-map ps (decode m))) ∙ sym (plan-row (modeOf m .algebra) row)
-      where
-        each : (k : ℕ) → k < count → levelsIn starts peaks ends k ≡ levelsOfSummary (getD row k blank)
-        each k h = ap levelled (noted k (omega arith)) ∙ levels-piece m (getD ps k []) (each-in ps a k (omega arith)) ∙ ap levelsOfSummary (sym (decoded-at ps k (omega arith)))
+module _ {row : List ℕ} {count m : ℕ} {states starts peaks ends openeds : List ℕ} (t : Through row count m states starts peaks ends openeds) where
+  pub plan-is : plan (levelsIn starts peaks ends) count ≡ planOfRow (map (decode m) (rowPieces row))
+  plan-is = row-plan m (rowPieces row) (t .all) states starts peaks ends openeds (t .noted) count (t .long)
 
   -- at most 125 lines
-  pub row-room : (ps : List (List ℕ)) → AllIn m ps → 2 ≤ length ps → length ps ≤ 64 → rowFault (map (decode m) ps) ≡ pass → length (planOfRow (map (decode m) ps)) ≤ 128
-  row-room ps a l h v = omega (arith, few-lines m ps a l v)
+  pub plan-room : length (plan (levelsIn starts peaks ends) count) ≤ 128
+  plan-room = omega (arith, t .long, t .few, ap length plan-is, few-lines m (rowPieces row) (t .all) (omega (arith, t .long, t .some)) (t .faultless))

@@ -13,7 +13,8 @@ use lib.Seq.{getD-set-same, getD-set-other}
 use Rattle.join_plan.specs.Plan.{Levels, Line}
 use Rattle.join_plan.specs.Scan.{lineIf, lineOf, passed, walk, linesTo, plan}
 use Rattle.join_plan.specs.PlanFacts.{walk-stop}
-use Rattle.row_plan.specs.Arrays.{levelsFrom, levelsIn, Noted, line, lineIn, linesIn, Sized, Kept, lineWithin, linesToIn}
+use Rattle.row_gate.specs.Notes.{Noted}
+use Rattle.row_plan.specs.Arrays.{levelsFrom, levelsIn, line, lineIn, linesIn, Sized, Kept, lineWithin, linesToIn}
 
 -- ---- the arrays of lines
 
@@ -67,6 +68,10 @@ room-one n i j low top b h = go (decLt low top) b
     go : (t : Dec (low < top)) → n + length (lineIf i j low top t) ≤ 128 → n < 128
     go (yes y) b = omega arith
     go (no y) b = absurd (y h)
+
+-- as many lines as there are
+pub kept-count : (these : List Line) (is js lows highs is′ js′ lows′ highs′ : List ℕ) (n : ℕ) → Kept these 0 is js lows highs n is′ js′ lows′ highs′ → n ≡ length these
+kept-count these is js lows highs is′ js′ lows′ highs′ n k = sym (length-lines is′ js′ lows′ highs′ n) ∙ ap length (k .lines)
 
 -- ---- the levels noted
 

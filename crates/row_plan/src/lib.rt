@@ -1,20 +1,8 @@
-// Questions 4 to 11 of a row, and its join plan, in arrays.
+// The join plan of a row, in arrays, and the levels that it folds.
 ghost use mathlib.Core.Path.{_≡_};
 ghost use Prim.Native.Nat.{min, max};
 
-// The state of a piece. An array of enums cannot be lent, so a byte stands for the case of judge::Head: these two, or the fault of a spoilt one,
-// which is 7 to 9.
-pub const BLANK: u8 = 0;
-
-pub const HILL: u8 = 1;
-
-// The peak of a piece that is no hill: above all levels, so that it has no line and lowers no minimum of the peaks passed.
-pub const NO_PEAK: u8 = 255;
-
-pub mod ask;
-mod faults;
 pub mod levels;
-mod pieces;
 pub mod scan;
 
 fn lower(a: u8, b: u8) -> u8

@@ -3,7 +3,8 @@ ghost use mathlib.Core.Path.{_≡_};
 ghost use Prim.Native.Nat.{_+_, _≤_, _<_};
 ghost use lib.ListN.{length};
 ghost use Rattle.join_plan.specs.Scan.{plan as scanned};
-ghost use Rattle.row_plan.specs.Arrays.{levelsIn, Sized, Noted, Kept, lineWithin, linesToIn};
+ghost use Rattle.row_gate.specs.Notes.{Noted};
+ghost use Rattle.row_plan.specs.Arrays.{levelsIn, Sized, Kept, lineWithin, linesToIn};
 use super::higher;
 use super::lower;
 

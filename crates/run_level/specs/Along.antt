@@ -10,7 +10,7 @@ use Rattle.summary.specs.Decode.{decode}
 use Rattle.join_plan.specs.Plan.{planOfRow}
 use Rattle.plan_work.specs.Runs.{peakOfSummary, slopesOf, levelsDown}
 use Rattle.row_plan.specs.Arrays.{linesIn}
-use Rattle.row_plan.specs.Asks.{Through}
+use Rattle.row_gate.specs.Asks.{Through}
 use Rattle.run_level.specs.declared.Place.{Place}
 use Rattle.run_level.specs.Levels.{pieceOf, Begun}
 

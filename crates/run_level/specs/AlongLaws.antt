@@ -19,9 +19,10 @@ use Rattle.plan_work.specs.WorkLaws.{levels-next}
 use Rattle.plan_work.specs.RunsExact.{line-spans}
 use Rattle.plan_work.specs.WorkSizes.{levels-light, load-fits}
 use Rattle.row_plan.specs.Arrays.{levelsIn, lineIn, linesIn, Kept}
-use Rattle.row_plan.specs.AsksLaws.{kept-count}
+use Rattle.row_plan.specs.RowLaws.{plan-is, plan-room}
+use Rattle.row_plan.specs.ScanLaws.{kept-count}
 use Rattle.outcome.specs.Through.{valid-row}
-use Rattle.row_plan.specs.RowLaws.{decoded-at}
+use Rattle.row_gate.specs.RowLaws.{decoded-at}
 use Rattle.run_level.specs.declared.Place.{Place}
 use Rattle.run_level.specs.Levels.{pieceOf, Begun, placeIn, Reads, levelAt, levelFor}
 use Rattle.run_level.specs.StandsFor.{LineLevels, level-is}
@@ -34,13 +35,13 @@ use Rattle.run_level.specs.Along.{rowIn, LetThrough, Along, levelsOf}
 module _ {row : List ℕ} {count m : ℕ} {starts peaks ends : List ℕ} (t : LetThrough row count m starts peaks ends) {is₀ js₀ lows₀ highs₀ is js lows highs : List ℕ} {n : ℕ}
     (k : Kept (plan (levelsIn starts peaks ends) count) 0 is₀ js₀ lows₀ highs₀ n is js lows highs) where
   pub plan-count : n ≡ length (planOfRow (rowIn m row))
-  plan-count = kept-count _ is₀ js₀ lows₀ highs₀ is js lows highs n k ∙ ap length (t .through .plan-is)
+  plan-count = kept-count _ is₀ js₀ lows₀ highs₀ is js lows highs n k ∙ ap length (plan-is (t .through))
 
   pub lines-few : n ≤ 128
-  lines-few = omega (arith, kept-count _ is₀ js₀ lows₀ highs₀ is js lows highs n k, t .through .room)
+  lines-few = omega (arith, kept-count _ is₀ js₀ lows₀ highs₀ is js lows highs n k, plan-room (t .through))
 
   pub along : {ats : List ℕ} → Begun row count ats → Along row count m ats starts peaks is js lows highs n
-  along b = record { ready = record { ends = ends; let-through = t; begun = b }; lines = k .lines ∙ t .through .plan-is; few = lines-few }
+  along b = record { ready = record { ends = ends; let-through = t; begun = b }; lines = k .lines ∙ plan-is (t .through); few = lines-few }
 
 line-here : (is js lows highs : List ℕ) (k n : ℕ) → k < n → List·Memᴰ (lineIn is js lows highs k) (linesIn is js lows highs n)
 line-here is js lows highs k zero h = absurd (omega arith)

@@ -11,8 +11,8 @@ use Rattle.judge.specs.Judged.{headAt, hillHeadAt}
 use Rattle.judge.specs.declared.Head.the-variants.{Hill}
 use Rattle.judge.specs.Laws.{head-hill}
 use Rattle.join_plan.specs.Plan.{Line, planOfRow}
-use Rattle.row_plan.specs.Notes.{noteOf}
-use Rattle.row_plan.specs.Asks.{Through}
+use Rattle.row_gate.specs.Notes.{noteOf}
+use Rattle.row_gate.specs.Asks.{Through}
 use Rattle.run_level.specs.Levels.{pieceOf, Begun, placeIn, Placed, Reads}
 use Rattle.run_level.specs.StandsFor.{LineLevels, line-levels}
 

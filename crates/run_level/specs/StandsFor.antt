@@ -23,7 +23,7 @@ use Rattle.join_plan.specs.Joins.{Opens, Closes as ClosesDepth}
 use Rattle.join_plan.specs.PlanExact.{planOf-exact, planOf-range}
 use Rattle.plan_work.specs.Runs.{peakOfSummary, slopesOf, openFrom, leftValueAt, levelOf}
 use Rattle.outcome.specs.Laws.{AllIn}
-use Rattle.row_plan.specs.RowLaws.{each-in, decoded-at}
+use Rattle.row_gate.specs.RowLaws.{each-in, decoded-at}
 use Rattle.run_level.specs.declared.RunLevel.{RunLevel}
 use Rattle.run_level.specs.Levels.{LeavesOpen, Closes, levelAt, levelFor}
 

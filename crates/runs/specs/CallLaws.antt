@@ -20,10 +20,11 @@ use Rattle.plan_work.specs.Gate.{rowFault}
 use Rattle.outcome.specs.Outcomes.{Summaries, firstMode, askRow, askLog, runsBytes, runsOutcome}
 use Rattle.outcome.specs.Through.{valid-row, Found, ask-found, lines-125}
 use Rattle.row_plan.specs.Arrays.{levelsIn, linesIn, Kept}
-use Rattle.row_plan.specs.Asks.{askAll, Through}
-use Rattle.row_plan.specs.CallLaws.{call-refused, call-wrote}
-use Rattle.row_plan.specs.Wrote.{Wrote}
-use Rattle.row_plan.specs.WroteLaws.{wrote-all}
+use Rattle.row_plan.specs.RowLaws.{plan-is}
+use Rattle.row_gate.specs.Asks.{askAll, Through}
+use Rattle.row_gate.specs.CallLaws.{call-refused, call-wrote}
+use Rattle.row_gate.specs.Wrote.{Wrote}
+use Rattle.row_gate.specs.WroteLaws.{wrote-all}
 use Rattle.run_level.specs.Levels.{Begun}
 use Rattle.run_level.specs.Along.{rowIn, LetThrough}
 use Rattle.run_level.specs.AlongLaws.{plan-count, along}
@@ -43,7 +44,7 @@ module _ {row : List ℕ} {count m : ℕ} {starts peaks ends : List ℕ} (t : Le
   -- all are written
   pub runs-written : (b out : List ℕ) → 30 * n ≤ length b → out ≡ sets b 0 (linesRuns row m (linesIn is′ js′ lows′ highs′ n)) → Wrote (linesRuns row m (planOfRow (rowIn m row))) (result (30 * n)) b out
   runs-written b out h e =
-      wrote-all (linesRuns row m (planOfRow (rowIn m row))) b out (30 * n) (sym runs-length) (omega (arith, runs-length)) (e ∙ ap (λ (l : List Line). sets b 0 (linesRuns row m l)) (k .lines ∙ t .through .plan-is))
+      wrote-all (linesRuns row m (planOfRow (rowIn m row))) b out (30 * n) (sym runs-length) (omega (arith, runs-length)) (e ∙ ap (λ (l : List Line). sets b 0 (linesRuns row m l)) (k .lines ∙ plan-is (t .through)))
 
   pub all-lines : {ats : List ℕ} → Begun row count ats → Lines row m ats starts peaks is′ js′ lows′ highs′ n
   all-lines b = record { count = count; along = along t k b }

@@ -5,12 +5,12 @@ ghost use Rattle.gate.specs.Outcome.{bufferAfter};
 ghost use Rattle.gate.specs.Answers.{writtenAnswer, lengthAnswered};
 ghost use Rattle.join_plan.specs.Plan.{planOfRow};
 ghost use Rattle.outcome.specs.Outcomes.{runsOutcome};
-ghost use Rattle.row_plan.specs.Wrote.{Wrote};
+ghost use Rattle.row_gate.specs.Wrote.{Wrote};
 ghost use Rattle.run_level.specs.Along.{rowIn, LetThrough};
 ghost use Rattle.runs.specs.Runs.{linesRuns};
 use gate::Written;
-use row_plan::ask::Asked;
-use row_plan::ask::ask;
+use row_gate::ask::Asked;
+use row_gate::ask::ask;
 use row_plan::scan::scan;
 use run_level::begin_pieces;
 

@@ -11,8 +11,9 @@ use Rattle.join_plan.specs.Scan.{plan}
 use Rattle.plan_work.specs.Work.{Work, workOf}
 use Rattle.outcome.specs.Outcomes.{Summaries, askRow, workAlong, workOutcome}
 use Rattle.row_plan.specs.Arrays.{levelsIn, linesIn, Kept}
-use Rattle.row_plan.specs.Asks.{askAll, summariesIn, Through}
-use Rattle.row_plan.specs.AsksLaws.{after-all}
+use Rattle.row_plan.specs.RowLaws.{plan-is}
+use Rattle.row_gate.specs.Asks.{askAll, summariesIn, Through}
+use Rattle.row_gate.specs.AsksLaws.{after-all}
 use Rattle.run_level.specs.Along.{rowIn, LetThrough}
 use Rattle.run_level.specs.AlongLaws.{plan-count}
 
@@ -37,5 +38,5 @@ module _ {row : List ℕ} {count m : ℕ} {starts peaks ends : List ℕ} (t : Le
   work-is f g l eg ef el i = record {
     figure = (eg ∙ ef) i;
     joins = plan-count t k i;
-    levels = (el ∙ ap folded (k .lines ∙ t .through .plan-is)) i;
+    levels = (el ∙ ap folded (k .lines ∙ plan-is (t .through))) i;
   }

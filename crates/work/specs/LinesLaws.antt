@@ -26,9 +26,9 @@ use Rattle.plan_work.specs.Work.{Done, worked, oneMiddle, lastOutcome, workOf}
 use Rattle.plan_work.specs.WorkLaws.{work, worked-nil, worked-cons, worked-append}
 use Rattle.plan_work.specs.WorkSizes.{load, AllLight, LineLight, line-light}
 use Rattle.row_plan.specs.Arrays.{lineIn, linesIn}
-use Rattle.row_plan.specs.Notes.{noPeak}
+use Rattle.row_gate.specs.Notes.{noPeak}
 use Rattle.row_plan.specs.ScanLaws.{length-lines}
-use Rattle.row_plan.specs.RowLaws.{decoded-at}
+use Rattle.row_gate.specs.RowLaws.{decoded-at}
 use Rattle.run_level.specs.declared.Place.{Place}
 use Rattle.run_level.specs.Levels.{pieceOf, placeIn}
 use Rattle.run_level.specs.StandsFor.{LineLevels}

@@ -21,9 +21,9 @@ use Rattle.judge.specs.Laws.{head-blank, head-spoilt}
 use Rattle.plan_work.specs.Fair.{ValidRow}
 use Rattle.plan_work.specs.Runs.{peakOfSummary, slopesOf, summaryAt}
 use Rattle.plan_work.specs.WorkSizes.{load, load-fits, middle-light}
-use Rattle.row_plan.specs.Notes.{noPeak, noteOf}
+use Rattle.row_gate.specs.Notes.{noPeak, noteOf}
 use Rattle.outcome.specs.Through.{valid-row}
-use Rattle.row_plan.specs.RowLaws.{each-in, decoded-at}
+use Rattle.row_gate.specs.RowLaws.{each-in, decoded-at}
 use Rattle.run_level.specs.Levels.{pieceOf, placeIn}
 use Rattle.run_level.specs.Lines.{placed}
 use Rattle.run_level.specs.StandsFor.{all-stored, mode-at}

@@ -3,12 +3,12 @@ ghost use mathlib.Core.Path.{_≡_};
 ghost use Prim.Native.Nat.{_≤_};
 ghost use lib.ListN.{length};
 ghost use Rattle.outcome.specs.Outcomes.{workAlong, workOutcome};
-ghost use Rattle.row_plan.specs.Asks.{summariesIn};
+ghost use Rattle.row_gate.specs.Asks.{summariesIn};
 ghost use Rattle.row.specs.Row.{rowPieces};
 ghost use Rattle.work.specs.Answers.{workIn, workedAnswer};
 ghost use Rattle.run_level.specs.Along.{LetThrough};
-use row_plan::ask::Asked;
-use row_plan::ask::ask;
+use row_gate::ask::Asked;
+use row_gate::ask::ask;
 use row_plan::levels::fold_levels;
 use row_plan::scan::scan;
 

@@ -114,7 +114,7 @@ fn one_middle(
 {
     let mut k: usize = 0;
     while k < count {
-        if peaks[k] < row_plan::NO_PEAK {
+        if peaks[k] < row_gate::NO_PEAK {
             return read_middle(row, run_level::place_of(ats, starts, peaks, k));
         }
         k += 1;

@@ -1,7 +1,8 @@
 -- `plan::plan` meets its contract: the questions, then the lines.
 -- Assumes nothing.
 use denote.Ref.{now}
-use Rattle.row_plan.specs.AsksLaws.{zeros-whole}
+use Rattle.row_gate.specs.AsksLaws.{zeros-whole}
+use Rattle.row_plan.specs.RowLaws.{plan-room}
 use Rattle.plan.specs.PlanLaws.{plan-not, plan-wrote}
 use borrow.Author.Needs.{needs}
 use Rattle.plan.proofs.plan.Statement.{statement}
@@ -17,7 +18,7 @@ enum-known-asked-2 : tie.Need-enum-known-asked-2
 enum-known-asked-2 c = search needs
 
 write-plan-requires : tie.Need-write-plan-requires
-write-plan-requires c κs = let t = rw (c .before .before .before .before .before .asked2 .given .1) at (c .before .before .before .before .before .before .before .ask .ensures) in (t .whole .noted, (t .few, t .room))
+write-plan-requires c κs = let t = rw (c .before .before .before .before .before .asked2 .given .1) at (c .before .before .before .before .before .before .before .ask .ensures) in (t .whole .noted, (t .few, plan-room t))
 
 returns : tie.Need-returns
 returns c = plan-not (now (c .before .before .before .before .before .before .before .before .before .before .before .args .row)) (now (c .before .before .before .before .before .before .before .before .before .before .before .args .out)) _ (rw (c .before .asked .given .1) at (c .before .before .before .ask .ensures))

@@ -3,7 +3,7 @@
 use mathlib.Core.Path.{refl}
 use native.Mathlib.Omega.{arith}
 use denote.Ref.{now}
-use Rattle.row_plan.specs.WroteLaws.{too-short}
+use Rattle.row_gate.specs.WroteLaws.{too-short}
 use Rattle.plan.specs.PlanLaws.{line-count, plan-length, plan-written}
 use borrow.Author.Needs.{needs}
 use Rattle.plan.proofs.write_plan.Statement.{statement}

@@ -1,7 +1,7 @@
 -- `runs::runs` meets its contract: the questions, then the runs.
 -- Assumes nothing.
 use denote.Ref.{now}
-use Rattle.row_plan.specs.AsksLaws.{zeros-whole}
+use Rattle.row_gate.specs.AsksLaws.{zeros-whole}
 use Rattle.runs.specs.CallLaws.{runs-not, runs-wrote}
 use borrow.Author.Needs.{needs}
 use Rattle.runs.proofs.runs.Statement.{statement}

@@ -3,7 +3,8 @@
 use mathlib.Core.Path.{refl}
 use native.Mathlib.Omega.{arith}
 use denote.Ref.{now}
-use Rattle.row_plan.specs.WroteLaws.{too-short}
+use Rattle.row_gate.specs.WroteLaws.{too-short}
+use Rattle.row_plan.specs.RowLaws.{plan-room}
 use Rattle.run_level.specs.AlongLaws.{lines-few}
 use Rattle.runs.specs.CallLaws.{runs-length, runs-written, all-lines}
 use borrow.Author.Needs.{needs}
@@ -11,7 +12,7 @@ use Rattle.runs.proofs.write_runs.Statement.{statement}
 use Rattle.runs.proofs.write_runs.Tie as tie
 
 scan-requires : tie.Need-scan-requires
-scan-requires c κs = let t = c .before .before .before .before .before .before .pre .through in (t .whole .noted, (record { is-128 = refl; js-128 = refl; lows-128 = refl; highs-128 = refl }, (t .few, t .room)))
+scan-requires c κs = let t = c .before .before .before .before .before .before .pre .through in (t .whole .noted, (record { is-128 = refl; js-128 = refl; lows-128 = refl; highs-128 = refl }, (t .few, plan-room t)))
 
 mul-total : tie.Need-mul-total
 mul-total c = record { fits = omega (arith, lines-few (c .before .before .before .before .before .before .before .pre) (c .scan .ensures)) }

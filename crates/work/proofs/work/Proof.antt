@@ -2,7 +2,7 @@
 -- Assumes nothing.
 use borrow.Author.Needs.{needs}
 use denote.Ref.{now}
-use Rattle.row_plan.specs.AsksLaws.{zeros-whole}
+use Rattle.row_gate.specs.AsksLaws.{zeros-whole}
 use Rattle.work.specs.CallLaws.{work-refused, work-through}
 use Rattle.work.proofs.work.Statement.{statement}
 use Rattle.work.proofs.work.Tie as tie

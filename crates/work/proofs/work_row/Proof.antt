@@ -5,6 +5,7 @@ use native.Mathlib.Omega.{arith}
 use mir.Syntax.{w64}
 use borrow.Author.Needs.{needs}
 use Rattle.number.specs.Word.{back}
+use Rattle.row_plan.specs.RowLaws.{plan-room}
 use Rattle.run_level.specs.AlongLaws.{along, lines-few}
 use Rattle.work.specs.CallLaws.{work-is}
 use Rattle.work.proofs.work_row.Statement.{statement}
@@ -16,7 +17,7 @@ begin-pieces-requires c κs = search needs
 scan-requires : tie.Need-scan-requires
 scan-requires c κs =
     let t = c .before .before .before .before .before .before .before .pre .through in
-    (t .whole .noted, (record { is-128 = refl; js-128 = refl; lows-128 = refl; highs-128 = refl }, (t .few, t .room)))
+    (t .whole .noted, (record { is-128 = refl; js-128 = refl; lows-128 = refl; highs-128 = refl }, (t .few, plan-room t)))
 
 work-lines-requires : tie.Need-work-lines-requires
 work-lines-requires c κs =
