@@ -1,10 +1,11 @@
 -- Laws of the tally: one record more, what it means that there is still no fault, and what is asked of a log at its end. Assumes nothing.
-use mathlib.Core.Path.{_≡_, refl, sym, subst, _∙_}
+use mathlib.Core.Path.{_≡_, refl, sym, ap, subst, _∙_}
 use mathlib.Core.Bool.{Bool, true, false, cond, not}
 use mathlib.Core.List.{List, [], _∷_, _++_}
 use Prim.Native.Nat.{ℕ, _+_, _≤_}
 use native.Mathlib.Omega.{arith}
 use lib.Dec.{T, eqb}
+use borrow.Author.Tests.{eq-eqb}
 use Rattle.hill.specs.Verdict.{pass, refuse, low, ask, joint, ends}
 use Rattle.hill.specs.VerdictLaws.{low-pass, low-fst, low-snd, joint-pass, count-few}
 use Rattle.hill.specs.Log.{Record, startLevel, endLevel, endOf, opens, openedOf, joints, logFault}
@@ -12,7 +13,7 @@ use Rattle.hill.specs.Growth.{grown}
 use Rattle.figure.specs.FourModes.{Amounts, net}
 use Rattle.whole_log.specs.declared.Tally.{Tally}
 use Rattle.fault.specs.Fault.{noFault, verdictOf}
-use Rattle.fault.specs.Laws.{clear, clear-is, found, is-clear, ground-pass}
+use Rattle.fault.specs.Laws.{clear, clear-is, found, is-clear, ground-pass, raised}
 use Rattle.whole_log.specs.Tallies.{Tells, Tallied, logVerdict}
 
 -- ---- one record more
@@ -74,6 +75,13 @@ pub joints-pass : (x : Record Amounts) (xs : List (Record Amounts)) (t : Tally) 
 joints-pass x xs t s e = clear-is (s .fault) e
 
 -- ---- a log: its first record starts at level 0
+
+module _ (t : Tally) where
+  pub from-ground : t .start ≡ 0 → verdictOf (t .fault) ≡ low (verdictOf (t .fault)) (ask 11 (eqb (t .start) 0))
+  from-ground e = rw (eq-eqb (t .start) 0 e) (sym (low-pass (verdictOf (t .fault))))
+
+  pub from-above : (r : ℕ) → ¬ (t .start ≡ 0) → verdictOf r ≡ low (verdictOf (t .fault)) (verdictOf 11) → verdictOf r ≡ low (verdictOf (t .fault)) (ask 11 (eqb (t .start) 0))
+  from-above r n e = e ∙ ap (low (verdictOf (t .fault))) (raised (t .start) n)
 
 pub so-far : (t : Tally) {r : ℕ} → verdictOf r ≡ low (verdictOf (t .fault)) (ask 11 (eqb (t .start) 0)) → noFault ≤ r → (noFault ≤ t .fault) × (t .start ≡ 0)
 so-far t e h =
