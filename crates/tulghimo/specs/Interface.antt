@@ -1,7 +1,6 @@
 -- What the C functions answer and leave in the lent buffers, from what the calls come to. Definitions only.
 use mathlib.Core.List.{List, [], _∷_}
 use Prim.Native.Nat.{ℕ, _^_, _<_}
-use lib.Seq.{sets}
 use lib.IntN.{ℤ, pos, negℤ}
 use Rattle.gate.specs.Outcome.{Outcome, refused, result}
 use Rattle.record.specs.declared.Fields.{Fields}
@@ -23,26 +22,22 @@ abbrev pub Short : Outcome ℕ → Type 0
 Short (refused n) = Unit {0}
 Short (result n) = n < 2 ^ 63
 
--- The six numbers that a record is told by: the fields in the order of document 01.
-abbrev pub numbersOf : Fields → List ℤ
-numbersOf f = pos (f .kind) ∷ pos (f .length) ∷ pos (f .depth) ∷ f .value ∷ f .floor ∷ f .ceiling ∷ []
-
--- The buffer of six with these numbers stored from its start, or as it was.
+-- The buffer of six: the record's fields in the order of document 01, or as it was.
 abbrev pub fieldsAfter : Outcome Fields → List ℤ → List ℤ
 fieldsAfter (refused n) fields = fields
-fieldsAfter (result f) fields = sets fields 0 (numbersOf f)
+fieldsAfter (result f) fields = pos (f .kind) ∷ pos (f .length) ∷ pos (f .depth) ∷ f .value ∷ f .floor ∷ f .ceiling ∷ []
 
--- The buffer of one with the figure, or as it was.
+-- The buffer of one: the figure, or as it was.
 abbrev pub figureAfter : Outcome ℤ → List ℤ → List ℤ
 figureAfter (refused n) figure = figure
-figureAfter (result z) figure = sets figure 0 (z ∷ [])
+figureAfter (result z) figure = z ∷ []
 
--- The buffer of four with the day's figures, or as it was.
+-- The buffer of four: the day's figures, or as it was.
 abbrev pub figuresAfter : Outcome Figures → List ℤ → List ℤ
 figuresAfter (refused n) figures = figures
-figuresAfter (result f) figures = sets figures 0 (f .net ∷ f .heaviest ∷ f .eaten ∷ f .stamp ∷ [])
+figuresAfter (result f) figures = f .net ∷ f .heaviest ∷ f .eaten ∷ f .stamp ∷ []
 
--- The buffer of three with "the figure, the joins used (its lines) and the number of levels folded", or as it was.
+-- The buffer of three: "the figure, the joins used (its lines) and the number of levels folded", or as it was.
 abbrev pub workAfter : Outcome (Work ℤ) → List ℤ → List ℤ
 workAfter (refused n) totals = totals
-workAfter (result w) totals = sets totals 0 (w .figure ∷ pos (w .joins) ∷ pos (w .levels) ∷ [])
+workAfter (result w) totals = w .figure ∷ pos (w .joins) ∷ pos (w .levels) ∷ []

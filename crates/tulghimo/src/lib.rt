@@ -40,7 +40,7 @@ fn status(w: Written) -> i64
 fn put_figure(z: i64, figure: &mut [i64; 1]) -> i64
     ensures { λ r. ⌜ (r ≡ pos 0) × (now (figure .exit) ≡ figureAfter (result z) (now (figure .entry))) ⌝ }
 {
-    figure[0] = z;
+    *figure = [z];
     0
 }
 
@@ -48,14 +48,7 @@ fn put_figure(z: i64, figure: &mut [i64; 1]) -> i64
 fn put_figures(f: Figures, figures: &mut [i64; 4]) -> i64
     ensures { λ r. ⌜ (r ≡ pos 0) × (now (figures .exit) ≡ figuresAfter (result f) (now (figures .entry))) ⌝ }
 {
-    let net = f.net;
-    let heaviest = f.heaviest;
-    let eaten = f.eaten;
-    let stamp = f.stamp;
-    figures[0] = net;
-    figures[1] = heaviest;
-    figures[2] = eaten;
-    figures[3] = stamp;
+    *figures = [f.net, f.heaviest, f.eaten, f.stamp];
     0
 }
 
@@ -63,12 +56,11 @@ fn put_figures(f: Figures, figures: &mut [i64; 4]) -> i64
 fn put_totals(t: Totals, totals: &mut [i64; 3]) -> i64
     ensures { λ r. ⌜ (r ≡ pos 0) × (now (totals .exit) ≡ workAfter (result (workIn t)) (now (totals .entry))) ⌝ }
 {
-    let figure = t.figure;
-    let joins = number::from_u32(t.joins);
-    let levels = number::from_u32(t.levels);
-    totals[0] = figure;
-    totals[1] = joins;
-    totals[2] = levels;
+    *totals = [
+        t.figure,
+        number::from_u32(t.joins),
+        number::from_u32(t.levels),
+    ];
     0
 }
 
@@ -81,12 +73,14 @@ pub extern "C" fn tulghimo_read(chunk: &[u8], fields: &mut [i64; 6]) -> i64
     let Read::Record(f) = record::read_first(chunk) else {
         return -3;
     };
-    fields[0] = f.kind as i64;
-    fields[1] = f.length as i64;
-    fields[2] = f.depth as i64;
-    fields[3] = number::widen(f.value);
-    fields[4] = number::widen(f.floor);
-    fields[5] = number::widen(f.ceiling);
+    *fields = [
+        f.kind as i64,
+        f.length as i64,
+        f.depth as i64,
+        number::widen(f.value),
+        number::widen(f.floor),
+        number::widen(f.ceiling),
+    ];
     0
 }
 

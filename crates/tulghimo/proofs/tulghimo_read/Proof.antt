@@ -27,45 +27,27 @@ returns c =
     let e : readOf (c .before .before .before .before .args .chunk .now) ≡ refused 3 = sym (c .before .before .read-first .ensures) ∙ ap answerOf (c .enum-told .given .1) in
     rw e (refl, refl)
 
-cast-fields : tie.Need-cast-fields
-cast-fields c = search needs
+cast-t5 : tie.Need-cast-t5
+cast-t5 c = search needs
 
-element-set-from-fields : tie.Need-element-set-from-fields
-element-set-from-fields c = search needs
+cast-t6 : tie.Need-cast-t6
+cast-t6 c = search needs
 
-cast-fields-2 : tie.Need-cast-fields-2
-cast-fields-2 c = search needs
-
-element-set-from-fields-2 : tie.Need-element-set-from-fields-2
-element-set-from-fields-2 c = search needs
-
-cast-fields-3 : tie.Need-cast-fields-3
-cast-fields-3 c = search needs
-
-element-set-from-fields-3 : tie.Need-element-set-from-fields-3
-element-set-from-fields-3 c = search needs
+cast-t7 : tie.Need-cast-t7
+cast-t7 c = search needs
 
 widen-requires : tie.Need-widen-requires
 widen-requires c κs = search needs
 
-element-set-from-fields-4 : tie.Need-element-set-from-fields-4
-element-set-from-fields-4 c = search needs
-
 widen-requires-2 : tie.Need-widen-requires-2
 widen-requires-2 c κs = search needs
-
-element-set-from-fields-5 : tie.Need-element-set-from-fields-5
-element-set-from-fields-5 c = search needs
 
 widen-requires-3 : tie.Need-widen-requires-3
 widen-requires-3 c κs = search needs
 
-element-set-from-fields-6 : tie.Need-element-set-from-fields-6
-element-set-from-fields-6 c = search needs
-
 returns-2 : tie.Need-returns-2
 returns-2 c =
-    let told = c .before .before .before .before .before .before .before .before .before .before in
+    let told = c .before .before .before .before .before .before .before .before .before .before .before in
     let f = told .f .given .0 .0 in
     let e : readOf (told .before .before .before .before .args .chunk .now) ≡ result f = sym (told .before .before .read-first .ensures) ∙ ap answerOf (told .f .given .1) in
     let kb : f .kind < 65536 = search needs in
@@ -79,9 +61,9 @@ returns-2 c =
       toZ-pos w64 {n = f .kind} (omega arith),
       toZ-pos w64 {n = f .length} (omega arith),
       toZ-pos w64 {n = f .depth} (omega arith),
-      back w64 (c .before .before .before .before .widen .result) (c .before .before .before .before .widen .ok) ∙ c .before .before .before .before .widen .ensures ∙ v,
-      back w64 (c .before .before .widen2 .result) (c .before .before .widen2 .ok) ∙ c .before .before .widen2 .ensures ∙ l,
-      back w64 (c .widen3 .result) (c .widen3 .ok) ∙ c .widen3 .ensures ∙ h,
+      back w64 (c .before .before .before .before .before .widen .result) (c .before .before .before .before .before .widen .ok) ∙ c .before .before .before .before .before .widen .ensures ∙ v,
+      back w64 (c .before .before .before .widen2 .result) (c .before .before .before .widen2 .ok) ∙ c .before .before .before .widen2 .ensures ∙ l,
+      back w64 (c .before .widen3 .result) (c .before .widen3 .ok) ∙ c .before .widen3 .ensures ∙ h,
     ) (refl, refl)
 
 pub tulghimo-read-spec : {M : Type 1} → statement M
@@ -92,16 +74,10 @@ tulghimo-read-spec =
     enum-known-f
     enum-told
     returns
-    cast-fields
-    element-set-from-fields
-    cast-fields-2
-    element-set-from-fields-2
-    cast-fields-3
-    element-set-from-fields-3
+    cast-t5
+    cast-t6
+    cast-t7
     widen-requires
-    element-set-from-fields-4
     widen-requires-2
-    element-set-from-fields-5
     widen-requires-3
-    element-set-from-fields-6
     returns-2)
