@@ -29,7 +29,7 @@ use Rattle.text.specs.Decimal.{digitsIn, digitsOf, decimalOf}
 use Rattle.chunk.specs.Chunk.{wholeLog}
 use Rattle.outcome.specs.Day.{figureIn, figuresOf, dayOutcome}
 use Rattle.outcome.specs.Line.{ascii, lineText, dayLine}
-use Rattle.outcome.specs.Outcomes.{twoTo64, askRow, askLog, lineBytes, planBytes, runBytes, runsBytes, planOutcome, runsOutcome}
+use Rattle.outcome.specs.Outcomes.{twoTo64, askRow, askLog, lineBytes, planBytes, runLength, runBytes, runsBytes, planOutcome, runsOutcome}
 
 -- ---- what is asked of the calls, as numbers
 
@@ -64,7 +64,7 @@ plan mode cs = onward (summaries mode cs) (λ ps. onResult words (planOutcome (e
 abbrev run : (mode : ℕ) → List (List ℕ) → Outcome (List ℤ)
 run mode cs =
     onward (summaries mode cs)
-    (λ ps. onResult (λ w. words (take 6 w) ++ (i64At w 6 ∷ i64At w 14 ∷ i64At w 22 ∷ [])) (runsOutcome (endToEnd ps) 30))
+    (λ ps. onResult (λ w. words (take 6 w) ++ (i64At w 6 ∷ i64At w 14 ∷ i64At w 22 ∷ [])) (runsOutcome (endToEnd ps) runLength))
 
 -- What finish answers of a log's summary.
 abbrev finish : (mode : ℕ) → List ℕ → Outcome (List ℤ)

@@ -76,8 +76,11 @@ unfoldable pub planBytes : Summaries → List ℕ
 planBytes s = linesBytes (planOfRow (s .row))
 
 -- A run: "length 30, kind 20, mode, three signed 64-bit numbers".
+abbrev pub runLength : ℕ
+runLength = 30
+
 unfoldable pub runBytes : (mode : ℕ) → Run → List ℕ
-runBytes mode k = bytesOf 2 30 ++ (bytesOf 2 20 ++ (bytesOf 2 mode ++ (i64Bytes (k .first) ++ (i64Bytes (k .second) ++ i64Bytes (k .third)))))
+runBytes mode k = bytesOf 2 runLength ++ (bytesOf 2 20 ++ (bytesOf 2 mode ++ (i64Bytes (k .first) ++ (i64Bytes (k .second) ++ i64Bytes (k .third)))))
 
 -- In mode m, with the run's numbers as they are stored.
 abbrev pub eachRun : (m : ℕ) → List (modeOf m .context .K) → List ℕ

@@ -14,7 +14,7 @@ use Rattle.figure.specs.declared.Run.{Run}
 use Rattle.summary.specs.Layout.{SummaryIn}
 use Rattle.join_plan.specs.Plan.{Line}
 use Rattle.plan_work.specs.Runs.{runOf, runLevels, runsAlong}
-use Rattle.outcome.specs.Outcomes.{runBytes, eachRun}
+use Rattle.outcome.specs.Outcomes.{runLength, runBytes, eachRun}
 use Rattle.row_plan.specs.Arrays.{lineIn, linesIn}
 use Rattle.run_level.specs.declared.Place.{Place}
 use Rattle.run_level.specs.Levels.{placeIn}
@@ -80,11 +80,11 @@ module _ (row : List ℕ) (m : ℕ) (is js lows highs : List ℕ) where
   these-next : (k : ℕ) → these (suc k) ≡ these k ++ runOf (modeOf m .context) (runLevels (modeOf m .algebra) (rowIn m row) (lineIn is js lows highs k))
   these-next k = along-append m (rowIn m row) (linesIn is js lows highs k) (lineIn is js lows highs k ∷ []) ∙ ap (λ t. these k ++ t) (along-one m (rowIn m row) (lineIn is js lows highs k))
 
-  pub one-written : (b out out′ : List ℕ) (k : ℕ) (r : Run) → Written b out k → LineRun row m (lineIn is js lows highs k) r → out′ ≡ sets out (30 * k) (runBytes m r) → Written b out′ (k + 1)
+  pub one-written : (b out out′ : List ℕ) (k : ℕ) (r : Run) → Written b out k → LineRun row m (lineIn is js lows highs k) r → out′ ≡ sets out (runLength * k) (runBytes m r) → Written b out′ (k + 1)
   one-written b out out′ k r w v e =
       let new = runOf (modeOf m .context) (runLevels (modeOf m .algebra) (rowIn m row) (lineIn is js lows highs k)) in
       let one : length new ≡ 1 = sym (length-map new (modeOf m .storeRun)) ∙ ap length v in
-      let n : 30 * k ≡ 0 + length (eachRun m (these k)) = omega (arith, length-each m (these k), w .count) in
+      let n : runLength * k ≡ 0 + length (eachRun m (these k)) = omega (arith, length-each m (these k), w .count) in
       rw add-one record {
         count = ap length (these-next k) ∙ omega (arith, length-append (these k) new, one, w .count);
         bytes =

@@ -3,8 +3,10 @@ ghost use mathlib.Core.Path.{_≡_};
 ghost use Prim.Native.Nat.{_*_, _≤_};
 ghost use lib.ListN.{length};
 ghost use lib.Seq.{sets};
+ghost use Rattle.outcome.specs.Outcomes.{runLength};
 ghost use Rattle.row_plan.specs.Arrays.{lineIn, linesIn};
 ghost use Rattle.runs.specs.Runs.{Lines, LineAt, LineRun, linesRuns};
+use super::bytes::RUN_LENGTH;
 use super::bytes::write_run;
 use super::line::run_of_line;
 use figure::Run;
@@ -45,13 +47,13 @@ pub fn write_each(
     out: &mut [u8],
 )
     requires { ⌜ Lines (now row) mode (now ats) (now starts) (now peaks) (now is) (now js) (now lows) (now highs) n ⌝ }
-    requires { ⌜ 30 * n ≤ length (now out) ⌝ }
+    requires { ⌜ runLength * n ≤ length (now out) ⌝ }
     ensures { λ _. ⌜ now (out .exit) ≡ sets (now (out .entry)) 0 (linesRuns (now (row .entry)) mode (linesIn (now (is .entry)) (now (js .entry)) (now (lows .entry)) (now (highs .entry)) n)) ⌝ }
 {
     let mut k: usize = 0;
     while k < n {
         let run = run_at(row, ats, starts, peaks, is, js, lows, highs, k, mode);
-        write_run(out, 30 * k, mode, run);
+        write_run(out, RUN_LENGTH * k, mode, run);
         k += 1;
     }
 }

@@ -45,7 +45,7 @@ fn write_runs(
         &mut lows,
         &mut highs,
     );
-    let total = 30 * n;
+    let total = bytes::RUN_LENGTH * n;
     if out.len() < total {
         return Written::Refused(12);
     }

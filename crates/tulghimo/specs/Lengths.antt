@@ -3,7 +3,7 @@ use mathlib.Core.Path.{_≡_, refl, sym, subst}
 use mathlib.Core.Bool.{Bool, true, false, _&&_}
 use mathlib.Core.List.{List}
 use mathlib.Core.Logic.{dite}
-use Prim.Native.Nat.{ℕ, _≤_, min}
+use Prim.Native.Nat.{ℕ, _^_, _≤_, _<_, min}
 use native.Mathlib.Decide.{decLt}
 use native.Mathlib.Omega.{arith}
 use lib.Dec.{leb, eqb}
@@ -38,8 +38,8 @@ short-question : (n : ℕ) (t : Bool) (o : Outcome (List ℕ)) → Short (length
 short-question n true o h = h
 short-question n false o h = tt
 
-short-written : (cap : ℕ) (w : List ℕ) → length w ≤ 3750 → Short (lengthAnswered (written cap w))
-short-written cap w h = short-question 12 (leb (length w) cap) (result w) (omega arith)
+short-written : (cap : ℕ) (w : List ℕ) → length w < 2 ^ 63 → Short (lengthAnswered (written cap w))
+short-written cap w h = short-question 12 (leb (length w) cap) (result w) h
 
 fits : (cap : ℕ) (w : List ℕ) → length w ≤ 1788 → Short (lengthAnswered (written cap w))
 fits cap w h = short-written cap w (omega arith)
@@ -87,7 +87,7 @@ short-row row cap = dite (decLt n 2) (λ h. short-refused _ (few-4 row cap refl 
     go a b (result m) e = subst (λ (o : Outcome (List ℕ)). Short (lengthAnswered o)) (sym (row-is row cap refl a b (sym e))) (fits cap (rowMerged m row) (summary-fits (is-row row cap refl a b (sym e))))
 
 -- A call on a row that writes short bytes for the rows that are let through is short.
-short-along : (bytes : Summaries → List ℕ) (ps : List (List ℕ)) (cap : ℕ) → ((s t : Summaries) → askRow ps ≡ result s → askLog s ≡ result t → length (bytes t) ≤ 3750) →
+short-along : (bytes : Summaries → List ℕ) (ps : List (List ℕ)) (cap : ℕ) → ((s t : Summaries) → askRow ps ≡ result s → askLog s ≡ result t → length (bytes t) < 2 ^ 63) →
     Short (lengthAnswered (onward (askRow ps) (λ s. onward (askLog s) (λ t. written cap (bytes t)))))
 short-along bytes ps cap h = go (askRow ps) refl
   where
@@ -107,4 +107,4 @@ short-plan row cap = short-along planBytes (rowPieces row) cap (λ s t e f. omeg
 -- .. and its runs 3,750.
 pub short-runs : (row : List ℕ) (cap : ℕ) → Short (lengthAnswered (runsOutcome row cap))
 unfolding runsOutcome
-short-runs row cap = short-along runsBytes (rowPieces row) cap (runs-3750 (rowPieces row))
+short-runs row cap = short-along runsBytes (rowPieces row) cap (λ s t e f. omega (arith, runs-3750 (rowPieces row) s t e f))

@@ -8,6 +8,9 @@ use borrow.Author.Needs.{needs}
 use Rattle.runs.proofs.bytes.write_run.Statement.{statement}
 use Rattle.runs.proofs.bytes.write_run.Tie as tie
 
+cast-write-u16 : tie.Need-cast-write-u16
+cast-write-u16 c = search needs
+
 write-u16-requires : tie.Need-write-u16-requires
 write-u16-requires c κs = search needs
 
@@ -53,6 +56,7 @@ pub write-run-spec : {M : Type 1} → statement M
 write-run-spec =
     tie.close
     (tie.spec
+    cast-write-u16
     write-u16-requires
     add-write-u16
     write-u16-requires-2
