@@ -1,7 +1,7 @@
 -- The row of demand 3: a log and its cut, the row that summarise writes, a list of merges on it, and what holds of all that. Definitions only.
 use mathlib.Core.Path.{_≡_}
 use mathlib.Core.Logic.{_↔_}
-use mathlib.Core.Bool.{_&&_, cond}
+use mathlib.Core.Bool.{true, _&&_, cond}
 use mathlib.Core.List.{List, [], _∷_, map, List·Memᴰ}
 use Prim.Native.Nat.{ℕ, zero, suc, _+_, _*_, _≤_, _<_}
 use lib.Dec.{leb, eqb}
@@ -14,7 +14,7 @@ use Rattle.row.specs.Row.{endToEnd}
 use Rattle.record.specs.Record.{recordsOf}
 use Rattle.record.specs.declared.Fields.{Fields}
 use Rattle.figure.specs.FourModes.{Amounts}
-use Rattle.figure.specs.Mode.{modeOf}
+use Rattle.figure.specs.Mode.{modeOf, modeInUse}
 use Rattle.hill.specs.Log.{Record}
 use Rattle.hill.specs.Questions.{NoOfLog}
 use Rattle.hill.specs.Closing.{ClosedBy}
@@ -100,8 +100,7 @@ AllChunks mode [] [] = Unit {0}
 
 -- Every log of readable records, every mode, every cut of the log between records into chunks within the limits, some perhaps blank.
 pub record IsCut (mode : ℕ) (log places : List ℕ) (buffers : List (List ℕ)) : Type 0 where
-  pub mode-low : 1 ≤ mode
-  pub mode-high : mode ≤ 4
+  pub mode-in-use : modeInUse mode ≡ true
   pub readable : (fs : List Fields) × (recordsOf log ≡ result fs)
   pub between : InOrder 0 places (length (fieldsRead log))
   pub each : AllChunks mode (cutAt log places) buffers

@@ -3,7 +3,7 @@ use mathlib.Core.Path.{_≡_, refl, sym, ap, subst, _∙_}
 use mathlib.Core.Logic.{_↔_}
 use mathlib.Core.Bool.{true}
 use mathlib.Core.List.{List, map}
-use Prim.Native.Nat.{ℕ, _≤_, _<_}
+use Prim.Native.Nat.{ℕ, _<_}
 use native.Mathlib.Omega.{arith}
 use lib.Dec.{leb}
 use lib.ListN.{length, length-map}
@@ -26,7 +26,7 @@ use Rattle.claim.specs.Cut.{parts-joined, cut-read, cut-reads, cut-recor
 use Rattle.claim.specs.Lines.{PlanBy, plan-by}
 use Rattle.claim.specs.Calls.{list-same}
 use Rattle.claim.specs.LogRow.{says, finish-log, lines, work-log, figure-log, plan-log, plan-fault, plan-4, work-4}
-use Rattle.claim.specs.FirstRow.{first-row, in-use, only-one, told-lengths, lengths}
+use Rattle.claim.specs.FirstRow.{first-row, only-one, told-lengths, lengths}
 
 -- The verdict on a log, by its questions.
 module _ (xs : List (Record Amounts)) where
@@ -77,7 +77,7 @@ module _ (m : ℕ) (log places : List ℕ) (buffers : List (List ℕ)) (i : IsCu
   cs = cutAt log places
 
   used : modeInUse m ≡ true
-  used = in-use m (i .mode-low) (i .mode-high)
+  used = i .mode-in-use
 
   reads : AllRead cs
   reads = cut-reads log places (i .readable) (i .between)
@@ -143,10 +143,10 @@ pub demand3 : (mode : ℕ) (log places : List ℕ) (buffers : List (List ℕ)) (
 demand3 mode log places buffers merges i p = holds mode log places buffers i merges p
 
 -- Nothing is lost by speaking of places: any readable chunks are a cut of what they join to (Cut, every-cut), so the claim holds of them.
-pub any-chunks : (mode : ℕ) (chunks buffers : List (List ℕ)) (merges : List (Call Lent)) → 1 ≤ mode → mode ≤ 4 → 0 < length chunks → AllRead chunks → AllChunks mode chunks buffers →
+pub any-chunks : (mode : ℕ) (chunks buffers : List (List ℕ)) (merges : List (Call Lent)) → modeInUse mode ≡ true → 0 < length chunks → AllRead chunks → AllChunks mode chunks buffers →
     Proper byCalls Neighbours merges (firstRow mode chunks buffers) → (places : List ℕ) × (cutAt (joined chunks) places ≡ chunks) × Claimed mode (joined chunks) places buffers merges
-any-chunks mode chunks buffers merges l h n a c p =
+any-chunks mode chunks buffers merges u n a c p =
     let (places, o, e) = every-cut (joined chunks) chunks n a refl in
     let i : IsCut mode (joined chunks) places buffers =
-    record { mode-low = l; mode-high = h; readable = reads-joined chunks a; between = o; each = subst (λ (cs : List (List ℕ)). AllChunks mode cs buffers) (sym e) c } in
+    record { mode-in-use = u; readable = reads-joined chunks a; between = o; each = subst (λ (cs : List (List ℕ)). AllChunks mode cs buffers) (sym e) c } in
     (places, e, demand3 mode (joined chunks) places buffers merges i (subst (λ (cs : List (List ℕ)). Proper byCalls Neighbours merges (firstRow mode cs buffers)) (sym e) p))

@@ -50,10 +50,9 @@ unfolding leAt bytesOf within inRange accepted whole byShape readOf recordsIn re
 D-cut = refl
 
 is-cut : IsCut 1 logD places buffers
-unfolding leAt bytesOf within inRange accepted whole byShape readOf recordsIn recordsOf modeOf joint count cut encode summaryBytes fieldsRead recordsRead cutAt stretchBytes
+unfolding leAt bytesOf within inRange accepted whole byShape readOf recordsIn recordsOf modeInUse modeOf joint count cut encode summaryBytes fieldsRead recordsRead cutAt stretchBytes
 is-cut = record {
-  mode-low = lit≤ tt;
-  mode-high = lit≤ tt;
+  mode-in-use = refl;
   readable = (_, refl);
   between = (lit≤ tt, (lit≤ tt, (lit≤ tt, (lit≤ tt, lit≤ tt))));
   each = (record { short = lit≤ tt; long-enough = lit≤ tt }, (record { short = lit≤ tt; long-enough = lit≤ tt }, (record { short = lit≤ tt; long-enough = lit≤ tt }, (record { short = lit≤ tt; long-enough = lit≤ tt }, (record { short = lit≤ tt; long-enough = lit≤ tt }, tt)))));

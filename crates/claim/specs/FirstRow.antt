@@ -32,10 +32,6 @@ module _ (m : ℕ) (u : modeInUse m ≡ true) where
   first-row [] (b ∷ bs) a i = absurd i
   first-row [] [] a i = refl
 
-pub in-use : (m : ℕ) → 1 ≤ m → m ≤ 4 → modeInUse m ≡ true
-unfolding modeInUse
-in-use m a b = rw (le-leb 1 m a, le-leb m 4 b)
-
 -- A row of one piece is the summary of the whole.
 pub only-one : (f : List ℕ → List ℕ) (st : List (List ℕ)) (p : List ℕ) → map f st ≡ p ∷ [] → p ≡ f (joined st)
 only-one f [] p e = cc

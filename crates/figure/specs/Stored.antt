@@ -1,12 +1,15 @@
 -- The operations on stored numbers, and their laws, the same for each mode. Assumes nothing.
 use mathlib.Core.Path.{_≡_, sym, ap, _∙_, subst}
+use mathlib.Core.Bool.{Bool, true, false, _&&_}
 use Prim.Native.Nat.{ℕ, _+_, _^_, _≤_, _<_}
 use native.Mathlib.Omega.{arith}
+use lib.Dec.{T, leb}
 use lib.IntN.{ℤ, natAbs}
+use borrow.Author.Tests.{leb-true}
 use Rattle.algebra.specs.Run.{Level}
 use Rattle.algebra.specs.Sizes.{cost}
 use Rattle.figure.specs.FourModes.{Amounts, limit, InRange}
-use Rattle.figure.specs.Mode.{Mode}
+use Rattle.figure.specs.Mode.{Mode, modeInUse}
 use Rattle.figure.specs.declared.Run.{Run}
 
 -- ---- definitions
@@ -74,6 +77,17 @@ pub record Composes (M : Mode) (f g : Run) : Type 0 where
   pub outer-within : RunWithin M f outer
   pub inner-within : RunWithin M g inner
   pub room : outer + inner < 2 ^ 63
+
+-- ---- the modes by their numbers
+
+-- a mode in use is small
+pub mode-small : (m : ℕ) → modeInUse m ≡ true → m ≤ 4
+unfolding modeInUse
+mode-small m u = leb-true m 4 (right (leb 1 m) (leb m 4) u)
+  where
+    right : (a b : Bool) → a && b ≡ true → b ≡ true
+    right true b e = e
+    right false b e = absurd (subst T (sym e) tt)
 
 -- ---- nothing held
 

@@ -1,11 +1,10 @@
 -- The questions that summarise asks before it writes. Assumes nothing.
-use mathlib.Core.Path.{_≡_, refl, sym, subst}
-use mathlib.Core.Bool.{Bool, true, false, _&&_}
+use mathlib.Core.Path.{_≡_, refl}
+use mathlib.Core.Bool.{true, false}
 use mathlib.Core.List.{List}
 use Prim.Native.Nat.{ℕ, _≤_, _<_}
-use lib.Dec.{T, leb}
 use lib.ListN.{length}
-use borrow.Author.Tests.{le-leb, lt-leb, leb-true}
+use borrow.Author.Tests.{le-leb, lt-leb}
 use Rattle.gate.specs.Outcome.{Outcome, refused, bufferAfter}
 use Rattle.gate.specs.Answers.{writtenAnswer, lengthAnswered}
 use Rattle.gate.specs.declared.Written.{Written}
@@ -13,14 +12,6 @@ use Rattle.record.specs.Record.{recordsOf}
 use Rattle.figure.specs.Mode.{modeInUse}
 use Rattle.summary.specs.Outcomes.{summariseOutcome}
 use Rattle.emit.specs.Emitted.{Answers}
-
-low-mode : (a b : Bool) → a && b ≡ true → b ≡ true
-low-mode true b e = e
-low-mode false b e = absurd (subst T (sym e) tt)
-
-pub mode-small : (m : ℕ) → modeInUse m ≡ true → m ≤ 4
-unfolding modeInUse
-mode-small m e = leb-true m 4 (low-mode (leb 1 m) (leb m 4) e)
 
 module _ (chunk : List ℕ) (m cap : ℕ) where
   pub no-mode : modeInUse m ≡ false → summariseOutcome chunk m cap ≡ refused 1

@@ -4,16 +4,14 @@ use mathlib.Core.Logic.{_≢_}
 use mathlib.Core.Bool.{Bool, true, false, cond}
 use Prim.Native.Nat.{ℕ, zero, suc}
 use native.Mathlib.Omega.{arith}
-use lib.Dec.{leb}
 use lib.IntN.{ℤ, natAbs}
-use borrow.Author.Tests.{leb-true}
 use Rattle.figure.specs.FourModes.{limit, nothing, readHeld, storeHeld, isStamp}
 use Rattle.figure.specs.Bound.{sizeHeld}
 use Rattle.figure.specs.StoreLaws.{read-figure, held-stored, is-stamp, stamp-is}
 use Rattle.figure.specs.Mode.{Mode, modeOf, modeInUse}
-use Rattle.figure.specs.Stored.{IsStored, sizeOf, none}
+use Rattle.figure.specs.Stored.{mode-small, IsStored, sizeOf, none}
 use Rattle.summary.specs.Judge.{same, nothingIn, counted}
-use Rattle.summary.specs.Tests.{Tells, tells-same, false-true, and-right}
+use Rattle.summary.specs.Tests.{Tells, tells-same, false-true}
 
 -- Mode M has number m.
 pub record Numbered (m : ℕ) (M : Mode) : Type 0 where
@@ -79,4 +77,4 @@ numbered (suc (suc (suc (suc zero)))) u = record {
   stamp-stored = λ _ z e. is-stamp z e;
   stored-stamp = λ _ z e. stamp-is z e;
 }
-numbered (suc (suc (suc (suc (suc m))))) u = absurd (omega (arith, leb-true (suc (suc (suc (suc (suc m))))) 4 (and-right (leb 1 (suc (suc (suc (suc (suc m)))))) (leb (suc (suc (suc (suc (suc m))))) 4) u)))
+numbered (suc (suc (suc (suc (suc m))))) u = absurd (omega (arith, mode-small (suc (suc (suc (suc (suc m))))) u))

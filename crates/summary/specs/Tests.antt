@@ -20,10 +20,6 @@ pub record Tells (P : Type 0) (t : Bool) : Type 0 where
 pub false-true : {P : Type 0} → false ≡ true → P
 false-true e = let z : _≡_ {A = ℕ} 0 1 = cc in absurd (omega arith)
 
-pub and-right : (s t : Bool) → s && t ≡ true → t ≡ true
-and-right true t e = e
-and-right false t e = false-true e
-
 pub tells-le : (m n : ℕ) → Tells (m ≤ n) (leb m n)
 tells-le m n = record { to = le-leb m n; from = leb-true m n }
 

@@ -4,24 +4,22 @@ use mathlib.Core.Bool.{true}
 use mathlib.Core.List.{List, [], _++_, append-nil}
 use Prim.Native.Nat.{ℕ, _+_, _*_, _≤_, _<_}
 use native.Mathlib.Omega.{arith}
-use lib.Dec.{leb, lit≤, lit<}
+use lib.Dec.{lit≤, lit<}
 use lib.ListN.{length, drop}
 use mir.Syntax.{w64}
 use mir.Val.{ofZ, toZ}
-use borrow.Author.Tests.{leb-true}
 use Rattle.number.specs.Bytes.{leAt, bytesOf}
 use Rattle.number.specs.Laws.{field-here, field-past, length-bytesOf}
 use Rattle.figure.specs.FourModes.{Amounts}
 use Rattle.figure.specs.Bound.{bound-fits}
 use Rattle.figure.specs.Mode.{Mode, modeInUse}
-use Rattle.figure.specs.Stored.{IsStored}
+use Rattle.figure.specs.Stored.{mode-small, IsStored}
 use Rattle.hill.specs.Summary.{hill, Summary, blank, part, spoilt, whole}
 use Rattle.hill.specs.Valid.{weight, ValidHill, ValidSpoilt, ValidSummary}
 use Rattle.hill.specs.ValidLaws.{hill-length}
 use Rattle.summary.specs.Layout.{i64Bytes, leftBytes, rightBytes, hillBytes, layout}
 use Rattle.summary.specs.Judge.{lengthAt, kindAt, modeAt, openedAt, riseAt, fallAt, middleAt, HasLayout, IsSummary, isBlank, isSpoilt, isHill}
 use Rattle.summary.specs.Decode.{hillIn, reading, leftsIn, rightsIn}
-use Rattle.summary.specs.Tests.{and-right}
 use Rattle.summary.specs.ModeValues.{Numbered}
 use Rattle.summary.specs.Fields.{behind, field-from, drop-past}
 use Rattle.summary.specs.Values.{}
@@ -52,10 +50,6 @@ head n kind m x y z o rest hn hk hm hx hy hz ho =
       opened-is = simp (field-past, lit≤, tt {0}) (field-here 4 o _ ho);
       rest-is = simp (drop-past, lit≤, tt {0});
     }
-
-in-use-small : (m : ℕ) → modeInUse m ≡ true → m < 65536
-unfolding modeInUse
-in-use-small m u = omega (arith, leb-true m 4 (and-right (leb 1 m) (leb m 4) u))
 
 -- The bytes b are a summary in mode m, and say s.
 pub record Says (M : Mode) (m : ℕ) (b : List ℕ) (s : Summary (M .algebra .Fig) Amounts) : Type 0 where
@@ -149,7 +143,7 @@ module _ (M : Mode) (m : ℕ) (N : Numbered m M) (u : modeInUse m ≡ true) wher
   pub says : (s : Summary (M .algebra .Fig) Amounts) → ValidSummary (M .algebra) (M .sizes) s → Says M m (layout (M .store) m s) s
   says blank v =
       let k : kindAt (layout (M .store) m blank) ≡ 16 = simp (field-past, lit≤, tt {0}) (field-here 2 16 _ (lit< tt)) in
-      let e : modeAt (layout (M .store) m blank) ≡ m = simp (field-past, lit≤, tt {0}) (field-here 2 m [] (in-use-small m u)) in
+      let e : modeAt (layout (M .store) m blank) ≡ m = simp (field-past, lit≤, tt {0}) (field-here 2 m [] (omega (arith, mode-small m u))) in
       record {
         mode-is = e;
         is = isBlank (record {
@@ -163,10 +157,10 @@ module _ (M : Mode) (m : ℕ) (N : Numbered m M) (u : modeInUse m ≡ true) wher
   says (part (spoilt f s e o)) v =
       let b : List ℕ = layout (M .store) m (part (spoilt f s e o)) in
       let h : Head b 16 17 m f s e o [] =
-      rw (append-nil (bytesOf 4 o)) at (head 16 17 m f s e o [] (lit< tt) (lit< tt) (in-use-small m u) (omega (arith, v .high-fault)) (omega (arith, v .start-high)) (omega (arith, v .end-high)) (omega (arith, v .few))) in
+      rw (append-nil (bytesOf 4 o)) at (head 16 17 m f s e o [] (lit< tt) (lit< tt) (omega (arith, mode-small m u)) (omega (arith, v .high-fault)) (omega (arith, v .start-high)) (omega (arith, v .end-high)) (omega (arith, v .few))) in
       says-spoilt M m N u b f s e o [] v h (layout-length (M .store) m (part (spoilt f s e o)))
   says (part (whole p o (hill us w ds))) v =
       says-hill M m N u (layout (M .store) m (part (whole p o (hill us w ds)))) p o us w ds v
       (head (24 + 8 * length us + 20 * length ds) 18 m (p + length us) p (p + length ds) o (hillBytes (M .store) (hill us w ds))
-      (omega (arith, hill-length (M .algebra) (M .sizes) p o (hill us w ds) v)) (lit< tt) (in-use-small m u) (omega (arith, v .start-high)) (omega (arith, v .start-high)) (omega (arith, v .end-high)) (omega (arith, v .few)))
+      (omega (arith, hill-length (M .algebra) (M .sizes) p o (hill us w ds) v)) (lit< tt) (omega (arith, mode-small m u)) (omega (arith, v .start-high)) (omega (arith, v .start-high)) (omega (arith, v .end-high)) (omega (arith, v .few)))
       (layout-length (M .store) m (part (whole p o (hill us w ds))))
