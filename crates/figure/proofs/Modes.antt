@@ -7,7 +7,7 @@ use lib.Signed.{_≤ℤ_, _<ℤ_}
 use Rattle.number.specs.IntegerLaws.{zed}
 use Rattle.number.specs.Integer.{up}
 use Rattle.figure.specs.Mode.{Mode, modeOf}
-use Rattle.figure.specs.Stored.{IsStored, sizeOf, none, combined}
+use Rattle.figure.specs.Stored.{IsStored, sizeOf, combined}
 
 -- a stored stamp is 0 to 2^32 - 1
 pub stamp-range : (z : ℤ) → IsStored (modeOf 4) z → (pos 0 ≤ℤ z) × (z <ℤ pos 4294967296)
@@ -56,13 +56,3 @@ any-figure (suc (suc zero)) n4 z = refl
 any-figure (suc (suc (suc zero))) n4 z = refl
 any-figure (suc (suc (suc (suc zero)))) n4 z = absurd (n4 refl)
 any-figure (suc (suc (suc (suc (suc n))))) n4 z = refl
-
--- nothing held is 0, but in mode 2
-pub plain-none : (m : ℕ) → (m ≡ 2 → ⊥) → none (modeOf m) ≡ pos 0
-unfolding none modeOf
-plain-none zero n2 = refl
-plain-none (suc zero) n2 = refl
-plain-none (suc (suc zero)) n2 = absurd (n2 refl)
-plain-none (suc (suc (suc zero))) n2 = refl
-plain-none (suc (suc (suc (suc zero)))) n2 = refl
-plain-none (suc (suc (suc (suc (suc n))))) n2 = refl

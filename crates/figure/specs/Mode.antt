@@ -3,7 +3,7 @@ use mathlib.Core.Path.{_≡_, refl}
 use mathlib.Core.Bool.{Bool, true, _&&_}
 use mathlib.Core.List.{List}
 use Prim.Native.Nat.{ℕ, zero, suc, _^_, _≤_, _<_}
-use lib.Dec.{leb, lit≤}
+use lib.Dec.{leb, eqb, lit≤}
 use lib.IntN.{ℤ, +ℤ-comm}
 use mir.Syntax.{w64}
 use mir.Val.{SFits}
@@ -145,6 +145,10 @@ mode4 = record {
 -- "Is the mode 1 to 4?"
 unfoldable pub modeInUse : ℕ → Bool
 modeInUse m = leb 1 m && leb m 4
+
+-- "'Nothing held' counts as 0 in modes 1, 3 and 4. In mode 2 it is no number, and is stored as -2^63."
+abbrev pub storesNothing : ℕ → Bool
+storesNothing m = eqb m 2
 
 -- by its number; a number that is no mode stands for mode 1, and no call gets so far with it
 unfoldable pub modeOf : ℕ → Mode

@@ -1,15 +1,16 @@
 -- The operations on stored numbers, and their laws, the same for each mode. Assumes nothing.
-use mathlib.Core.Path.{_≡_, sym, ap, _∙_, subst}
-use mathlib.Core.Bool.{Bool, true, false, _&&_}
-use Prim.Native.Nat.{ℕ, _+_, _^_, _≤_, _<_}
+use mathlib.Core.Path.{_≡_, refl, sym, ap, _∙_, subst}
+use mathlib.Core.Bool.{Bool, true, false, cond, _&&_}
+use Prim.Native.Nat.{ℕ, zero, suc, _+_, _^_, _≤_, _<_}
 use native.Mathlib.Omega.{arith}
 use lib.Dec.{T, leb}
-use lib.IntN.{ℤ, natAbs}
-use borrow.Author.Tests.{leb-true}
+use lib.IntN.{ℤ, pos, natAbs}
+use borrow.Author.Tests.{leb-true, ne-eqb}
 use Rattle.algebra.specs.Run.{Level}
 use Rattle.algebra.specs.Sizes.{cost}
-use Rattle.figure.specs.FourModes.{Amounts, limit, InRange}
-use Rattle.figure.specs.Mode.{Mode, modeInUse}
+use Rattle.figure.specs.FourModes.{Amounts, limit, InRange, nothing, storeHeld, readHeld}
+use Rattle.figure.specs.Mode.{Mode, modeInUse, storesNothing, modeOf}
+use Rattle.figure.specs.Bound.{sizeHeld}
 use Rattle.figure.specs.declared.Run.{Run}
 
 -- ---- definitions
@@ -88,6 +89,25 @@ mode-small m u = leb-true m 4 (right (leb 1 m) (leb m 4) u)
     right : (a b : Bool) → a && b ≡ true → b ≡ true
     right true b e = e
     right false b e = absurd (subst T (sym e) tt)
+
+-- nothing held, and what a number counts, by whether nothing held is no number; in mode 4 a number counts 0
+pub none-is : (m : ℕ) → none (modeOf m) ≡ cond (storesNothing m) nothing (pos 0)
+unfolding none modeOf storeHeld
+none-is zero = refl
+none-is (suc zero) = refl
+none-is (suc (suc zero)) = refl
+none-is (suc (suc (suc zero))) = refl
+none-is (suc (suc (suc (suc zero)))) = refl
+none-is (suc (suc (suc (suc (suc m))))) = sym (ap (λ (t : Bool). cond t nothing (pos 0)) (ne-eqb (suc (suc (suc (suc (suc m))))) 2 (λ e. omega arith)))
+
+pub size-is : (m : ℕ) → (m ≡ 4 → ⊥) → (z : ℤ) → sizeOf (modeOf m) z ≡ cond (storesNothing m) (sizeHeld (readHeld z)) (natAbs z)
+unfolding sizeOf modeOf
+size-is zero n z = refl
+size-is (suc zero) n z = refl
+size-is (suc (suc zero)) n z = refl
+size-is (suc (suc (suc zero))) n z = refl
+size-is (suc (suc (suc (suc zero)))) n z = absurd (n refl)
+size-is (suc (suc (suc (suc (suc m))))) n z = sym (ap (λ (t : Bool). cond t (sizeHeld (readHeld z)) (natAbs z)) (ne-eqb (suc (suc (suc (suc (suc m))))) 2 (λ e. omega arith)))
 
 -- ---- nothing held
 

@@ -6,7 +6,7 @@ ghost use Rattle.number.specs.Integer.{clamp, wrap};
 ghost use Rattle.figure.specs.FourModes.{lineOf, readHeld, storeHeld};
 ghost use Rattle.figure.specs.Runs.{moved};
 ghost use Rattle.figure.specs.Bound.{sizeHeld};
-ghost use Rattle.figure.specs.Mode.{modeInUse, modeOf};
+ghost use Rattle.figure.specs.Mode.{modeInUse, storesNothing, modeOf};
 ghost use Rattle.figure.specs.Stored.{sizeOf, none, combined, passed, amounts, Combines, Passes};
 
 pub mod runs;
@@ -76,6 +76,13 @@ pub fn in_use(mode: u32) -> bool
     (1 <= mode) & (mode <= 4)
 }
 
+// Whether "nothing held" is no number in the mode.
+pub fn stores_nothing(mode: u16) -> bool
+    ensures { λ r. ⌜ r ≡ storesNothing mode ⌝ }
+{
+    mode == 2
+}
+
 // Whether x stands for a figure.
 pub fn is_figure(mode: u16, x: i64) -> bool
     ensures { λ r. ⌜ r ≡ modeOf mode .isFigure x ⌝ }
@@ -99,8 +106,10 @@ fn size_held(h: Held) -> u64
 pub fn size(mode: u16, x: i64) -> u64
     ensures { λ r. ⌜ r ≡ sizeOf (modeOf mode) x ⌝ }
 {
+    if stores_nothing(mode) {
+        return size_held(read_held(x));
+    }
     match mode {
-        2 => size_held(read_held(x)),
         4 => 0,
         _ => number::magnitude(x),
     }
@@ -112,10 +121,7 @@ pub fn size(mode: u16, x: i64) -> u64
 pub fn nothing(mode: u16) -> i64
     ensures { λ r. ⌜ r ≡ none (modeOf mode) ⌝ }
 {
-    match mode {
-        2 => NOTHING,
-        _ => 0,
-    }
+    if stores_nothing(mode) { NOTHING } else { 0 }
 }
 
 // Nothing is stored as the least number that there is, so that no test for it is needed.

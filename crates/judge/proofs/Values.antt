@@ -2,45 +2,36 @@
 use mathlib.Core.Path.{_≡_, refl, sym, ap, ap₂, _∙_}
 use mathlib.Core.Bool.{Bool, true, false, cond, _&&_}
 use mathlib.Core.List.{List}
-use Prim.Native.Nat.{ℕ, zero, suc, _+_, _*_, min}
+use Prim.Native.Nat.{ℕ, suc, _+_, _*_, min}
 use native.Mathlib.Numerals.{add-one}
 use native.Mathlib.Omega.{arith}
 use lib.Dec.{leb, ltb}
-use lib.IntN.{ℤ, pos, natAbs}
+use lib.IntN.{ℤ, natAbs}
 use borrow.Author.Tests.{leb-true, leb-false, lt-ltb, le-ltb, eq-eqb, ne-eqb}
 use Rattle.number.specs.Bytes.{i64At}
-use Rattle.figure.specs.FourModes.{limit, nothing, storeHeld, isStamp}
-use Rattle.figure.specs.Mode.{modeInUse, modeOf}
-use Rattle.figure.specs.Stored.{sizeOf, none}
+use Rattle.figure.specs.FourModes.{limit, nothing, readHeld, isStamp}
+use Rattle.figure.specs.Bound.{sizeHeld}
+use Rattle.figure.specs.Mode.{storesNothing, modeOf}
+use Rattle.figure.specs.Stored.{sizeOf, none, none-is, size-is}
 use Rattle.summary.specs.Judge.{modeAt, riseAt, fallAt, openedAt, leftAt, middleAt, heldAt, sumTo, same, nothingIn, counted}
 use Rattle.summary.specs.Decide.{allTo, valuesFit}
-use Rattle.summary.specs.ModeValues.{numbered}
+use Rattle.summary.specs.ModeValues.{size-held}
 use Rattle.judge.specs.Laid.{stampsFit, sizesFit, valueIn}
 use Rattle.judge.proofs.Loops.{all-same, sum-same, capped-same}
 
 -- ---- by the mode's number, in use or not
 
 pub nothing-is : (m : ℕ) → none (modeOf m) ≡ nothingIn m
-unfolding none modeOf nothingIn storeHeld
-nothing-is zero = refl
-nothing-is (suc zero) = refl
-nothing-is (suc (suc zero)) = refl
-nothing-is (suc (suc (suc zero))) = refl
-nothing-is (suc (suc (suc (suc zero)))) = refl
-nothing-is (suc (suc (suc (suc (suc m))))) = sym (ap (λ (t : Bool). cond t nothing (pos 0)) (ne-eqb (suc (suc (suc (suc (suc m))))) 2 (λ e. omega arith)))
+unfolding nothingIn
+nothing-is m = none-is m
 
-size-two : (z : ℤ) → sizeOf (modeOf 2) z ≡ counted 2 z
-unfolding modeInUse
-size-two z = numbered 2 refl .size-is (λ e. omega arith) z
-
-size-is : (m : ℕ) → (m ≡ 4 → ⊥) → (z : ℤ) → sizeOf (modeOf m) z ≡ counted m z
-unfolding sizeOf modeOf counted
-size-is zero n z = refl
-size-is (suc zero) n z = refl
-size-is (suc (suc zero)) n z = size-two z
-size-is (suc (suc (suc zero))) n z = refl
-size-is (suc (suc (suc (suc zero)))) n z = absurd (n refl)
-size-is (suc (suc (suc (suc (suc m))))) n z = sym (ap (λ (t : Bool). cond (t && same z nothing) 0 (natAbs z)) (ne-eqb (suc (suc (suc (suc (suc m))))) 2 (λ e. omega arith)))
+size-counted : (m : ℕ) → (m ≡ 4 → ⊥) → (z : ℤ) → sizeOf (modeOf m) z ≡ counted m z
+unfolding counted
+size-counted m n z = size-is m n z ∙ go (storesNothing m)
+  where
+    go : (t : Bool) → cond t (sizeHeld (readHeld z)) (natAbs z) ≡ cond (t && same z nothing) 0 (natAbs z)
+    go true = size-held z
+    go false = refl
 
 stamp-is : (z : ℤ) → modeOf 4 .isFigure z ≡ isStamp z
 unfolding modeOf isStamp
@@ -104,7 +95,7 @@ module _ (b : List ℕ) where
   pub values-sizes : (modeAt b ≡ 4 → ⊥) → sizesFit (modeAt b) b ≡ valuesFit b
   unfolding valuesFit
   values-sizes n =
-      let l = sum-same (λ i. sizeOf (modeOf (modeAt b)) (leftAt b i)) (λ i. counted (modeAt b) (leftAt b i)) (λ i. size-is (modeAt b) n (leftAt b i)) (riseAt b) in
-      let m = size-is (modeAt b) n (middleAt b) in
-      let h = sum-same (λ j. sizeOf (modeOf (modeAt b)) (heldAt b j)) (λ j. counted (modeAt b) (heldAt b j)) (λ j. size-is (modeAt b) n (heldAt b j)) (fallAt b) in
+      let l = sum-same (λ i. sizeOf (modeOf (modeAt b)) (leftAt b i)) (λ i. counted (modeAt b) (leftAt b i)) (λ i. size-counted (modeAt b) n (leftAt b i)) (riseAt b) in
+      let m = size-counted (modeAt b) n (middleAt b) in
+      let h = sum-same (λ j. sizeOf (modeOf (modeAt b)) (heldAt b j)) (λ j. counted (modeAt b) (heldAt b j)) (λ j. size-counted (modeAt b) n (heldAt b j)) (fallAt b) in
       rw (ne-eqb (modeAt b) 4 n) (ap (λ (x : ℕ). leb (limit * fallAt b + x) (limit * openedAt b)) (ap₂ _+_ (ap₂ _+_ l m) h))

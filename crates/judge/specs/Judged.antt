@@ -6,9 +6,10 @@ use lib.Dec.{eqb}
 use lib.IntN.{ℤ}
 use Rattle.gate.specs.Outcome.{Outcome, refused, result, question}
 use Rattle.figure.specs.FourModes.{readHeld}
+use Rattle.figure.specs.Mode.{storesNothing}
 use Rattle.figure.specs.declared.Held.{Held}
 use Rattle.figure.specs.declared.Held.the-variants.{Figure}
-use Rattle.summary.specs.Judge.{kindAt, modeAt, faultAt, spoiltStartAt, startAt, peakAt, endAt, openedAt, middleAt, storesNothing}
+use Rattle.summary.specs.Judge.{kindAt, modeAt, faultAt, spoiltStartAt, startAt, peakAt, endAt, openedAt, middleAt}
 use Rattle.summary.specs.Decide.{isSummary}
 use Rattle.judge.specs.declared.SpoiltHead.{SpoiltHead}
 use Rattle.judge.specs.declared.HillHead.{HillHead}

@@ -4,12 +4,12 @@ use mathlib.Core.Bool.{Bool, true, false, cond}
 use mathlib.Core.List.{List}
 use Prim.Native.Nat.{ℕ, _≤_}
 use native.Mathlib.Omega.{arith}
-use lib.Dec.{eqb}
 use lib.IntN.{ℤ}
 use lib.ListN.{length}
 use borrow.Author.Tests.{ne-eqb}
 use Rattle.gate.specs.Outcome.{refused, result}
 use Rattle.figure.specs.FourModes.{readHeld, storeHeld}
+use Rattle.figure.specs.Mode.{storesNothing}
 use Rattle.figure.specs.StoreLaws.{held-stored}
 use Rattle.figure.specs.declared.Held.the-variants.{Figure}
 use Rattle.summary.specs.Judge.{kindAt, HasLayout, IsSpoilt, IsHill, IsSummary, isBlank, isSpoilt, isHill}
@@ -27,18 +27,18 @@ use Rattle.judge.specs.declared.Judged.the-variants.{Summary, NotOne}
 
 -- ---- what is held
 
-pub held-two : (m : ℕ) (z : ℤ) → m ≡ 2 → heldIn m z ≡ readHeld z
+pub held-nothing : (m : ℕ) (z : ℤ) → storesNothing m ≡ true → heldIn m z ≡ readHeld z
 unfolding heldIn
-held-two m z e = rw e
+held-nothing m z e = rw e
 
-pub held-other : (m : ℕ) (z : ℤ) → (m ≡ 2 → ⊥) → heldIn m z ≡ Figure z
+pub held-other : (m : ℕ) (z : ℤ) → storesNothing m ≡ false → heldIn m z ≡ Figure z
 unfolding heldIn
-held-other m z n = rw (ne-eqb m 2 n)
+held-other m z e = rw e
 
 -- stored again it is the number that was read
 pub held-back : (m : ℕ) (z : ℤ) → storeHeld (heldIn m z) ≡ z
 unfolding heldIn storeHeld
-held-back m z = go (eqb m 2)
+held-back m z = go (storesNothing m)
   where
     go : (t : Bool) → storeHeld (cond t (readHeld z) (Figure z)) ≡ z
     go true = held-stored z

@@ -297,9 +297,10 @@ fn is_hill(b: &[u8]) -> bool
 pub fn held_in(mode: u16, x: i64) -> Held
     ensures { λ r. ⌜ r ≡ heldIn mode x ⌝ }
 {
-    match mode {
-        2 => figure::read_held(x),
-        _ => Held::Figure(x),
+    if figure::stores_nothing(mode) {
+        figure::read_held(x)
+    } else {
+        Held::Figure(x)
     }
 }
 

@@ -5,14 +5,13 @@ use mathlib.Core.Logic.{_≢_, _⊎_}
 use mathlib.Core.Bool.{Bool, true, cond, _&&_}
 use mathlib.Core.List.{List}
 use Prim.Native.Nat.{ℕ, zero, suc, _+_, _-_, _*_, _≤_, _<_}
-use lib.Dec.{eqb}
 use lib.ListN.{length}
 use lib.IntN.{ℤ, pos, natAbs}
 use lib.Signed.{leZ}
 use Rattle.number.specs.Bytes.{leAt, i32At, i64At}
 use Rattle.record.specs.Record.{inRange}
 use Rattle.figure.specs.FourModes.{limit, nothing, isStamp}
-use Rattle.figure.specs.Mode.{modeInUse}
+use Rattle.figure.specs.Mode.{modeInUse, storesNothing}
 
 -- "Each begins with length, kind and mode, 16 bits each."
 abbrev pub lengthAt : List ℕ → ℕ
@@ -81,9 +80,6 @@ sumTo zero f = 0
 sumTo (suc n) f = sumTo n f + f n
 
 -- "'Nothing held' counts as 0 in modes 1, 3 and 4. In mode 2 it is no number, and is stored as -2^63."
-abbrev pub storesNothing : ℕ → Bool
-storesNothing m = eqb m 2
-
 unfoldable pub nothingIn : ℕ → ℤ
 nothingIn m = cond (storesNothing m) nothing (pos 0)
 

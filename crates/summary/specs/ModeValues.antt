@@ -26,7 +26,7 @@ pub record Numbered (m : ℕ) (M : Mode) : Type 0 where
   pub stamp-stored : m ≡ 4 → (z : ℤ) → isStamp z ≡ true → IsStored M z
   pub stored-stamp : m ≡ 4 → (z : ℤ) → IsStored M z → isStamp z ≡ true
 
-size-held : (z : ℤ) → sizeHeld (readHeld z) ≡ cond (same z nothing) 0 (natAbs z)
+pub size-held : (z : ℤ) → sizeHeld (readHeld z) ≡ cond (same z nothing) 0 (natAbs z)
 unfolding sizeHeld readHeld
 size-held z = go (same z nothing) (tells-same z nothing)
   where
