@@ -6,7 +6,6 @@ use native.Mathlib.Omega.{arith}
 use borrow.Author.Tests.{le-leb}
 use lib.ListN.{length, getD, length-map}
 use Rattle.figure.specs.Mode.{modeOf}
-use Rattle.hill.specs.Verdict.{pass}
 use Rattle.hill.specs.Summary.{blank}
 use Rattle.summary.specs.Judge.{IsSummary, isBlank, isSpoilt, isHill, riseAt, fallAt, startAt, peakAt, endAt}
 use Rattle.summary.specs.Decode.{decode}
@@ -16,12 +15,14 @@ use Rattle.judge.specs.Judged.{headAt}
 use Rattle.judge.specs.Laws.{head-blank, head-spoilt, head-hill}
 use Rattle.join_plan.specs.Plan.{Levels, blank as noLevels, hill as levels, levelsOfSummary, planOfRow}
 use Rattle.join_plan.specs.Scan.{lineOf, passed, walk, linesTo, plan}
-use Rattle.plan_work.specs.Gate.{rowFault}
 use Rattle.plan_work.specs.RowLevels.{plan-row}
 use Rattle.outcome.specs.Laws.{AllIn}
 use Rattle.outcome.specs.Through.{few-lines}
 use Rattle.row.specs.Row.{rowPieces}
-use Rattle.row_plan.specs.Arrays.{levelsFrom, levelsIn}
+use Rattle.row_plan.specs.Arrays.{levelsFrom, levelsIn, linesOf}
+use Rattle.row_plan.specs.Opens.{Planned}
+use Rattle.row_plan.specs.ScanLaws.{length-lines}
+use Rattle.row_plan.specs.declared.Opened.{Opened}
 use Rattle.row_gate.specs.Notes.{noteOf, AllNoted}
 use Rattle.row_gate.specs.Asks.{Through}
 use Rattle.row_gate.specs.RowLaws.{each-in, decoded-at}
@@ -85,3 +86,15 @@ module _ {row : List ℕ} {count m : ℕ} {states starts peaks ends openeds : Li
   -- at most 125 lines
   pub plan-room : length (plan (levelsIn starts peaks ends) count) ≤ 128
   plan-room = omega (arith, t .long, t .few, ap length plan-is, few-lines m (rowPieces row) (t .all) (omega (arith, t .long, t .some)) (t .faultless))
+
+-- with the plan that is scanned
+pub opens-row : {row : List ℕ} {count m : ℕ} {states ends openeds : List ℕ} (o : Opened) → Through row count m states (o .starts) (o .peaks) ends openeds →
+    linesOf (o .plan) ≡ plan (levelsIn (o .starts) (o .peaks) ends) count → Planned row count m o
+opens-row o t e = record {
+  states = _;
+  ends = _;
+  openeds = _;
+  through = t;
+  lines = e ∙ plan-is t;
+  few = omega (arith, plan-room t, ap length e, length-lines (o .plan .is) (o .plan .js) (o .plan .lows) (o .plan .highs) (o .plan .n));
+}

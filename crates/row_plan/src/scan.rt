@@ -1,12 +1,23 @@
 // The lines of a plan, from the levels of a row: a scan that keeps a running minimum of the peaks passed.
 ghost use mathlib.Core.Path.{_≡_};
-ghost use Prim.Native.Nat.{_+_, _≤_, _<_};
+ghost use Prim.Native.Nat.{_+_, _≤_, _<_, min, max};
 ghost use lib.ListN.{length};
 ghost use Rattle.join_plan.specs.Scan.{plan as scanned};
 ghost use Rattle.row_gate.specs.Notes.{Noted};
-ghost use Rattle.row_plan.specs.Arrays.{levelsIn, Sized, Kept, lineWithin, linesToIn};
-use super::higher;
-use super::lower;
+ghost use Rattle.row_plan.specs.Arrays.{levelsIn, Sized, Kept, lineWithin, linesToIn, linesOf};
+use super::Plan;
+
+fn lower(a: u8, b: u8) -> u8
+    ensures { λ r. ⌜ r ≡ min a b ⌝ }
+{
+    if a < b { a } else { b }
+}
+
+fn higher(a: u8, b: u8) -> u8
+    ensures { λ r. ⌜ r ≡ max a b ⌝ }
+{
+    if a < b { b } else { a }
+}
 
 // The line of chunks i and j is put behind n others, if there is a depth from `low` to below `top`.
 fn keep(
@@ -69,29 +80,48 @@ fn lines_to(
     k
 }
 
-// The plan of a row of `count` chunks; the answer is the number of its lines.
-pub fn scan(
-    starts: &[u8; 64],
-    peaks: &[u8; 64],
-    ends: &[u8; 64],
-    count: usize,
-    is: &mut [u8; 128],
-    js: &mut [u8; 128],
-    lows: &mut [u8; 128],
-    highs: &mut [u8; 128],
-) -> usize
+pub fn no_lines() -> Plan {
+    Plan {
+        is: [0u8; 128],
+        js: [0u8; 128],
+        lows: [0u8; 128],
+        highs: [0u8; 128],
+        n: 0,
+    }
+}
+
+// The plan of a row of `count` chunks.
+pub fn scan(starts: &[u8; 64], peaks: &[u8; 64], ends: &[u8; 64], count: usize) -> Plan
     requires { ⌜ Noted (now starts) (now peaks) (now ends) ⌝ }
-    requires { ⌜ Sized (now is) (now js) (now lows) (now highs) ⌝ }
     requires { ⌜ count ≤ 64 ⌝ }
     requires { ⌜ length (scanned (levelsIn (now starts) (now peaks) (now ends)) count) ≤ 128 ⌝ }
-    ensures { λ r. ⌜ Kept (scanned (levelsIn (now (starts .entry)) (now (peaks .entry)) (now (ends .entry))) count) 0 (now (is .entry)) (now (js .entry)) (now (lows .entry)) (now (highs .entry))
-        r (now (is .exit)) (now (js .exit)) (now (lows .exit)) (now (highs .exit)) ⌝ }
+    ensures { λ r. ⌜ linesOf r ≡ scanned (levelsIn (now (starts .entry)) (now (peaks .entry)) (now (ends .entry))) count ⌝ }
 {
+    let mut is = [0u8; 128];
+    let mut js = [0u8; 128];
+    let mut lows = [0u8; 128];
+    let mut highs = [0u8; 128];
     let mut n: usize = 0;
     let mut j: usize = 0;
     while j < count {
-        n = lines_to(starts, peaks, ends, j, is, js, lows, highs, n);
+        n = lines_to(
+            starts,
+            peaks,
+            ends,
+            j,
+            &mut is,
+            &mut js,
+            &mut lows,
+            &mut highs,
+            n,
+        );
         j += 1;
     }
-    n
+    Plan {
+        is,
+        js,
+        lows,
+        highs,
+        n,
+    }
 }

@@ -18,16 +18,12 @@ use Rattle.run_level.specs.Levels.{pieceOf, Begun}
 abbrev pub rowIn : (m : ℕ) → List ℕ → List (SummaryIn m)
 rowIn m row = map (decode m) (rowPieces row)
 
--- A row of `count` pieces in mode m that is let through, whatever else is noted of them.
-pub record LetThrough (row : List ℕ) (count m : ℕ) (starts peaks ends : List ℕ) : Type 0 where
+-- A row of `count` pieces in mode m that is let through, whatever else is noted of them, and where they begin.
+pub record Ready (row : List ℕ) (count m : ℕ) (ats starts peaks : List ℕ) : Type 0 where
   pub states : List ℕ
+  pub ends : List ℕ
   pub openeds : List ℕ
   pub through : Through row count m states starts peaks ends openeds
-
--- Its pieces are noted.
-pub record Ready (row : List ℕ) (count m : ℕ) (ats starts peaks : List ℕ) : Type 0 where
-  pub ends : List ℕ
-  pub let-through : LetThrough row count m starts peaks ends
   pub begun : Begun row count ats
 
 -- And the n lines of its plan are in four arrays.

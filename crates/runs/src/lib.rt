@@ -3,15 +3,15 @@ ghost use mathlib.Core.Path.{_≡_};
 ghost use lib.ListN.{length};
 ghost use Rattle.gate.specs.Outcome.{bufferAfter};
 ghost use Rattle.gate.specs.Answers.{writtenAnswer, lengthAnswered};
-ghost use Rattle.join_plan.specs.Plan.{planOfRow};
 ghost use Rattle.outcome.specs.Outcomes.{runsOutcome};
 ghost use Rattle.row_gate.specs.Wrote.{Wrote};
-ghost use Rattle.run_level.specs.Along.{rowIn, LetThrough};
+ghost use Rattle.row_plan.specs.Arrays.{linesOf};
+ghost use Rattle.row_plan.specs.Opens.{Planned};
 ghost use Rattle.runs.specs.Runs.{linesRuns};
 use gate::Written;
 use row_gate::ask::Asked;
-use row_gate::ask::ask;
-use row_plan::scan::scan;
+use row_plan::Opened;
+use row_plan::open_row;
 use run_level::begin_pieces;
 
 mod bytes;
@@ -19,51 +19,20 @@ mod each;
 mod line;
 
 // The runs of a row that is let through, where they fit.
-fn write_runs(
-    row: &[u8],
-    starts: &[u8; 64],
-    peaks: &[u8; 64],
-    ends: &[u8; 64],
-    count: usize,
-    mode: u16,
-    out: &mut [u8],
-) -> Written
-    requires { ⌜ LetThrough (now row) count mode (now starts) (now peaks) (now ends) ⌝ }
-    ensures { λ r. ⌜ Wrote (linesRuns (now (row .entry)) mode (planOfRow (rowIn mode (now (row .entry))))) (writtenAnswer r) (now (out .entry)) (now (out .exit)) ⌝ }
+fn write_runs(row: &[u8], count: usize, mode: u16, opened: Opened, out: &mut [u8]) -> Written
+    requires { ⌜ Planned (now row) count mode opened ⌝ }
+    ensures { λ r. ⌜ Wrote (linesRuns (now (row .entry)) mode (linesOf (opened .plan))) (writtenAnswer r) (now (out .entry)) (now (out .exit)) ⌝ }
 {
-    let mut is = [0u8; 128];
-    let mut js = [0u8; 128];
-    let mut lows = [0u8; 128];
-    let mut highs = [0u8; 128];
-    let n = scan(
-        starts,
-        peaks,
-        ends,
-        count,
-        &mut is,
-        &mut js,
-        &mut lows,
-        &mut highs,
-    );
-    let total = bytes::RUN_LENGTH * n;
+    let plan = opened.plan;
+    let total = bytes::RUN_LENGTH * plan.n;
     if out.len() < total {
         return Written::Refused(12);
     }
     let mut ats = [0usize; 64];
     begin_pieces(row, count, &mut ats);
-    each::write_each(
-        row,
-        &ats,
-        starts,
-        peaks,
-        &is,
-        &js,
-        &lows,
-        &highs,
-        n,
-        mode,
-        out,
-    );
+    let starts = opened.starts;
+    let peaks = opened.peaks;
+    each::write_each(row, &ats, &starts, &peaks, plan, mode, out);
     Written::Bytes(total)
 }
 
@@ -72,21 +41,10 @@ pub fn runs(row: &[u8], out: &mut [u8]) -> Written
     ensures answer { λ r. ⌜ writtenAnswer r ≡ lengthAnswered (runsOutcome (now (row .entry)) (length (now (out .entry)))) ⌝ }
     ensures buffer { λ _. ⌜ now (out .exit) ≡ bufferAfter (runsOutcome (now (row .entry)) (length (now (out .entry)))) (now (out .entry)) ⌝ }
 {
-    let mut states = [0u8; 64];
-    let mut starts = [0u8; 64];
-    let mut peaks = [0u8; 64];
-    let mut ends = [0u8; 64];
-    let mut opened = [0u32; 64];
-    let asked = ask(
-        row,
-        &mut states,
-        &mut starts,
-        &mut peaks,
-        &mut ends,
-        &mut opened,
-    );
+    let opened = open_row(row);
+    let asked = opened.asked;
     match asked {
         Asked::Refused(n) => Written::Refused(n),
-        Asked::Row(count, mode) => write_runs(row, &starts, &peaks, &ends, count, mode, out),
+        Asked::Row(count, mode) => write_runs(row, count, mode, opened, out),
     }
 }

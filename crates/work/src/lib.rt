@@ -4,13 +4,13 @@ ghost use Prim.Native.Nat.{_≤_};
 ghost use lib.ListN.{length};
 ghost use Rattle.outcome.specs.Outcomes.{workAlong, workOutcome};
 ghost use Rattle.row_gate.specs.Asks.{summariesIn};
+ghost use Rattle.row_plan.specs.Opens.{Planned};
 ghost use Rattle.row.specs.Row.{rowPieces};
 ghost use Rattle.work.specs.Answers.{workIn, workedAnswer};
-ghost use Rattle.run_level.specs.Along.{LetThrough};
 use row_gate::ask::Asked;
-use row_gate::ask::ask;
+use row_plan::Opened;
 use row_plan::levels::fold_levels;
-use row_plan::scan::scan;
+use row_plan::open_row;
 
 mod given;
 mod line;
@@ -30,50 +30,21 @@ pub enum Worked {
 }
 
 // The work along the plan of a row that is let through.
-fn work_row(
-    row: &[u8],
-    count: usize,
-    mode: u16,
-    starts: &[u8; 64],
-    peaks: &[u8; 64],
-    ends: &[u8; 64],
-) -> Totals
-    requires { ⌜ LetThrough (now row) count mode (now starts) (now peaks) (now ends) ⌝ }
+fn work_row(row: &[u8], count: usize, mode: u16, opened: Opened) -> Totals
+    requires { ⌜ Planned (now row) count mode opened ⌝ }
     ensures { λ r. ⌜ workIn r ≡ workAlong (summariesIn mode (rowPieces (now (row .entry)))) ⌝ }
 {
     let mut ats = [0usize; 64];
     run_level::begin_pieces(row, count, &mut ats);
-    let mut is = [0u8; 128];
-    let mut js = [0u8; 128];
-    let mut lows = [0u8; 128];
-    let mut highs = [0u8; 128];
-    let n = scan(
-        starts,
-        peaks,
-        ends,
-        count,
-        &mut is,
-        &mut js,
-        &mut lows,
-        &mut highs,
-    );
-    let figure = lines::work_lines(
-        row,
-        count,
-        mode,
-        &ats,
-        starts,
-        peaks,
-        &is,
-        &js,
-        &lows,
-        &highs,
-        n,
-    );
+    let starts = opened.starts;
+    let peaks = opened.peaks;
+    let plan = opened.plan;
+    let n = plan.n;
+    let figure = lines::work_lines(row, count, mode, &ats, &starts, &peaks, plan);
     Totals {
         figure,
         joins: n as u32,
-        levels: fold_levels(&is, &js, &lows, &highs, n),
+        levels: fold_levels(plan),
     }
 }
 
@@ -81,21 +52,10 @@ fn work_row(
 pub fn work(row: &[u8]) -> Worked
     ensures answer { λ r. ⌜ workedAnswer r ≡ workOutcome (now (row .entry)) ⌝ }
 {
-    let mut states = [0u8; 64];
-    let mut starts = [0u8; 64];
-    let mut peaks = [0u8; 64];
-    let mut ends = [0u8; 64];
-    let mut opened = [0u32; 64];
-    let asked = ask(
-        row,
-        &mut states,
-        &mut starts,
-        &mut peaks,
-        &mut ends,
-        &mut opened,
-    );
+    let opened = open_row(row);
+    let asked = opened.asked;
     match asked {
         Asked::Refused(n) => Worked::Refused(n),
-        Asked::Row(count, mode) => Worked::Done(work_row(row, count, mode, &starts, &peaks, &ends)),
+        Asked::Row(count, mode) => Worked::Done(work_row(row, count, mode, opened)),
     }
 }

@@ -1,15 +1,16 @@
--- `work::work` meets its contract: the questions, then the work along the plan.
+-- `work::work` meets its contract: the row is opened, then the work along its plan.
 -- Assumes nothing.
+use mathlib.Core.Path.{subst}
 use borrow.Author.Needs.{needs}
 use denote.Ref.{now}
-use Rattle.row_gate.specs.AsksLaws.{zeros-whole}
+use Rattle.row_gate.specs.declared.ask.Asked.{Asked}
+use Rattle.row_plan.specs.Opens.{Opens}
 use Rattle.work.specs.CallLaws.{work-refused, work-through}
 use Rattle.work.proofs.work.Statement.{statement}
 use Rattle.work.proofs.work.Tie as tie
 
-ask-requires : tie.Need-ask-requires
-ask-requires c κs =
-    zeros-whole
+open-row-requires : tie.Need-open-row-requires
+open-row-requires c κs = search needs
 
 enum-known-asked : tie.Need-enum-known-asked
 enum-known-asked c = search needs
@@ -19,19 +20,22 @@ enum-known-asked-2 c = search needs
 
 work-row-requires : tie.Need-work-row-requires
 work-row-requires c κs =
-    let t = rw (c .before .before .before .before .asked2 .given .1) at (c .before .before .before .before .before .before .ask .ensures) in
-    record { states = _; openeds = _; through = t }
+    let r = c .before .before .before .open-row in
+    subst (λ (a : Asked). Opens a (now (c .before .before .before .before .before .args .row)) (r .result)) (c .before .asked2 .given .1) (r .ensures)
 
 returns : tie.Need-returns
-returns c =
-    work-refused (now (c .before .before .before .before .before .before .before .before .before .before .args .row)) _ (rw (c .before .asked .given .1) at (c .before .before .before .ask .ensures))
+returns c = work-refused (now (c .before .before .before .before .before .args .row)) _ (rw (c .before .asked .given .1) at (c .before .before .before .open-row .ensures))
 
 returns-2 : tie.Need-returns-2
-returns-2 c =
-    let t = rw (c .before .before .before .before .before .asked2 .given .1) at (c .before .before .before .before .before .before .before .ask .ensures) in
-    work-through t _ (c .work-row .ensures)
+returns-2 c = work-through (rw (c .before .before .asked2 .given .1) at (c .before .before .before .before .open-row .ensures)) _ (c .work-row .ensures)
 
 pub work-spec : {M : Type 1} → statement M
 work-spec =
     tie.close
-    (tie.spec ask-requires enum-known-asked enum-known-asked-2 work-row-requires returns returns-2)
+    (tie.spec
+    open-row-requires
+    enum-known-asked
+    enum-known-asked-2
+    work-row-requires
+    returns
+    returns-2)
