@@ -1,4 +1,4 @@
--- What the calls on a whole log mean, and how the pass over it goes.
+-- What the answer of `figures` says, that the figures are the recursion's, and how the pass over a log goes.
 pub mod Day
 pub mod DayLaws
 pub mod Pass
