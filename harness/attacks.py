@@ -49,8 +49,8 @@ ARMS = {
             work::Worked::Refused(n) => format!("refused {n}"),
         }""",
     "whole_log::ask": """match whole_log::ask(&input) {
-            whole_log::Asked::Opened(n) => format!("{n} opened"),
-            whole_log::Asked::Refused(n) => format!("refused {n}"),
+            whole_log::LogAsked::Opened(n) => format!("{n} opened"),
+            whole_log::LogAsked::Refused(n) => format!("refused {n}"),
         }""",
     "day::figures": """match day::figures(&input) {
             day::Day::Figures(f) => format!("{} {} {} {}", f.net, f.heaviest, f.eaten, f.stamp),

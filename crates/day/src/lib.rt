@@ -1,6 +1,6 @@
 // The day's figures: net, heaviest, eaten and stamp of one log, in one pass over its records.
 ghost use mathlib.Core.Path.{_≡_};
-ghost use Prim.Native.Nat.{_≤_, _<_};
+ghost use Prim.Native.Nat.{_<_};
 ghost use Rattle.day.specs.Day.{dayAnswer};
 ghost use Rattle.outcome.specs.Day.{dayOutcome};
 ghost use Rattle.hill.specs.Finish.{outcome};

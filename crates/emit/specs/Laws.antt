@@ -6,7 +6,8 @@ use lib.IntN.{ℤ}
 use native.Mathlib.Omega.{arith}
 use lib.ListN.{length}
 use borrow.Author.Tests.{le-leb, lt-leb}
-use Rattle.gate.specs.Outcome.{result, written}
+use Rattle.gate.specs.Outcome.{Outcome, refused, result, written, bufferAfter}
+use Rattle.gate.specs.Answers.{writtenAnswer, lengthAnswered}
 use Rattle.gate.specs.declared.Written.{Written}
 use Rattle.gate.specs.declared.Written.the-variants.{Bytes, Refused}
 use Rattle.figure.specs.FourModes.{storeHeld}
@@ -41,6 +42,19 @@ module _ (w o : List ℕ) where
 
   pub answer-short : length o < length w → Answers (written (length o) w) o o (Refused 12)
   answer-short h = rw (lt-leb (length w) (length o) h) record { answered = refl; buffer = refl }
+
+-- ---- the two promises of a call that writes a summary, where it is refused before that and where it is not
+
+abbrev pub Promised : Outcome (List ℕ) → Outcome ℕ → (before after : List ℕ) → Type 0
+Promised o a before after = (a ≡ lengthAnswered o) × (after ≡ bufferAfter o before)
+
+pub refuses : {o : Outcome (List ℕ)} {n : ℕ} (b : List ℕ) → o ≡ refused n → Promised o (refused n) b b
+refuses b e = rw e (refl, refl)
+
+pub comes-to : {o p : Outcome (List ℕ)} {r : Written} {before after : List ℕ} → o ≡ p → Answers p before after r → Promised o (writtenAnswer r) before after
+comes-to e s = rw e (s .answered, s .buffer)
+
+-- ---- by what is said
 
 -- other bytes that are the same
 pub answer-same : {w v o o′ : List ℕ} {r : Written} → w ≡ v → Answers (written (length o) w) o o′ r → Answers (written (length o) v) o o′ r

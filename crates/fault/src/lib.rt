@@ -32,7 +32,7 @@ pub fn count(opened: u32) -> u8
 }
 
 // Question 11 of one level.
-pub fn ground(level: u16) -> u8
+fn ground(level: u16) -> u8
     ensures { λ r. ⌜ verdictOf r ≡ ask 11 (eqb level 0) ⌝ }
 {
     if level == 0 { NONE } else { 11 }

@@ -12,7 +12,7 @@ use Rattle.figure.specs.FourModes.{readHeld, storeHeld}
 use Rattle.figure.specs.Mode.{storesNothing}
 use Rattle.figure.specs.StoreLaws.{held-stored}
 use Rattle.figure.specs.declared.Held.the-variants.{Figure}
-use Rattle.summary.specs.Judge.{kindAt, HasLayout, IsSpoilt, IsHill, IsSummary, isBlank, isSpoilt, isHill}
+use Rattle.summary.specs.Judge.{kindAt, modeAt, HasLayout, IsSpoilt, IsHill, IsSummary, isBlank, isSpoilt, isHill}
 use Rattle.summary.specs.Decide.{layoutFits, isSummary}
 use Rattle.summary.specs.DecideLaws.{decide-summary}
 use Rattle.judge.specs.Judged.{judgedAnswer, heldIn, spoiltHeadAt, hillHeadAt, headAt, pieceAt, judgedOf}
@@ -88,6 +88,9 @@ pub record Judges (b : List ℕ) (p : Piece) : Type 0 where
   pub test : isSummary b ≡ true
   pub summary : IsSummary b
   pub piece : p ≡ pieceAt b
+
+pub judged-mode : {b : List ℕ} {p : Piece} → Judges b p → p .mode ≡ modeAt b
+judged-mode j = ap (λ (x : Piece). x .mode) (j .piece)
 
 module _ (b : List ℕ) (r : Judged) (e : judgedAnswer r ≡ judgedOf b) where
   pub judges : (p : Piece) → r ≡ Summary p → Judges b p

@@ -14,8 +14,7 @@ use Rattle.summary.specs.Decode.{decode}
 use Rattle.summary.specs.Accepted.{IsSummaryIn}
 use Rattle.summary.specs.Outcomes.{mergeBytes, mergeOutcome}
 use Rattle.judge.specs.declared.Piece.{Piece}
-use Rattle.judge.specs.Laws.{Judges}
-use Rattle.merging.specs.CallLaws.{judged-mode}
+use Rattle.judge.specs.Laws.{Judges, judged-mode}
 
 -- ---- 5, 6
 

@@ -1,5 +1,6 @@
--- What must be believed: Outcomes (the calls on a row), Day and Line (those on a whole log), definitions only. Answers says what an answer of the code means. Worked cases are in Examples; Laws says what the
--- questions find, Through what they let through, RunsWritten that the runs are the paper's.
+-- What must be believed: Outcomes (the calls on a row), Day and Line (those on a whole log), definitions only. Answers says what an answer of the
+-- code means. Worked cases are in Examples; Laws says what the questions of a row find, Through what they let through, RunsWritten that the runs are
+-- the paper's.
 pub mod Outcomes
 pub mod Day
 pub mod Line

@@ -1,4 +1,4 @@
--- What a pass over a chunk keeps, what the functions ask and leave, and their laws.
+-- What the functions of a pass over a chunk ask and leave, and their laws.
 pub mod Scans
 pub mod ScanLaws
 pub mod AnsweredLaws

@@ -79,7 +79,7 @@ unfoldable pub sumTo : ℕ → (ℕ → ℕ) → ℕ
 sumTo zero f = 0
 sumTo (suc n) f = sumTo n f + f n
 
--- "'Nothing held' counts as 0 in modes 1, 3 and 4. In mode 2 it is no number, and is stored as -2^63."
+-- "'Nothing held' counts as 0 .. In mode 2 it is no number", as it is stored.
 unfoldable pub nothingIn : ℕ → ℤ
 nothingIn m = cond (storesNothing m) nothing (pos 0)
 

@@ -1,4 +1,4 @@
-// A pass over a log's records: the one tally that every pass keeps of levels, faults and opened records, and the gate on a whole log.
+// A pass over records: the one tally that every pass keeps of levels, faults and opened records, and the gate on a whole log.
 ghost use mathlib.Core.Path.{_≡_};
 ghost use mathlib.Core.List.{List, [], _∷_, _++_};
 ghost use Prim.Native.Nat.{_≤_};
@@ -24,7 +24,7 @@ pub struct Tally {
 }
 
 // The answer of `ask`. `askedAnswer` says what each case means.
-pub enum Asked {
+pub enum LogAsked {
     Opened(u32),
     Refused(u8),
 }
@@ -77,7 +77,8 @@ pub fn note(t: Tally, f: Fields) -> Tally
     passed(t, depth + 1, depth, 0)
 }
 
-// The lowest fault so far of a log: 11 too, where its first record does not start at level 0.
+// The lowest fault so far of a log: 11 too, where its first record does not start at level 0. It is asked for each record, so the usual case comes
+// first.
 pub fn fault_so_far(t: Tally) -> u8
     ensures { λ r. ⌜ verdictOf r ≡ low (verdictOf (t .fault)) (asking 11 (eqb (t .start) 0)) ⌝ }
 {
@@ -98,17 +99,17 @@ pub fn log_fault(t: Tally) -> u8
 }
 
 // How many records a log opens, or the first question that gets a "no".
-pub fn ask(log: &[u8]) -> Asked
+pub fn ask(log: &[u8]) -> LogAsked
     ensures answer { λ r. ⌜ askedAnswer r ≡ askOutcome (now (log .entry)) ⌝ }
 {
     if 65536 < log.len() {
-        return Asked::Refused(2);
+        return LogAsked::Refused(2);
     }
     let mut t = fresh();
     let mut rest = log;
     while 0 < rest.len() {
         let Read::Record(f) = record::read_first(rest) else {
-            return Asked::Refused(3);
+            return LogAsked::Refused(3);
         };
         let length = f.length as usize;
         t = note(t, f);
@@ -116,7 +117,7 @@ pub fn ask(log: &[u8]) -> Asked
     }
     let fault = log_fault(t);
     if fault < fault::NONE {
-        return Asked::Refused(fault);
+        return LogAsked::Refused(fault);
     }
-    Asked::Opened(t.opened)
+    LogAsked::Opened(t.opened)
 }

@@ -1,5 +1,5 @@
 -- `merge::merge` meets its contract: each question in its order, then the two are joined. Assumes nothing.
-use Rattle.merging.specs.CallLaws.{refusal, answered}
+use Rattle.emit.specs.Laws.{refuses, comes-to}
 use Rattle.merge.specs.CallLaws.{left-5, right-5, other-mode, both-in}
 use Rattle.summary.specs.OutcomeLaws.{merge-is}
 use Rattle.judge.specs.Laws.{judges, judges-not}
@@ -20,7 +20,7 @@ enum-told c = search needs
 
 returns : tie.Need-returns
 returns c = let a = c .before .before .before .before .before .before in
-    refusal (now (a .args .out)) (left-5 (now (a .args .left)) (now (a .args .right)) (length (now (a .args .out)))
+    refuses (now (a .args .out)) (left-5 (now (a .args .left)) (now (a .args .right)) (length (now (a .args .out)))
     (judges-not (now (a .args .left)) (c .before .before .judge .result) (c .before .before .judge .ensures) (c .enum-told .given .1)))
 
 judge-requires-2 : tie.Need-judge-requires-2
@@ -34,13 +34,13 @@ enum-told-2 c = search needs
 
 returns-2 : tie.Need-returns-2
 returns-2 c = let a = c .before .before .before .before .before .before .before .before .before .before in
-    refusal (now (a .args .out)) (right-5 (now (a .args .left)) (now (a .args .right)) (length (now (a .args .out)))
+    refuses (now (a .args .out)) (right-5 (now (a .args .left)) (now (a .args .right)) (length (now (a .args .out)))
     (judges (now (a .args .left)) (c .before .before .before .before .before .before .judge .result) (c .before .before .before .before .before .before .judge .ensures) _ (c .before .before .before .before .a .given .1) .test)
     (judges-not (now (a .args .right)) (c .before .before .judge2 .result) (c .before .before .judge2 .ensures) (c .enum-told2 .given .1)))
 
 returns-3 : tie.Need-returns-3
 returns-3 c = let a = c .before .before .before .before .before .before .before .before .before .before .before .before .before in
-    refusal (now (a .args .out)) (other-mode
+    refuses (now (a .args .out)) (other-mode
     (judges (now (a .args .left)) (c .before .before .before .before .before .before .before .before .before .judge .result) (c .before .before .before .before .before .before .before .before .before .judge .ensures) _ (c .before .before .before .before .before .before .before .a .given .1))
     (judges (now (a .args .right)) (c .before .before .before .before .before .judge2 .result) (c .before .before .before .before .before .judge2 .ensures) _ (c .before .before .before .b .given .1))
     (c .if1 .taken) (length (now (a .args .out))))
@@ -61,7 +61,7 @@ returns-4 c = let a = c .before .before .before .before .before .before .before 
     (judges (now (a .args .left)) (c .before .before .before .before .before .before .before .before .before .before .before .before .before .judge .result) (c .before .before .before .before .before .before .before .before .before .before .before .before .before .judge .ensures) _ (c .before .before .before .before .before .before .before .before .before .before .before .a .given .1))
     (judges (now (a .args .right)) (c .before .before .before .before .before .before .before .before .before .judge2 .result) (c .before .before .before .before .before .before .before .before .before .judge2 .ensures) _ (c .before .before .before .before .before .before .before .b .given .1))
     (c .before .before .before .before .if1 .left) in
-    answered (merge-is (c .before .before .before .before .before .before .before .before .before .before .before .a .given .0 .0 .mode) (now (a .args .left)) (now (a .args .right)) (length (now (a .args .out))) (i .0) (i .1)) (c .before .before .join .ensures)
+    comes-to (merge-is (c .before .before .before .before .before .before .before .before .before .before .before .a .given .0 .0 .mode) (now (a .args .left)) (now (a .args .right)) (length (now (a .args .out))) (i .0) (i .1)) (c .before .before .join .ensures)
 
 pub merge-spec : {M : Type 1} → statement M
 merge-spec =

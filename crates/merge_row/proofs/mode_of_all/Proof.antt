@@ -1,8 +1,7 @@
 -- `merge_row::mode_of_all` meets its contract: each turn passes one piece. Assumes nothing.
-use Rattle.merging.specs.CallLaws.{judged-mode}
 use Rattle.merge_row.specs.CallLaws.{not-5, inside, shorter, pass-first, pass-next, pass-5, pass-6, pass-all}
 use Rattle.merge_row.specs.RowAsks.{Passed}
-use Rattle.judge.specs.Laws.{judges, judges-not}
+use Rattle.judge.specs.Laws.{judges, judges-not, judged-mode}
 use Rattle.outcome.specs.Laws.{mode-5}
 use Rattle.row.specs.Row.{rowPieces}
 use lib.ListN.{length, take, length-take}

@@ -9,7 +9,8 @@ use Rattle.figure.specs.Stored.{mode-small}
 use Rattle.summary.specs.OutcomeLaws.{summarise-is}
 use Rattle.chunk.specs.Chunk.{chunkOf}
 use Rattle.whole_log.specs.TallyLaws.{begun, not-begun}
-use Rattle.summarise.specs.CallLaws.{no-mode, too-many, not-readable, refuses, comes-to}
+use Rattle.emit.specs.Laws.{refuses, comes-to}
+use Rattle.summarise.specs.CallLaws.{no-mode, too-many, not-readable}
 use Rattle.summarise.proofs.summarise.Statement.{statement}
 use Rattle.summarise.proofs.summarise.Tie as tie
 
