@@ -148,11 +148,11 @@ def function(text, name):
 def switched(text, name, versions):
     """A source whose function of this name is the one with the chosen number; versions has the source of each."""
     as_it_is = function(text, name)
-    head, shape, parameters = re.match(r'((?:pub )?(?:extern "C" )?)fn \w+(\(([^)]*)\)[^{]*)\{', as_it_is).groups()
+    head, shape, parameters = re.match(r'((?:pub )?(?:extern "C" )?)fn \w+((?:<[^>]*>)?\(([^)]*)\)[^{]*)\{', as_it_is).groups()
     given = ", ".join(p.partition(":")[0].strip() for p in parameters.split(",") if p.strip())
     arms = "".join(f"{number} => {name}_{number}({given}), " for number in versions)
     bodies = [as_it_is] + [function(version, name) for version in versions.values()]
-    named = [re.sub(rf"\bfn {name}\(", f"fn {name}_{number}(", body, count=1) for number, body in zip([0, *versions], bodies)]
+    named = [re.sub(rf"\bfn {name}\b", f"fn {name}_{number}", body, count=1) for number, body in zip([0, *versions], bodies)]
     chooser = f"{head}fn {name}{shape}{{ match chosen::change() {{ {arms}_ => {name}_0({given}) }} }}"
     return text.replace(as_it_is, "\n".join([chooser, *named]))
 

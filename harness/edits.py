@@ -20,7 +20,7 @@ from typing import NamedTuple, Optional
 ROOT = pathlib.Path(__file__).resolve().parent.parent
 CRATES = ROOT / "crates"
 # A function: the line that begins it, at the left margin, to the brace that ends it there.
-FUNCTION = re.compile(r'^(?:pub )?(?:extern "C" )?fn (\w+)\(.*?^\}$', flags=re.M | re.S)
+FUNCTION = re.compile(r'^(?:pub )?(?:extern "C" )?fn (\w+)[(<].*?^\}$', flags=re.M | re.S)
 
 
 class Pair(NamedTuple):

@@ -13,7 +13,7 @@ use Rattle.outcome.specs.Outcomes.{lineBytes, linesBytes}
 use Rattle.outcome.specs.Through.{lines-length}
 use Rattle.row_plan.specs.Arrays.{line, lineIn, linesIn}
 use Rattle.row_plan.specs.ScanLaws.{length-lines}
-use Rattle.row_gate.specs.WroteLaws.{put-next}
+use Rattle.row_plan.specs.WroteLaws.{put-next}
 
 -- the six stores of a line
 pub line-stored : (l : List ℕ) (at i j low high : ℕ) →

@@ -10,6 +10,7 @@ use Rattle.summary.specs.Decode.{decode}
 use Rattle.plan_work.specs.Gate.{rowFault}
 use Rattle.outcome.specs.Outcomes.{Summaries, askRow, askLog}
 use Rattle.outcome.specs.Laws.{AllIn}
+use Rattle.row_gate.specs.declared.OpenRow.{OpenRow}
 use Rattle.row_gate.specs.declared.ask.Asked.{Asked}
 use Rattle.row_gate.specs.declared.ask.Asked.the-variants.{Row, Refused}
 use Rattle.row_gate.specs.Notes.{Whole, AllNoted}
@@ -36,3 +37,13 @@ pub record Through (row : List ℕ) (count m : ℕ) (states starts peaks ends op
 abbrev pub Says : Asked → List ℕ → (states starts peaks ends openeds : List ℕ) → Type 0
 Says (Row count m) row states starts peaks ends openeds = Through row count m states starts peaks ends openeds
 Says (Refused n) row states starts peaks ends openeds = askAll row ≡ refused n
+
+-- A row that is let through, whatever the states and the opened records that are noted of its pieces.
+pub record LetThrough (row : List ℕ) (count m : ℕ) (starts peaks ends : List ℕ) : Type 0 where
+  pub states : List ℕ
+  pub openeds : List ℕ
+  pub through : Through row count m states starts peaks ends openeds
+
+abbrev pub Finds : Asked → List ℕ → OpenRow → Type 0
+Finds (Row count m) row o = LetThrough row count m (o .starts) (o .peaks) (o .ends)
+Finds (Refused n) row o = askAll row ≡ refused n

@@ -19,7 +19,10 @@ use Rattle.fault.specs.Laws.{clear, found}
 use Rattle.row_gate.specs.Told.{toldsFrom, toldFault}
 use Rattle.row_gate.specs.Notes.{Whole, AllNoted, NotedAll}
 use Rattle.row_gate.specs.RowLaws.{row-fault}
-use Rattle.row_gate.specs.Asks.{askAll, summariesIn, Through}
+use Rattle.row_gate.specs.declared.OpenRow.{OpenRow}
+use Rattle.row_gate.specs.declared.ask.Asked.{Asked}
+use Rattle.row_gate.specs.declared.ask.Asked.the-variants.{Row, Refused}
+use Rattle.row_gate.specs.Asks.{askAll, summariesIn, Through, Says, Finds}
 
 -- ---- refusals
 
@@ -82,6 +85,11 @@ module _ (row : List ℕ) (count : ℕ) (e : count ≡ min 65 (length (rowPieces
 pub after-all : {A : Type 0} (o : Outcome Summaries) (f : Summaries → Outcome A) → onward o (λ s. onward (askLog s) f) ≡ onward (onward o askLog) f
 after-all (refused n) f = refl
 after-all (result s) f = refl
+
+-- what is handed on of the questions' answer
+pub finds : (a : Asked) (o : OpenRow) (row states openeds : List ℕ) → Says a row states (o .starts) (o .peaks) (o .ends) openeds → Finds a row o
+finds (Row count m) o row states openeds t = record { states = states; openeds = openeds; through = t }
+finds (Refused n) o row states openeds e = e
 
 -- arrays of zeros
 abbrev zeros : ℕ → List ℕ

@@ -8,7 +8,6 @@ use lib.Dec.{leb}
 use lib.ListN.{length, getD}
 use Rattle.join_plan.specs.Plan.{Levels, blank, hill, Line}
 use Rattle.join_plan.specs.Scan.{lineIf, linesTo}
-use Rattle.row_plan.specs.declared.Plan.{Plan}
 
 -- The levels noted of a chunk. Levels are at most 64: a peak above that notes a blank, whose start and end are noted as 0.
 unfoldable pub levelsFrom : (start peak end : ℕ) → Levels
@@ -27,9 +26,6 @@ lineIn is js lows highs k = line (getD is k 0) (getD js k 0) (getD lows k 0) (ge
 abbrev pub linesIn : (is js lows highs : List ℕ) → ℕ → List Line
 linesIn is js lows highs zero = []
 linesIn is js lows highs (suc n) = linesIn is js lows highs n ++ (lineIn is js lows highs n ∷ [])
-
-abbrev pub linesOf : Plan → List Line
-linesOf p = linesIn (p .is) (p .js) (p .lows) (p .highs) (p .n)
 
 pub record Sized (is js lows highs : List ℕ) : Type 0 where
   pub is-128 : length is ≡ 128

@@ -19,10 +19,7 @@ use Rattle.plan_work.specs.RowLevels.{plan-row}
 use Rattle.outcome.specs.Laws.{AllIn}
 use Rattle.outcome.specs.Through.{few-lines}
 use Rattle.row.specs.Row.{rowPieces}
-use Rattle.row_plan.specs.Arrays.{levelsFrom, levelsIn, linesOf}
-use Rattle.row_plan.specs.Opens.{Planned}
-use Rattle.row_plan.specs.ScanLaws.{length-lines}
-use Rattle.row_plan.specs.declared.Opened.{Opened}
+use Rattle.row_plan.specs.Arrays.{levelsFrom, levelsIn}
 use Rattle.row_gate.specs.Notes.{noteOf, AllNoted}
 use Rattle.row_gate.specs.Asks.{Through}
 use Rattle.row_gate.specs.RowLaws.{each-in, decoded-at}
@@ -86,15 +83,3 @@ module _ {row : List ℕ} {count m : ℕ} {states starts peaks ends openeds : Li
   -- at most 125 lines
   pub plan-room : length (plan (levelsIn starts peaks ends) count) ≤ 128
   plan-room = omega (arith, t .long, t .few, ap length plan-is, few-lines m (rowPieces row) (t .all) (omega (arith, t .long, t .some)) (t .faultless))
-
--- with the plan that is scanned
-pub opens-row : {row : List ℕ} {count m : ℕ} {states ends openeds : List ℕ} (o : Opened) → Through row count m states (o .starts) (o .peaks) ends openeds →
-    linesOf (o .plan) ≡ plan (levelsIn (o .starts) (o .peaks) ends) count → Planned row count m o
-opens-row o t e = record {
-  states = _;
-  ends = _;
-  openeds = _;
-  through = t;
-  lines = e ∙ plan-is t;
-  few = omega (arith, plan-room t, ap length e, length-lines (o .plan .is) (o .plan .js) (o .plan .lows) (o .plan .highs) (o .plan .n));
-}

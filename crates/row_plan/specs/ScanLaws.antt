@@ -69,6 +69,10 @@ room-one n i j low top b h = go (decLt low top) b
     go (yes y) b = omega arith
     go (no y) b = absurd (y h)
 
+-- as many lines as there are
+pub kept-count : (these : List Line) (is js lows highs is′ js′ lows′ highs′ : List ℕ) (n : ℕ) → Kept these 0 is js lows highs n is′ js′ lows′ highs′ → n ≡ length these
+kept-count these is js lows highs is′ js′ lows′ highs′ n k = sym (length-lines is′ js′ lows′ highs′ n) ∙ ap length (k .lines)
+
 -- ---- the levels noted
 
 lineOf-noted : (s q e i j p m : ℕ) → e ≤ 64 → lineOf (levelsFrom s q e) i j p m ≡ lineWithin i j (max q p) (min e m)
@@ -173,5 +177,5 @@ module _ (row : ℕ → Levels) (count : ℕ) (is js lows highs : List ℕ) (n j
     all = k .lines ∙ ap (λ l. l ++ linesTo row (row j) j) (v .all) ∙ sym (plan-suc row j) ∙ ap (plan row) (sym (add-one j));
   }
 
-pub scan-end : (row : ℕ → Levels) (count : ℕ) (is js lows highs : List ℕ) (n j : ℕ) → Scanning row count is js lows highs n j → count ≤ j → linesIn is js lows highs n ≡ plan row count
-scan-end row count is js lows highs n j v h = let e : j ≡ count = omega (arith, v .near) in v .all ∙ ap (plan row) e
+pub scan-end : (row : ℕ → Levels) (count : ℕ) (is₀ js₀ lows₀ highs₀ is js lows highs : List ℕ) (n j : ℕ) → Scanning row count is js lows highs n j → count ≤ j → Kept (plan row count) 0 is₀ js₀ lows₀ highs₀ n is js lows highs
+scan-end row count is₀ js₀ lows₀ highs₀ is js lows highs n j v h = let e : j ≡ count = omega (arith, v .near) in record { sized = v .sized; lines = v .all ∙ ap (plan row) e }

@@ -4,8 +4,7 @@ ghost use Prim.Native.Nat.{_+_, _≤_, _<_, min, max};
 ghost use lib.ListN.{length};
 ghost use Rattle.join_plan.specs.Scan.{plan as scanned};
 ghost use Rattle.row_gate.specs.Notes.{Noted};
-ghost use Rattle.row_plan.specs.Arrays.{levelsIn, Sized, Kept, lineWithin, linesToIn, linesOf};
-use super::Plan;
+ghost use Rattle.row_plan.specs.Arrays.{levelsIn, Sized, Kept, lineWithin, linesToIn};
 
 fn lower(a: u8, b: u8) -> u8
     ensures { λ r. ⌜ r ≡ min a b ⌝ }
@@ -80,48 +79,29 @@ fn lines_to(
     k
 }
 
-pub fn no_lines() -> Plan {
-    Plan {
-        is: [0u8; 128],
-        js: [0u8; 128],
-        lows: [0u8; 128],
-        highs: [0u8; 128],
-        n: 0,
-    }
-}
-
-// The plan of a row of `count` chunks.
-pub fn scan(starts: &[u8; 64], peaks: &[u8; 64], ends: &[u8; 64], count: usize) -> Plan
+// The plan of a row of `count` chunks; the answer is the number of its lines.
+pub fn scan(
+    starts: &[u8; 64],
+    peaks: &[u8; 64],
+    ends: &[u8; 64],
+    count: usize,
+    is: &mut [u8; 128],
+    js: &mut [u8; 128],
+    lows: &mut [u8; 128],
+    highs: &mut [u8; 128],
+) -> usize
     requires { ⌜ Noted (now starts) (now peaks) (now ends) ⌝ }
+    requires { ⌜ Sized (now is) (now js) (now lows) (now highs) ⌝ }
     requires { ⌜ count ≤ 64 ⌝ }
     requires { ⌜ length (scanned (levelsIn (now starts) (now peaks) (now ends)) count) ≤ 128 ⌝ }
-    ensures { λ r. ⌜ linesOf r ≡ scanned (levelsIn (now (starts .entry)) (now (peaks .entry)) (now (ends .entry))) count ⌝ }
+    ensures { λ r. ⌜ Kept (scanned (levelsIn (now (starts .entry)) (now (peaks .entry)) (now (ends .entry))) count) 0 (now (is .entry)) (now (js .entry)) (now (lows .entry)) (now (highs .entry))
+        r (now (is .exit)) (now (js .exit)) (now (lows .exit)) (now (highs .exit)) ⌝ }
 {
-    let mut is = [0u8; 128];
-    let mut js = [0u8; 128];
-    let mut lows = [0u8; 128];
-    let mut highs = [0u8; 128];
     let mut n: usize = 0;
     let mut j: usize = 0;
     while j < count {
-        n = lines_to(
-            starts,
-            peaks,
-            ends,
-            j,
-            &mut is,
-            &mut js,
-            &mut lows,
-            &mut highs,
-            n,
-        );
+        n = lines_to(starts, peaks, ends, j, is, js, lows, highs, n);
         j += 1;
     }
-    Plan {
-        is,
-        js,
-        lows,
-        highs,
-        n,
-    }
+    n
 }

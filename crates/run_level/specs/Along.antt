@@ -10,7 +10,7 @@ use Rattle.summary.specs.Decode.{decode}
 use Rattle.join_plan.specs.Plan.{planOfRow}
 use Rattle.plan_work.specs.Runs.{peakOfSummary, slopesOf, levelsDown}
 use Rattle.row_plan.specs.Arrays.{linesIn}
-use Rattle.row_gate.specs.Asks.{Through}
+use Rattle.row_gate.specs.Asks.{LetThrough}
 use Rattle.run_level.specs.declared.Place.{Place}
 use Rattle.run_level.specs.Levels.{pieceOf, Begun}
 
@@ -18,12 +18,10 @@ use Rattle.run_level.specs.Levels.{pieceOf, Begun}
 abbrev pub rowIn : (m : ℕ) → List ℕ → List (SummaryIn m)
 rowIn m row = map (decode m) (rowPieces row)
 
--- A row of `count` pieces in mode m that is let through, whatever else is noted of them, and where they begin.
+-- A row that is let through, and where its pieces begin.
 pub record Ready (row : List ℕ) (count m : ℕ) (ats starts peaks : List ℕ) : Type 0 where
-  pub states : List ℕ
   pub ends : List ℕ
-  pub openeds : List ℕ
-  pub through : Through row count m states starts peaks ends openeds
+  pub let-through : LetThrough row count m starts peaks ends
   pub begun : Begun row count ats
 
 -- And the n lines of its plan are in four arrays.

@@ -1,5 +1,5 @@
 -- A line of the plan in arrays: where its levels are read, what they are, and what they can add up to. Assumes nothing.
-use mathlib.Core.Path.{_≡_, sym, ap, ap₂, subst, _∙_}
+use mathlib.Core.Path.{_≡_, ap, ap₂, subst, _∙_}
 use mathlib.Core.List.{List, [], _∷_, _++_, List·Memᴰ, List·Memᴰ·head, Memᴰ·append-left, Memᴰ·append-right}
 use mathlib.Core.Logic.{dite}
 use Prim.Native.Nat.{ℕ, zero, suc, _+_, _-_, _≤_, _<_}
@@ -13,31 +13,36 @@ use Rattle.figure.specs.Mode.{modeOf}
 use Rattle.summary.specs.Layout.{SummaryIn}
 use Rattle.summary.specs.Decode.{decode}
 use Rattle.join_plan.specs.Plan.{Line, planOfRow}
+use Rattle.join_plan.specs.Scan.{plan}
 use Rattle.plan_work.specs.Runs.{peakOfSummary, slopesOf, levelsDown, summaryAt, runLevels}
 use Rattle.plan_work.specs.WorkLaws.{levels-next}
 use Rattle.plan_work.specs.RunsExact.{line-spans}
 use Rattle.plan_work.specs.WorkSizes.{levels-light, load-fits}
-use Rattle.row_plan.specs.declared.Opened.{Opened}
-use Rattle.row_plan.specs.Arrays.{lineIn, linesIn}
-use Rattle.row_plan.specs.Opens.{Planned}
-use Rattle.row_plan.specs.ScanLaws.{length-lines}
+use Rattle.row_plan.specs.Arrays.{levelsIn, lineIn, linesIn, Kept}
+use Rattle.row_plan.specs.RowLaws.{plan-is, plan-room}
+use Rattle.row_plan.specs.ScanLaws.{kept-count}
 use Rattle.outcome.specs.Through.{valid-row}
 use Rattle.row_gate.specs.RowLaws.{decoded-at}
 use Rattle.run_level.specs.declared.Place.{Place}
 use Rattle.run_level.specs.Levels.{pieceOf, Begun, placeIn, Reads, levelAt, levelFor}
 use Rattle.run_level.specs.StandsFor.{LineLevels, level-is}
 use Rattle.run_level.specs.Lines.{line-reads, levels-of}
+use Rattle.row_gate.specs.Asks.{LetThrough}
 use Rattle.run_level.specs.Along.{rowIn, Along, levelsOf}
 
 -- ---- the lines in the arrays
 
--- A row that is opened, and its pieces begun.
-module _ {row : List ℕ} {count m : ℕ} {o : Opened} (p : Planned row count m o) where
-  pub plan-count : o .plan .n ≡ length (planOfRow (rowIn m row))
-  plan-count = sym (length-lines (o .plan .is) (o .plan .js) (o .plan .lows) (o .plan .highs) (o .plan .n)) ∙ ap length (p .lines)
+-- A row that is let through, once its plan is scanned.
+module _ {row : List ℕ} {count m : ℕ} {starts peaks ends : List ℕ} (t : LetThrough row count m starts peaks ends) {is₀ js₀ lows₀ highs₀ is js lows highs : List ℕ} {n : ℕ}
+    (k : Kept (plan (levelsIn starts peaks ends) count) 0 is₀ js₀ lows₀ highs₀ n is js lows highs) where
+  pub plan-count : n ≡ length (planOfRow (rowIn m row))
+  plan-count = kept-count _ is₀ js₀ lows₀ highs₀ is js lows highs n k ∙ ap length (plan-is (t .through))
 
-  pub along : {ats : List ℕ} → Begun row count ats → Along row count m ats (o .starts) (o .peaks) (o .plan .is) (o .plan .js) (o .plan .lows) (o .plan .highs) (o .plan .n)
-  along b = record { ready = record { states = p .states; ends = p .ends; openeds = p .openeds; through = p .through; begun = b }; lines = p .lines; few = p .few }
+  pub lines-few : n ≤ 128
+  lines-few = omega (arith, kept-count _ is₀ js₀ lows₀ highs₀ is js lows highs n k, plan-room (t .through))
+
+  pub along : {ats : List ℕ} → Begun row count ats → Along row count m ats starts peaks is js lows highs n
+  along b = record { ready = record { ends = ends; let-through = t; begun = b }; lines = k .lines ∙ plan-is (t .through); few = lines-few }
 
 line-here : (is js lows highs : List ℕ) (k n : ℕ) → k < n → List·Memᴰ (lineIn is js lows highs k) (linesIn is js lows highs n)
 line-here is js lows highs k zero h = absurd (omega arith)
@@ -53,10 +58,10 @@ module _ {row : List ℕ} {count m : ℕ} {ats starts peaks is js lows highs : L
   line-member = subst (λ (ls : List Line). List·Memᴰ e ls) (a .lines) (line-here is js lows highs k n h)
 
   pub line-levels-of : LineLevels m (rowPieces row) e
-  line-levels-of = levels-of (a .ready .through) (a .ready .begun) e line-member
+  line-levels-of = levels-of (a .ready .let-through .through) (a .ready .begun) e line-member
 
   pub line-reads-at : (d : ℕ) → e .lowest ≤ d → d ≤ e .highest → Reads row (placeIn ats starts peaks (e .i)) (placeIn ats starts peaks (e .j)) d
-  line-reads-at = line-reads (a .ready .through) (a .ready .begun) e line-levels-of
+  line-reads-at = line-reads (a .ready .let-through .through) (a .ready .begun) e line-levels-of
 
   -- The levels of the line are those of the hills at its places.
   pub line-is : runLevels (modeOf m .algebra) (rowIn m row) e ≡ levelsOf row m (placeIn ats starts peaks (e .i)) (placeIn ats starts peaks (e .j)) (e .lowest) (suc (e .highest) - e .lowest)
@@ -72,7 +77,7 @@ module _ {row : List ℕ} {count m : ℕ} {ats starts peaks is js lows highs : L
   line-costs =
       let 𝒜 = modeOf m .algebra in
       let 𝒮 = modeOf m .sizes in
-      let t = a .ready .through in
+      let t = a .ready .let-through .through in
       let v = valid-row m (rowPieces row) (t .all) in
       omega (arith, levels-light 𝒜 𝒮 (rowIn m row) v e (line-spans 𝒜 (rowIn m row) e line-member), load-fits 𝒜 𝒮 (rowIn m row) v (modeOf m .laws) (modeOf m .commutative) (t .faultless) (modeOf m .unit-small))
 

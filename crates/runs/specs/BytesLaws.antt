@@ -12,7 +12,7 @@ use Rattle.number.specs.Bytes.{bytesOf, putAt}
 use Rattle.figure.specs.Mode.{modeOf}
 use Rattle.figure.specs.declared.Run.{Run}
 use Rattle.outcome.specs.Outcomes.{runLength, runBytes, eachRun}
-use Rattle.row_gate.specs.WroteLaws.{put-next}
+use Rattle.row_plan.specs.WroteLaws.{put-next}
 
 -- the six stores of a run
 run-stored : (l : List ℕ) (at w m x y z : ℕ) →

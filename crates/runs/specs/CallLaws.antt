@@ -13,18 +13,18 @@ use Rattle.hill.specs.Verdict.{Verdict, pass, refuse}
 use Rattle.hill.specs.Finish.{outcome}
 use Rattle.summary.specs.Decode.{decode}
 use Rattle.join_plan.specs.Plan.{Line, planOfRow}
+use Rattle.join_plan.specs.Scan.{plan}
 use Rattle.plan_work.specs.Runs.{runsOf}
 use Rattle.plan_work.specs.RunsExact.{runs-count}
 use Rattle.plan_work.specs.Gate.{rowFault}
 use Rattle.outcome.specs.Outcomes.{Summaries, firstMode, askRow, askLog, runLength, runsBytes, runsOutcome}
 use Rattle.outcome.specs.Through.{valid-row, Found, ask-found, lines-125}
-use Rattle.row_plan.specs.declared.Opened.{Opened}
-use Rattle.row_plan.specs.Arrays.{linesOf}
-use Rattle.row_plan.specs.Opens.{Planned}
-use Rattle.row_gate.specs.Asks.{askAll}
-use Rattle.row_gate.specs.CallLaws.{call-refused, call-wrote}
-use Rattle.row_gate.specs.Wrote.{Wrote}
-use Rattle.row_gate.specs.WroteLaws.{wrote-all}
+use Rattle.row_plan.specs.Arrays.{levelsIn, linesIn, Kept}
+use Rattle.row_plan.specs.RowLaws.{plan-is}
+use Rattle.row_gate.specs.Asks.{askAll, Through, LetThrough}
+use Rattle.row_plan.specs.CallLaws.{call-refused, call-wrote}
+use Rattle.row_plan.specs.Wrote.{Wrote}
+use Rattle.row_plan.specs.WroteLaws.{wrote-all}
 use Rattle.run_level.specs.Levels.{Begun}
 use Rattle.run_level.specs.Along.{rowIn}
 use Rattle.run_level.specs.AlongLaws.{plan-count, along}
@@ -33,19 +33,21 @@ use Rattle.runs.specs.BytesLaws.{length-each}
 
 -- ---- the lines of a row that is let through
 
-module _ {row : List ℕ} {count m : ℕ} {o : Opened} (p : Planned row count m o) where
+module _ {row : List ℕ} {count m : ℕ} {starts peaks ends : List ℕ} (t : LetThrough row count m starts peaks ends)
+    {is js lows highs is′ js′ lows′ highs′ : List ℕ} {n : ℕ} (k : Kept (plan (levelsIn starts peaks ends) count) 0 is js lows highs n is′ js′ lows′ highs′) where
   -- as many bytes a line
-  pub runs-length : length (linesRuns row m (linesOf (o .plan))) ≡ runLength * o .plan .n
+  pub runs-length : length (linesRuns row m (planOfRow (rowIn m row))) ≡ runLength * n
   runs-length =
-      ap (λ (l : List Line). length (linesRuns row m l)) (p .lines) ∙ length-each m (runsOf (modeOf m .context) (rowIn m row)) ∙
-      ap (λ (l : ℕ). runLength * l) (runs-count (modeOf m .context) (modeOf m .sizes) (λ r f. f) (rowIn m row) (valid-row m (rowPieces row) (p .through .all)) ∙ sym (plan-count p))
+      length-each m (runsOf (modeOf m .context) (rowIn m row)) ∙
+      ap (λ (l : ℕ). runLength * l) (runs-count (modeOf m .context) (modeOf m .sizes) (λ r f. f) (rowIn m row) (valid-row m (rowPieces row) (t .through .all)) ∙ sym (plan-count t k))
 
   -- all are written
-  pub runs-written : (b out : List ℕ) → runLength * o .plan .n ≤ length b → out ≡ sets b 0 (linesRuns row m (linesOf (o .plan))) → Wrote (linesRuns row m (linesOf (o .plan))) (result (runLength * o .plan .n)) b out
-  runs-written b out h e = wrote-all (linesRuns row m (linesOf (o .plan))) b out (runLength * o .plan .n) (sym runs-length) (omega (arith, runs-length)) e
+  pub runs-written : (b out : List ℕ) → runLength * n ≤ length b → out ≡ sets b 0 (linesRuns row m (linesIn is′ js′ lows′ highs′ n)) → Wrote (linesRuns row m (planOfRow (rowIn m row))) (result (runLength * n)) b out
+  runs-written b out h e =
+      wrote-all (linesRuns row m (planOfRow (rowIn m row))) b out (runLength * n) (sym runs-length) (omega (arith, runs-length)) (e ∙ ap (λ (l : List Line). sets b 0 (linesRuns row m l)) (k .lines ∙ plan-is (t .through)))
 
-  pub all-lines : {ats : List ℕ} → Begun row count ats → Lines row m ats (o .starts) (o .peaks) (o .plan)
-  all-lines b = record { count = count; along = along p b }
+  pub all-lines : {ats : List ℕ} → Begun row count ats → Lines row m ats starts peaks is′ js′ lows′ highs′ n
+  all-lines b = record { count = count; along = along t k b }
 
 -- ---- the call
 
@@ -53,11 +55,10 @@ pub runs-not : (row b : List ℕ) (n : ℕ) → askAll row ≡ refused n → (re
 unfolding runsOutcome
 runs-not row b n e = call-refused runsBytes row b n e
 
-pub runs-wrote : {row : List ℕ} {count m : ℕ} {o : Opened} → Planned row count m o → (before after : List ℕ) (r : Outcome ℕ) → Wrote (linesRuns row m (linesOf (o .plan))) r before after →
-    (r ≡ lengthAnswered (runsOutcome row (length before))) × (after ≡ bufferAfter (runsOutcome row (length before)) before)
+pub runs-wrote : (row before after : List ℕ) (r : Outcome ℕ) (count m : ℕ) (states starts peaks ends openeds : List ℕ) → Through row count m states starts peaks ends openeds →
+    Wrote (linesRuns row m (planOfRow (rowIn m row))) r before after → (r ≡ lengthAnswered (runsOutcome row (length before))) × (after ≡ bufferAfter (runsOutcome row (length before)) before)
 unfolding runsOutcome runsBytes
-runs-wrote {row = row} {m = m} p before after r w =
-    call-wrote runsBytes row before after r _ m _ _ _ _ _ (p .through) (subst (λ (l : List Line). Wrote (linesRuns row m l) r before after) (p .lines) w)
+runs-wrote row before after r count m states starts peaks ends openeds t w = call-wrote runsBytes row before after r count m states starts peaks ends openeds t w
 
 -- ---- at most 125 runs
 

@@ -15,43 +15,43 @@ use Rattle.summary.specs.Layout.{SummaryIn}
 use Rattle.join_plan.specs.Plan.{Line}
 use Rattle.plan_work.specs.Runs.{runOf, runLevels, runsAlong}
 use Rattle.outcome.specs.Outcomes.{runLength, runBytes, eachRun}
-use Rattle.row_plan.specs.declared.Plan.{Plan}
 use Rattle.row_plan.specs.Arrays.{lineIn, linesIn}
 use Rattle.run_level.specs.declared.Place.{Place}
 use Rattle.run_level.specs.Levels.{placeIn}
 use Rattle.run_level.specs.Along.{rowIn}
 use Rattle.run_level.specs.AlongLaws.{line-levels-of, line-reads-at, line-is, line-costs}
-use Rattle.runs.specs.Runs.{most, Lines, LineAt, LineReads, lineLevels, RunIs, LineRun, linesRuns}
+use Rattle.runs.specs.Runs.{most, LineAt, LineReads, lineLevels, RunIs, LineRun, linesRuns}
 use Rattle.runs.specs.BytesLaws.{length-each, each-append, each-one}
 
 -- ---- one line
 
-pub line-at : {row : List ℕ} {m : ℕ} {ats starts peaks : List ℕ} {p : Plan} (v : Lines row m ats starts peaks p) (k : ℕ) → k < p .n → LineAt row m ats starts peaks (lineIn (p .is) (p .js) (p .lows) (p .highs) k)
-unfolding most
-line-at {m = m} v k h =
-    let a = v .along in
-    let l = line-levels-of a k h in
-    let t = a .ready .through in
-    record {
-      near-i = omega (arith, l .order, l .within, t .long, t .few);
-      near-j = omega (arith, l .within, t .long, t .few);
-      reads = record {
-        some = l .some;
-        reads = line-reads-at a k h;
-        opener-mode = l .opener-mode;
-        closer-mode = l .closer-mode;
-        light = subst (λ (ls : List (Level (modeOf m .algebra))). costs (modeOf m .sizes) ls ≤ 200_000_000_000_000) (line-is a k h) (line-costs a k h);
-      };
-      levels = line-is a k h;
-    }
+module _ {row : List ℕ} {m : ℕ} {ats starts peaks is js lows highs : List ℕ} {k : ℕ} (v : LineAt row m ats starts peaks is js lows highs k) where
+  abbrev here : Line
+  here = lineIn is js lows highs k
 
--- What is asked of the run of the line, and what it answers.
-module _ {row : List ℕ} {m : ℕ} {ats starts peaks : List ℕ} {e : Line} (v : LineAt row m ats starts peaks e) (o c : Place) (p : o ≡ placeIn ats starts peaks (e .i)) (q : c ≡ placeIn ats starts peaks (e .j)) where
-  pub line-asks : LineReads row m o c (e .lowest) (e .highest)
-  line-asks = rw (p, q) (v .reads)
+  pub line-near : (here .i < 64) × (here .j < 64)
+  line-near =
+      let l = line-levels-of (v .lines .along) k (v .inside) in
+      let t = v .lines .along .ready .let-through .through in
+      (omega (arith, l .order, l .within, t .long, t .few), omega (arith, l .within, t .long, t .few))
 
-  pub line-answers : (r : Run) → RunIs m (lineLevels row m o c (e .lowest) (e .highest)) r → LineRun row m e r
-  line-answers r h = subst (λ (ls : List (Level (modeOf m .algebra))). RunIs m ls r) (sym (v .levels)) (rw (p, q) at h)
+  -- What is asked of the run of the line, and what it answers, from the places of its two hills.
+  module _ (o c : Place) (p : o ≡ placeIn ats starts peaks (here .i)) (q : c ≡ placeIn ats starts peaks (here .j)) where
+    pub line-asks : LineReads row m o c (here .lowest) (here .highest)
+    unfolding most
+    line-asks =
+        let a = v .lines .along in
+        let l = line-levels-of a k (v .inside) in
+        rw (p, q) record {
+          some = l .some;
+          reads = line-reads-at a k (v .inside);
+          opener-mode = l .opener-mode;
+          closer-mode = l .closer-mode;
+          light = subst (λ (ls : List (Level (modeOf m .algebra))). costs (modeOf m .sizes) ls ≤ 200_000_000_000_000) (line-is a k (v .inside)) (line-costs a k (v .inside));
+        }
+
+    pub line-answers : (r : Run) → RunIs m (lineLevels row m o c (here .lowest) (here .highest)) r → LineRun row m here r
+    line-answers r h = subst (λ (ls : List (Level (modeOf m .algebra))). RunIs m ls r) (sym (line-is (v .lines .along) k (v .inside))) (rw (p, q) at h)
 
 -- ---- all of them
 

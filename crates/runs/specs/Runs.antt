@@ -11,10 +11,9 @@ use Rattle.summary.specs.Judge.{modeAt}
 use Rattle.join_plan.specs.Plan.{Line}
 use Rattle.plan_work.specs.Runs.{runLevels, runOf, runsAlong}
 use Rattle.outcome.specs.Outcomes.{eachRun}
-use Rattle.row_plan.specs.declared.Plan.{Plan}
 use Rattle.run_level.specs.declared.Place.{Place}
 use Rattle.run_level.specs.declared.RunLevel.{RunLevel}
-use Rattle.run_level.specs.Levels.{pieceOf, placeIn, Reads, levelAt, levelFor}
+use Rattle.run_level.specs.Levels.{pieceOf, Reads, levelAt, levelFor}
 use Rattle.run_level.specs.Along.{rowIn, Along, levelsOf}
 
 -- What the levels of a line can add up to: two pieces open at most 100,000 records each, of at most 10^9.
@@ -48,17 +47,15 @@ pub record LineReads (row : List ℕ) (m : ℕ) (opener closer : Place) (low hig
 abbrev pub RunIs : (m : ℕ) → List (Level (modeOf m .algebra)) → Run → Type 0
 RunIs m ls r = map (modeOf m .storeRun) (runOf (modeOf m .context) ls) ≡ r ∷ []
 
--- A row that is let through, its pieces begun, and the lines of its plan.
-pub record Lines (row : List ℕ) (m : ℕ) (ats starts peaks : List ℕ) (p : Plan) : Type 0 where
+-- The arrays hold the n lines of a plan; and k is one of them.
+pub record Lines (row : List ℕ) (m : ℕ) (ats starts peaks is js lows highs : List ℕ) (n : ℕ) : Type 0 where
   pub count : ℕ
-  pub along : Along row count m ats starts peaks (p .is) (p .js) (p .lows) (p .highs) (p .n)
+  pub along : Along row count m ats starts peaks is js lows highs n
 
--- One of them: what is read of its levels, from the places of its two hills.
-pub record LineAt (row : List ℕ) (m : ℕ) (ats starts peaks : List ℕ) (e : Line) : Type 0 where
-  pub near-i : e .i < 64
-  pub near-j : e .j < 64
-  pub reads : LineReads row m (placeIn ats starts peaks (e .i)) (placeIn ats starts peaks (e .j)) (e .lowest) (e .highest)
-  pub levels : runLevels (modeOf m .algebra) (rowIn m row) e ≡ lineLevels row m (placeIn ats starts peaks (e .i)) (placeIn ats starts peaks (e .j)) (e .lowest) (e .highest)
+pub record LineAt (row : List ℕ) (m : ℕ) (ats starts peaks is js lows highs : List ℕ) (k : ℕ) : Type 0 where
+  pub n : ℕ
+  pub lines : Lines row m ats starts peaks is js lows highs n
+  pub inside : k < n
 
 -- r is the run of a line, as it is stored.
 abbrev pub LineRun : List ℕ → (m : ℕ) → Line → Run → Type 0

@@ -4,33 +4,33 @@ ghost use Prim.Native.Nat.{_*_, _≤_};
 ghost use lib.ListN.{length};
 ghost use lib.Seq.{sets};
 ghost use Rattle.outcome.specs.Outcomes.{runLength};
-ghost use Rattle.row_plan.specs.Arrays.{line, linesOf};
+ghost use Rattle.row_plan.specs.Arrays.{lineIn, linesIn};
 ghost use Rattle.runs.specs.Runs.{Lines, LineAt, LineRun, linesRuns};
 use super::bytes::RUN_LENGTH;
 use super::bytes::write_run;
 use super::line::run_of_line;
 use figure::Run;
-use row_plan::Plan;
 use run_level::place_of;
 
-// The run of a line of the plan.
+// The run of line k.
 fn run_at(
     row: &[u8],
     ats: &[usize; 64],
     starts: &[u8; 64],
     peaks: &[u8; 64],
-    i: u8,
-    j: u8,
-    low: u8,
-    high: u8,
+    is: &[u8; 128],
+    js: &[u8; 128],
+    lows: &[u8; 128],
+    highs: &[u8; 128],
+    k: usize,
     mode: u16,
 ) -> Run
-    requires { ⌜ LineAt (now row) mode (now ats) (now starts) (now peaks) (line i j low high) ⌝ }
-    ensures { λ r. ⌜ LineRun (now (row .entry)) mode (line i j low high) r ⌝ }
+    requires { ⌜ LineAt (now row) mode (now ats) (now starts) (now peaks) (now is) (now js) (now lows) (now highs) k ⌝ }
+    ensures { λ r. ⌜ LineRun (now (row .entry)) mode (lineIn (now (is .entry)) (now (js .entry)) (now (lows .entry)) (now (highs .entry)) k) r ⌝ }
 {
-    let opener = place_of(ats, starts, peaks, i as usize);
-    let closer = place_of(ats, starts, peaks, j as usize);
-    run_of_line(row, opener, closer, low, high, mode)
+    let opener = place_of(ats, starts, peaks, is[k] as usize);
+    let closer = place_of(ats, starts, peaks, js[k] as usize);
+    run_of_line(row, opener, closer, lows[k], highs[k], mode)
 }
 
 pub fn write_each(
@@ -38,27 +38,21 @@ pub fn write_each(
     ats: &[usize; 64],
     starts: &[u8; 64],
     peaks: &[u8; 64],
-    plan: Plan,
+    is: &[u8; 128],
+    js: &[u8; 128],
+    lows: &[u8; 128],
+    highs: &[u8; 128],
+    n: usize,
     mode: u16,
     out: &mut [u8],
 )
-    requires { ⌜ Lines (now row) mode (now ats) (now starts) (now peaks) plan ⌝ }
-    requires { ⌜ runLength * plan .n ≤ length (now out) ⌝ }
-    ensures { λ _. ⌜ now (out .exit) ≡ sets (now (out .entry)) 0 (linesRuns (now (row .entry)) mode (linesOf plan)) ⌝ }
+    requires { ⌜ Lines (now row) mode (now ats) (now starts) (now peaks) (now is) (now js) (now lows) (now highs) n ⌝ }
+    requires { ⌜ runLength * n ≤ length (now out) ⌝ }
+    ensures { λ _. ⌜ now (out .exit) ≡ sets (now (out .entry)) 0 (linesRuns (now (row .entry)) mode (linesIn (now (is .entry)) (now (js .entry)) (now (lows .entry)) (now (highs .entry)) n)) ⌝ }
 {
     let mut k: usize = 0;
-    while k < plan.n {
-        let run = run_at(
-            row,
-            ats,
-            starts,
-            peaks,
-            plan.is[k],
-            plan.js[k],
-            plan.lows[k],
-            plan.highs[k],
-            mode,
-        );
+    while k < n {
+        let run = run_at(row, ats, starts, peaks, is, js, lows, highs, k, mode);
         write_run(out, RUN_LENGTH * k, mode, run);
         k += 1;
     }

@@ -104,7 +104,7 @@ module _ {row : List ℕ} {count m : ℕ} {ats starts peaks : List ℕ} {i j lev
     here = omega (arith, v .within)
 
     light : sizeOf N acc ≤ outcomeMost
-    light = omega (arith, size-stored N acc _ (w .stores), middles-light (N .algebra) (N .sizes) R (valid (v .ready)) i k level, row-light (v .ready))
+    light = omega (arith, size-stored N acc _ (w .stores), middles-light (N .algebra) (N .sizes) R (valid (v .ready .let-through)) i k level, row-light (v .ready .let-through))
 
     pub adds-next : (p : Place) (z : ℤ) → p ≡ placeIn ats starts peaks k → z ≡ acc → AddsMiddle row m p level z
     adds-next p z ep ez =
@@ -123,7 +123,7 @@ module _ {row : List ℕ} {count m : ℕ} {ats starts peaks : List ℕ} {i j lev
         let f = middlesAt (N .algebra) level (strictlyBetween (N .algebra) R i k) in
         let e : withMiddle row m p level z ≡ middlesAt (N .algebra) level (strictlyBetween (N .algebra) R i (k + 1)) =
         (λ i′. withMiddle row m (ep i′) level (ez i′)) ∙ ap₂ (N .algebra ._⊗_) (w .stores .reads) (sym (middle-noted (v .ready) k here level (v .level-high))) ∙
-        sym (middles-step (N .algebra) (N .laws) R i k level (w .after) (omega (arith, length-map (rowPieces row) (decode m), v .ready .through .long))) ∙
+        sym (middles-step (N .algebra) (N .laws) R i k level (w .after) (omega (arith, length-map (rowPieces row) (decode m), v .ready .let-through .through .long))) ∙
         ap (λ (n : ℕ). middlesAt (N .algebra) level (strictlyBetween (N .algebra) R i n)) (sym (add-one k)) in
         record { after = omega (arith, w .after); near = omega arith; stores = stores-same N r s _ es (subst (Stores N r) e t) }
 
@@ -220,8 +220,8 @@ module _ {row : List ℕ} {count m : ℕ} {ats starts peaks : List ℕ} {outs : 
         omega (
           arith,
           outcomes-light m is js lows outs n (e .i) (e .j) (e .high + 1) (v .outcomes) highs n (omega arith),
-          middles-light (Q .algebra) (Q .sizes) (rowIn m row) (valid (v .ready)) (e .i) (e .j) (e .high + 1),
-          row-light (v .ready),
+          middles-light (Q .algebra) (Q .sizes) (rowIn m row) (valid (v .ready .let-through)) (e .i) (e .j) (e .high + 1),
+          row-light (v .ready .let-through),
         )
 
     pub gives-can : Combines Q x y

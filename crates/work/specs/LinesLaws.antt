@@ -50,7 +50,7 @@ module _ {row : List ℕ} {count m : ℕ} {ats starts peaks is js lows highs : L
       record {
         ready = v .ready;
         order = v .levels .order;
-        within = omega (arith, v .levels .within, v .ready .through .long);
+        within = omega (arith, v .levels .within, v .ready .let-through .through .long);
         level-high = omega (arith, o .high, o .is .end-high);
         outcomes = v .outcomes;
       }
@@ -72,7 +72,7 @@ module _ {row : List ℕ} {count m : ℕ} {ats starts peaks is js lows highs : L
         (subst (Runs row m o c (e .low) (e .high)) (sym ey)
         (record {
           some = v .levels .some;
-          reads = line-reads (v .ready .through) (v .ready .begun) (joinLine e) (v .levels);
+          reads = line-reads (v .ready .let-through .through) (v .ready .begun) (joinLine e) (v .levels);
           opener-mode = v .levels .opener-mode;
           closer-mode = v .levels .closer-mode;
           stored = g highs .stored;
@@ -82,7 +82,7 @@ module _ {row : List ℕ} {count m : ℕ} {ats starts peaks is js lows highs : L
         light : sizeOf M x + costs (M .sizes) (levelsOf row m o c (e .low) (suc (e .high) - e .low)) ≤ most
         light =
             subst (λ (ls : List (Level (M .algebra))). sizeOf M x + costs (M .sizes) ls ≤ most) (v .run-is)
-            (omega (arith, size-stored M x _ (g highs), v .light .run-light, row-light (v .ready)))
+            (omega (arith, size-stored M x _ (g highs), v .light .run-light, row-light (v .ready .let-through)))
 
     -- Its outcome.
     pub line-stores : (p q : Place) (r s : ℤ) → p ≡ o → q ≡ c → s ≡ r → Stores M r (through (M .algebra) (levelsOf row m p q (e .low) (suc (e .high) - e .low)) (M .read y)) →
@@ -148,7 +148,7 @@ module _ {row : List ℕ} {count m : ℕ} {ats starts peaks is js lows highs : L
   is-light : LineLight (N .algebra) (N .sizes) R next (doneIn N is js lows highs outs k)
   is-light =
       subst (LineLight (N .algebra) (N .sizes) R next) (sym (w .done .outcomes))
-      (line-light (N .algebra) (N .sizes) R (valid (a .ready)) (N .laws) (N .commutative) (a .ready .through .faultless) these behind next in-plan (omega (arith, length-lines is js lows highs k, a .few)))
+      (line-light (N .algebra) (N .sizes) R (valid (a .ready .let-through)) (N .laws) (N .commutative) (a .ready .let-through .through .faultless) these behind next in-plan (omega (arith, length-lines is js lows highs k, a .few)))
 
   pub line-works : (e : Join) → joinLine e ≡ next → WorksLine row count m ats starts peaks is js lows highs outs k e
   line-works e q = record {
@@ -156,7 +156,7 @@ module _ {row : List ℕ} {count m : ℕ} {ats starts peaks is js lows highs : L
     outcomes = record {
       few = omega (arith, a .few);
       each = w .done .each;
-      light = λ i l. omega (arith, each-light N (load (N .algebra) (N .sizes) R) is js lows highs outs k (is-light .outs) i l, row-light (a .ready));
+      light = λ i l. omega (arith, each-light N (load (N .algebra) (N .sizes) R) is js lows highs outs k (is-light .outs) i l, row-light (a .ready .let-through));
     };
     levels = subst (LineLevels m (rowPieces row)) (sym q) (line-levels-of a k h);
     run-is = subst (λ (l : Line). runLevels (N .algebra) R l ≡ levelsOf row m (placeIn ats starts peaks (l .i)) (placeIn ats starts peaks (l .j)) (l .lowest) (suc (l .highest) - l .lowest)) (sym q) (line-is a k h);
@@ -229,14 +229,14 @@ module _ {row : List ℕ} {count m : ℕ} {ats starts peaks : List ℕ} (t : Rea
   S = rowIn m row
 
   pub seek-start : Seeking row count m 0
-  seek-start = record { near = omega arith; begins = row-begins S (t .through .faultless); same = refl }
+  seek-start = record { near = omega arith; begins = row-begins S (t .let-through .through .faultless); same = refl }
 
   pub seek-end : (k : ℕ) {A : Type 0} → Seeking row count m k → count ≤ k → A
-  seek-end k w h = absurd (subst Begins (drop-of-length-le S {i = k} (omega (arith, length-map (rowPieces row) (decode m), t .through .long))) (w .begins))
+  seek-end k w h = absurd (subst Begins (drop-of-length-le S {i = k} (omega (arith, length-map (rowPieces row) (decode m), t .let-through .through .long))) (w .begins))
 
   module _ (k : ℕ) (w : Seeking row count m k) (h : k < count) where
     from-here : drop k S ≡ summaryAt (modeOf m .algebra) S k ∷ drop (suc k) S
-    from-here = drop-cons S k blank (omega (arith, length-map (rowPieces row) (decode m), t .through .long))
+    from-here = drop-cons S k blank (omega (arith, length-map (rowPieces row) (decode m), t .let-through .through .long))
 
     -- A hill.
     pub seek-hill : (p : Place) (z y : ℤ) → p ≡ placeIn ats starts peaks k → y ≡ z → getD peaks k 0 < noPeak → z ≡ middleAt (pieceOf row (p .piece)) → Stores (modeOf m) y (oneMiddle (modeOf m .algebra) S)
@@ -245,7 +245,7 @@ module _ {row : List ℕ} {count m : ℕ} {ats starts peaks : List ℕ} (t : Rea
         let ez : z ≡ middleAt (pieceOf row k) = e ∙ ap (λ (x : Place). middleAt (pieceOf row (x .piece))) ep in
         let v : IsHill (pieceOf row k) = noted-hill t k h l in
         let s : drop k S ≡ part (whole (peakAt (pieceOf row k)) (openedAt (pieceOf row k)) (hillIn (modeOf m .read) (pieceOf row k))) ∷ drop (suc k) S =
-        from-here ∙ ap (λ (x : SummaryIn m). x ∷ drop (suc k) S) (decoded-at m (rowPieces row) k (omega (arith, t .through .long)) ∙ reading-hill (modeOf m .read) (pieceOf row k) (v .layout .kind-fits)) in
+        from-here ∙ ap (λ (x : SummaryIn m). x ∷ drop (suc k) S) (decoded-at m (rowPieces row) k (omega (arith, t .let-through .through .long)) ∙ reading-hill (modeOf m .read) (pieceOf row k) (v .layout .kind-fits)) in
         stores-same (modeOf m) z y _ ey
         (subst (Stores (modeOf m) z) (sym (ap (oneMiddle (modeOf m .algebra)) s) ∙ w .same) (own (modeOf m) (middleAt (pieceOf row k)) z ez (middle-stored t k h v)))
 

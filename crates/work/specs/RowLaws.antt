@@ -27,11 +27,12 @@ use Rattle.row_gate.specs.RowLaws.{each-in, decoded-at}
 use Rattle.run_level.specs.Levels.{pieceOf, placeIn}
 use Rattle.run_level.specs.Lines.{placed}
 use Rattle.run_level.specs.StandsFor.{all-stored, mode-at}
+use Rattle.row_gate.specs.Asks.{LetThrough}
 use Rattle.run_level.specs.Along.{rowIn, Ready}
 use Rattle.work.specs.Stores.{size-is}
 use Rattle.work.specs.Contracts.{outcomeMost, IsPlaceOfHill, middleIf}
 
-module _ {row : List ℕ} {count m : ℕ} {ats starts peaks : List ℕ} (t : Ready row count m ats starts peaks) where
+module _ {row : List ℕ} {count m : ℕ} {starts peaks ends : List ℕ} (t : LetThrough row count m starts peaks ends) where
   abbrev 𝒜 : Algebra Amounts
   𝒜 = modeOf m .algebra
 
@@ -54,13 +55,13 @@ cond-same false a = refl
 
 module _ {row : List ℕ} {count m : ℕ} {ats starts peaks : List ℕ} (t : Ready row count m ats starts peaks) (k : ℕ) (h : k < count) where
   in-row : k < length (rowPieces row)
-  in-row = omega (arith, t .through .long)
+  in-row = omega (arith, t .let-through .through .long)
 
   abbrev b : List ℕ
   b = pieceOf row k
 
   is : IsSummary b
-  is = each-in m (rowPieces row) (t .through .all) k in-row
+  is = each-in m (rowPieces row) (t .let-through .through .all) k in-row
 
   decoded : summaryAt (modeOf m .algebra) (rowIn m row) k ≡ decode m b
   decoded = decoded-at m (rowPieces row) k in-row
@@ -80,13 +81,13 @@ module _ {row : List ℕ} {count m : ℕ} {ats starts peaks : List ℕ} (t : Rea
   hill-middle v = ap (λ (s : SummaryIn m). middle (slopesOf (modeOf m .algebra) s)) (decoded ∙ reading-hill (modeOf m .read) b (v .layout .kind-fits))
 
   blank-peak : (v : kindAt b ≡ 16) → getD peaks k 0 ≡ noPeak
-  blank-peak v = ap (λ x. x .peak) (t .through .noted k in-row ∙ ap noteOf (head-blank b v))
+  blank-peak v = ap (λ x. x .peak) (t .let-through .through .noted k in-row ∙ ap noteOf (head-blank b v))
 
   spoilt-peak : (v : kindAt b ≡ 17) → getD peaks k 0 ≡ noPeak
-  spoilt-peak v = ap (λ x. x .peak) (t .through .noted k in-row ∙ ap noteOf (head-spoilt b v))
+  spoilt-peak v = ap (λ x. x .peak) (t .let-through .through .noted k in-row ∙ ap noteOf (head-spoilt b v))
 
   hill-peak : (v : IsHill b) → getD peaks k 0 ≡ peakAt b
-  hill-peak v = placed (t .through) (t .begun) k h v .peak-is
+  hill-peak v = placed (t .let-through .through) (t .begun) k h v .peak-is
 
   -- A peak is a hill's.
   pub noted-hill : getD peaks k 0 < noPeak → IsHill b
@@ -98,16 +99,16 @@ module _ {row : List ℕ} {count m : ℕ} {ats starts peaks : List ℕ} (t : Rea
       go (isHill v) = v
 
   pub noted-place : getD peaks k 0 < noPeak → IsPlaceOfHill row (placeIn ats starts peaks k)
-  noted-place l = record { placed = placed (t .through) (t .begun) k h (noted-hill l); is = noted-hill l }
+  noted-place l = record { placed = placed (t .let-through .through) (t .begun) k h (noted-hill l); is = noted-hill l }
 
   -- Its middle value stands for a figure, and is light.
   pub middle-stored : IsHill b → IsStored (modeOf m) (middleAt b)
-  middle-stored v = all-stored m b v (mode-at m (rowPieces row) (t .through .all) k in-row) .middle
+  middle-stored v = all-stored m b v (mode-at m (rowPieces row) (t .let-through .through .all) k in-row) .middle
 
   pub middle-small : IsHill b → sizeOf (modeOf m) (middleAt b) ≤ outcomeMost
   middle-small v =
       let e : modeOf m .sizes .size (middle (slopesOf (modeOf m .algebra) (summaryAt (modeOf m .algebra) (rowIn m row) k))) ≡ modeOf m .sizes .size (modeOf m .read (middleAt b)) = ap (modeOf m .sizes .size) (hill-middle v) in
-      omega (arith, size-is (modeOf m) (middleAt b), middle-light (modeOf m .algebra) (modeOf m .sizes) (rowIn m row) (valid t) k, row-light t)
+      omega (arith, size-is (modeOf m) (middleAt b), middle-light (modeOf m .algebra) (modeOf m .sizes) (rowIn m row) (valid (t .let-through)) k, row-light (t .let-through))
 
   -- WHAT IS NOTED is what the plan's definition takes.
   pub middle-noted : (level : ℕ) → level ≤ 64 → atLevel (summaryAt (modeOf m .algebra) (rowIn m row) k) level ≡ noted level

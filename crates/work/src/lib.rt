@@ -1,16 +1,13 @@
 // The work along the join plan of a row of summaries.
 ghost use mathlib.Core.Path.{_≡_};
-ghost use Prim.Native.Nat.{_≤_};
-ghost use lib.ListN.{length};
 ghost use Rattle.outcome.specs.Outcomes.{workAlong, workOutcome};
-ghost use Rattle.row_gate.specs.Asks.{summariesIn};
-ghost use Rattle.row_plan.specs.Opens.{Planned};
+ghost use Rattle.row_gate.specs.Asks.{summariesIn, LetThrough};
 ghost use Rattle.row.specs.Row.{rowPieces};
 ghost use Rattle.work.specs.Answers.{workIn, workedAnswer};
 use row_gate::ask::Asked;
-use row_plan::Opened;
+use row_gate::open_row;
 use row_plan::levels::fold_levels;
-use row_plan::open_row;
+use row_plan::scan::scan;
 
 mod given;
 mod line;
@@ -30,21 +27,50 @@ pub enum Worked {
 }
 
 // The work along the plan of a row that is let through.
-fn work_row(row: &[u8], count: usize, mode: u16, opened: Opened) -> Totals
-    requires { ⌜ Planned (now row) count mode opened ⌝ }
+fn work_row<'a>(
+    row: &[u8],
+    count: usize,
+    mode: u16,
+    starts: &'a [u8; 64],
+    peaks: &'a [u8; 64],
+    ends: &'a [u8; 64],
+) -> Totals
+    requires { ⌜ LetThrough (now row) count mode (now starts) (now peaks) (now ends) ⌝ }
     ensures { λ r. ⌜ workIn r ≡ workAlong (summariesIn mode (rowPieces (now (row .entry)))) ⌝ }
 {
     let mut ats = [0usize; 64];
     run_level::begin_pieces(row, count, &mut ats);
-    let starts = opened.starts;
-    let peaks = opened.peaks;
-    let plan = opened.plan;
-    let n = plan.n;
-    let figure = lines::work_lines(row, count, mode, &ats, &starts, &peaks, plan);
+    let mut is = [0u8; 128];
+    let mut js = [0u8; 128];
+    let mut lows = [0u8; 128];
+    let mut highs = [0u8; 128];
+    let n = scan(
+        starts,
+        peaks,
+        ends,
+        count,
+        &mut is,
+        &mut js,
+        &mut lows,
+        &mut highs,
+    );
+    let figure = lines::work_lines(
+        row,
+        count,
+        mode,
+        &ats,
+        starts,
+        peaks,
+        &is,
+        &js,
+        &lows,
+        &highs,
+        n,
+    );
     Totals {
         figure,
         joins: n as u32,
-        levels: fold_levels(plan),
+        levels: fold_levels(&is, &js, &lows, &highs, n),
     }
 }
 
@@ -52,10 +78,17 @@ fn work_row(row: &[u8], count: usize, mode: u16, opened: Opened) -> Totals
 pub fn work(row: &[u8]) -> Worked
     ensures answer { λ r. ⌜ workedAnswer r ≡ workOutcome (now (row .entry)) ⌝ }
 {
-    let opened = open_row(row);
-    let asked = opened.asked;
+    let found = open_row(row);
+    let asked = found.asked;
     match asked {
         Asked::Refused(n) => Worked::Refused(n),
-        Asked::Row(count, mode) => Worked::Done(work_row(row, count, mode, opened)),
+        Asked::Row(count, mode) => Worked::Done(work_row(
+            row,
+            count,
+            mode,
+            &found.starts,
+            &found.peaks,
+            &found.ends,
+        )),
     }
 }

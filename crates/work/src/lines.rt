@@ -11,7 +11,6 @@ use super::given::Join;
 use super::given::given;
 use super::given::read_middle;
 use super::line::through_line;
-use row_plan::Plan;
 
 // The outcome of a line after the first k.
 fn work_line(
@@ -63,18 +62,17 @@ fn work_each(
     ats: &[usize; 64],
     starts: &[u8; 64],
     peaks: &[u8; 64],
-    plan: Plan,
+    is: &[u8; 128],
+    js: &[u8; 128],
+    lows: &[u8; 128],
+    highs: &[u8; 128],
+    n: usize,
     outs: &mut [i64; 128],
 )
-    requires { ⌜ Along (now row) count mode (now ats) (now starts) (now peaks) (plan .is) (plan .js) (plan .lows) (plan .highs) (plan .n) ⌝ }
+    requires { ⌜ Along (now row) count mode (now ats) (now starts) (now peaks) (now is) (now js) (now lows) (now highs) n ⌝ }
     requires { ⌜ length (now outs) ≡ 128 ⌝ }
-    ensures { λ _. ⌜ AllWorked (now (row .entry)) mode (plan .is) (plan .js) (plan .lows) (plan .highs) (now (outs .exit)) (plan .n) ⌝ }
+    ensures { λ _. ⌜ AllWorked (now (row .entry)) mode (now (is .entry)) (now (js .entry)) (now (lows .entry)) (now (highs .entry)) (now (outs .exit)) n ⌝ }
 {
-    let is = plan.is;
-    let js = plan.js;
-    let lows = plan.lows;
-    let highs = plan.highs;
-    let n = plan.n;
     let mut k: usize = 0;
     while k < n {
         let e = Join {
@@ -90,10 +88,10 @@ fn work_each(
             ats,
             starts,
             peaks,
-            &is,
-            &js,
-            &lows,
-            &highs,
+            is,
+            js,
+            lows,
+            highs,
             &*outs,
             k,
             e,
@@ -132,16 +130,32 @@ pub fn work_lines(
     ats: &[usize; 64],
     starts: &[u8; 64],
     peaks: &[u8; 64],
-    plan: Plan,
+    is: &[u8; 128],
+    js: &[u8; 128],
+    lows: &[u8; 128],
+    highs: &[u8; 128],
+    n: usize,
 ) -> i64
-    requires { ⌜ Along (now row) count mode (now ats) (now starts) (now peaks) (plan .is) (plan .js) (plan .lows) (plan .highs) (plan .n) ⌝ }
+    requires { ⌜ Along (now row) count mode (now ats) (now starts) (now peaks) (now is) (now js) (now lows) (now highs) n ⌝ }
     ensures { λ r. ⌜ r ≡ modeOf mode .store (workOf (modeOf mode .algebra) (rowIn mode (now (row .entry))) .figure) ⌝ }
 {
-    let n = plan.n;
     if n == 0 {
         return one_middle(row, count, mode, ats, starts, peaks);
     }
     let mut outs = [0i64; 128];
-    work_each(row, count, mode, ats, starts, peaks, plan, &mut outs);
+    work_each(
+        row,
+        count,
+        mode,
+        ats,
+        starts,
+        peaks,
+        is,
+        js,
+        lows,
+        highs,
+        n,
+        &mut outs,
+    );
     outs[n - 1]
 }

@@ -1,9 +1,6 @@
 -- `runs::runs` meets its contract: the row is opened, then the runs are written.
 -- Assumes nothing.
-use mathlib.Core.Path.{subst}
 use denote.Ref.{now}
-use Rattle.row_gate.specs.declared.ask.Asked.{Asked}
-use Rattle.row_plan.specs.Opens.{Opens}
 use Rattle.runs.specs.CallLaws.{runs-not, runs-wrote}
 use borrow.Author.Needs.{needs}
 use Rattle.runs.proofs.runs.Statement.{statement}
@@ -19,9 +16,7 @@ enum-known-asked-2 : tie.Need-enum-known-asked-2
 enum-known-asked-2 c = search needs
 
 write-runs-requires : tie.Need-write-runs-requires
-write-runs-requires c κs =
-    let r = c .before .before .before .before .open-row in
-    subst (λ (a : Asked). Opens a (now (c .before .before .before .before .before .before .before .args .row)) (r .result)) (c .before .before .asked2 .given .1) (r .ensures)
+write-runs-requires c κs = rw (c .before .before .before .before .before .before .asked2 .given .1) at (c .before .before .before .before .before .before .before .before .open-row .ensures)
 
 returns : tie.Need-returns
 returns c = let a = c .before .before .before .before .before .before .args in runs-not (now (a .row)) (now (a .out)) _ (rw (c .before .asked .given .1) at (c .before .before .before .open-row .ensures))
@@ -31,8 +26,9 @@ same-length c = search needs
 
 returns-2 : tie.Need-returns-2
 returns-2 c =
-    let a = c .before .before .before .before .before .before .before .before .before .before .args in
-    runs-wrote (rw (c .before .before .before .before .before .asked2 .given .1) at (c .before .before .before .before .before .before .before .open-row .ensures)) (now (a .out)) _ _ (c .before .before .write-runs .ensures)
+    let t = rw (c .before .before .before .before .before .before .before .before .before .asked2 .given .1) at (c .before .before .before .before .before .before .before .before .before .before .before .open-row .ensures) in
+    let a = c .before .before .before .before .before .before .before .before .before .before .before .before .before .before .args in
+    runs-wrote (now (a .row)) (now (a .out)) _ _ _ _ _ _ _ _ _ (t .through) (c .before .before .write-runs .ensures)
 
 pub runs-spec : {M : Type 1} → statement M
 runs-spec =

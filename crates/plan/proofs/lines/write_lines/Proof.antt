@@ -14,10 +14,10 @@ use Rattle.plan.proofs.lines.write_lines.Statement.{statement}
 use Rattle.plan.proofs.lines.write_lines.Tie as tie
 
 abbrev Inv-loop : tie.InvT-loop
-Inv-loop out₀ plan k₀ out k = (k ≤ plan .n) × (out ≡ sets out₀ 0 (linesBytes (linesIn (plan .is) (plan .js) (plan .lows) (plan .highs) k)))
+Inv-loop is js lows highs n out₀ k₀ out k = (k ≤ n) × (out ≡ sets out₀ 0 (linesBytes (linesIn is js lows highs k)))
 
 abbrev μ-loop : tie.MeasureT-loop
-μ-loop out₀ plan k₀ out k = plan .n - k
+μ-loop is js lows highs n out₀ k₀ out k = n - k
 
 out-length : (c : tie.At-loop Inv-loop μ-loop) → length (c .loop .out) ≡ length (now (c .before .before .args .out))
 out-length c = ap length (c .loop .inv .1) ∙ simp length-sets
@@ -53,7 +53,7 @@ loop-again : tie.Need-loop-again Inv-loop μ-loop
 loop-again c =
     let a = c .before .before .before .before .before .before .before .before .before .before .before .args in
     let l = c .before .before .before .before .before .before .before .before .before .loop in
-    (omega (arith, c .before .before .before .before .before .before .before .before .loop-test .taken), lines-next (a .t1 .is) (a .t1 .js) (a .t1 .lows) (a .t1 .highs) (now (a .out)) (l .out) _ (l .k) (l .inv .1) (c .before .before .write-line .ensures))
+    (omega (arith, c .before .before .before .before .before .before .before .before .loop-test .taken), lines-next (now (a .is)) (now (a .js)) (now (a .lows)) (now (a .highs)) (now (a .out)) (l .out) _ (l .k) (l .inv .1) (c .before .before .write-line .ensures))
 
 same-length : tie.Need-same-length Inv-loop μ-loop
 same-length c = out-length (c .before)
@@ -62,7 +62,7 @@ returns : tie.Need-returns Inv-loop μ-loop
 returns c =
     let a = c .before .before .before .args in
     let l = c .before .loop in
-    let e : l .k ≡ a .t1 .n = omega (arith, l .inv .0) in
+    let e : l .k ≡ a .n = omega (arith, l .inv .0) in
     rw (← e) (l .inv .1)
 
 pub write-lines-spec : {M : Type 1} → statement M

@@ -3,6 +3,7 @@
 use mathlib.Core.Path.{_≡_}
 use Prim.Native.Nat.{_-_, _*_, _≤_}
 use native.Mathlib.Omega.{arith}
+use denote.Ref.{now}
 use Rattle.join_plan.specs.Plan.{folded}
 use Rattle.row_plan.specs.Arrays.{linesIn}
 use Rattle.row_plan.specs.LevelsLaws.{folded-none, folded-next}
@@ -11,13 +12,13 @@ use Rattle.row_plan.proofs.levels.fold_levels.Statement.{statement}
 use Rattle.row_plan.proofs.levels.fold_levels.Tie as tie
 
 abbrev Inv-loop : tie.InvT-loop
-Inv-loop plan levels₀ k₀ levels k = (k ≤ plan .n) × ((levels ≤ 256 * k) × (levels ≡ folded (linesIn (plan .is) (plan .js) (plan .lows) (plan .highs) k)))
+Inv-loop is js lows highs n levels₀ k₀ levels k = (k ≤ n) × ((levels ≤ 256 * k) × (levels ≡ folded (linesIn is js lows highs k)))
 
 abbrev μ-loop : tie.MeasureT-loop
-μ-loop plan levels₀ k₀ levels k = plan .n - k
+μ-loop is js lows highs n levels₀ k₀ levels k = n - k
 
 loop-holds : tie.Need-loop-holds Inv-loop μ-loop
-loop-holds c = (omega arith, (omega arith, folded-none (c .args .t1 .is) (c .args .t1 .js) (c .args .t1 .lows) (c .args .t1 .highs)))
+loop-holds c = (omega arith, (omega arith, folded-none (now (c .args .is)) (now (c .args .js)) (now (c .args .lows)) (now (c .args .highs))))
 
 element-copy-out-difference : tie.Need-element-copy-out-difference Inv-loop μ-loop
 element-copy-out-difference c = search needs
@@ -42,15 +43,15 @@ loop-less c = search needs
 
 loop-again : tie.Need-loop-again Inv-loop μ-loop
 loop-again c =
-    let p = c .before .before .before .before .before .args .t1 in
+    let a = c .before .before .before .before .before .args in
     let l = c .before .before .before .before .loop in
-    (omega (arith, c .before .before .before .loop-test .taken), (omega (arith, c .difference .ensures .1, l .inv .1 .0), folded-next (p .is) (p .js) (p .lows) (p .highs) (l .k) (l .levels) (c .difference .result) (l .inv .1 .1) (c .difference .ensures .0)))
+    (omega (arith, c .before .before .before .loop-test .taken), (omega (arith, c .difference .ensures .1, l .inv .1 .0), folded-next (now (a .is)) (now (a .js)) (now (a .lows)) (now (a .highs)) (l .k) (l .levels) (c .difference .result) (l .inv .1 .1) (c .difference .ensures .0)))
 
 returns : tie.Need-returns Inv-loop μ-loop
 returns c =
     let a = c .before .before .args in
     let l = c .before .loop in
-    let e : l .k ≡ a .t1 .n = omega arith in
+    let e : l .k ≡ a .n = omega arith in
     rw (← e) (l .inv .1 .1)
 
 pub fold-levels-spec : {M : Type 1} → statement M

@@ -1,6 +1,5 @@
 -- `row_plan::scan::scan` meets its contract: the lines of the chunks passed are kept.
 -- Assumes nothing.
-use mathlib.Core.Path.{refl}
 use Prim.Native.Nat.{_-_}
 use native.Mathlib.Omega.{arith}
 use borrow.Author.Needs.{needs}
@@ -17,14 +16,14 @@ abbrev μ-loop : tie.MeasureT-loop
 μ-loop starts peaks ends count is₀ js₀ lows₀ highs₀ n₀ j₀ is js lows highs n j = count - j
 
 loop-holds : tie.Need-loop-holds Inv-loop μ-loop
-loop-holds c = scan-start _ _ _ _ _ _ (record { is-128 = refl; js-128 = refl; lows-128 = refl; highs-128 = refl })
+loop-holds c = scan-start _ _ _ _ _ _ (c .pre .1 .0)
 
 lines-to-requires : tie.Need-lines-to-requires Inv-loop μ-loop
 lines-to-requires c κs =
     let start = c .before .before .before .before .before .before in
     let a = start .args in
     let l = c .before .before .before .before .before .loop in
-    (start .pre .0, (l .inv .sized, (omega (arith, start .pre .1 .0, c .before .before .before .before .loop-test .taken), scan-room (levelsIn (now (a .starts)) (now (a .peaks)) (now (a .ends))) (a .count) (l .is) (l .js) (l .lows) (l .highs) (l .n) (l .j) (l .inv) (c .before .before .before .before .loop-test .taken) (start .pre .1 .1))))
+    (start .pre .0, (l .inv .sized, (omega (arith, start .pre .1 .1 .0, c .before .before .before .before .loop-test .taken), scan-room (levelsIn (now (a .starts)) (now (a .peaks)) (now (a .ends))) (a .count) (l .is) (l .js) (l .lows) (l .highs) (l .n) (l .j) (l .inv) (c .before .before .before .before .loop-test .taken) (start .pre .1 .1 .1))))
 
 add-j : tie.Need-add-j Inv-loop μ-loop
 add-j c = search needs
@@ -42,8 +41,9 @@ loop-again c =
 
 returns : tie.Need-returns Inv-loop μ-loop
 returns c =
+    let a = c .before .before .args in
     let l = c .before .loop in
-    scan-end _ _ (l .is) (l .js) (l .lows) (l .highs) (l .n) (l .j) (l .inv) (omega arith)
+    scan-end (levelsIn (now (a .starts)) (now (a .peaks)) (now (a .ends))) (a .count) (now (a .is)) (now (a .js)) (now (a .lows)) (now (a .highs)) (l .is) (l .js) (l .lows) (l .highs) (l .n) (l .j) (l .inv) (omega arith)
 
 pub scan-spec : {M : Type 1} → statement M
 scan-spec =

@@ -32,7 +32,7 @@ loop-holds c =
 place-of-requires : tie.Need-place-of-requires Inv-loop μ-loop
 place-of-requires c κs =
     let a = c .before .before .before .before in
-    omega (arith, a .pre .within, a .pre .ready .through .few)
+    omega (arith, a .pre .within, a .pre .ready .let-through .through .few)
 
 add-middle-requires : tie.Need-add-middle-requires Inv-loop μ-loop
 add-middle-requires c κs =

@@ -25,11 +25,11 @@ loop-holds c =
 
 element-copy-out-if1 : tie.Need-element-copy-out-if1 Inv-loop μ-loop
 element-copy-out-if1 c =
-    omega (arith, c .before .before .before .pre .through .few)
+    omega (arith, c .before .before .before .pre .let-through .through .few)
 
 place-of-requires : tie.Need-place-of-requires Inv-loop μ-loop
 place-of-requires c κs =
-    omega (arith, c .before .before .before .before .before .pre .through .few, c .before .before .loop-test .taken)
+    omega (arith, c .before .before .before .before .before .pre .let-through .through .few, c .before .before .loop-test .taken)
 
 read-middle-requires : tie.Need-read-middle-requires Inv-loop μ-loop
 read-middle-requires c κs =

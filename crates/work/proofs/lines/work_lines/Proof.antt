@@ -30,7 +30,7 @@ array-copy-out-result c = search needs
 returns-2 : tie.Need-returns-2
 returns-2 c =
     let a = c .before .before .before .before .before in
-    let outs = c .before .work-each .last .1 .1 .1 .1 .1 .1 .1 .0 in
+    let outs = c .before .work-each .last .1 .1 .1 .1 .1 .1 .1 .1 .1 .1 .1 .0 in
     figure-last (a .pre) outs _ (back w64 _ (c .result .given)) (omega (arith, c .before .before .before .if1 .left)) (c .before .work-each .ensures)
 
 pub work-lines-spec : {M : Type 1} → statement M

@@ -10,7 +10,7 @@ use Rattle.gate.specs.Answers.{lengthAnswered}
 use Rattle.gate.specs.Laws.{fits, too-short as shorter}
 use Rattle.number.specs.Bytes.{bytesOf, putAt}
 use Rattle.number.specs.Laws.{sets-append, length-bytesOf}
-use Rattle.row_gate.specs.Wrote.{Wrote}
+use Rattle.row_plan.specs.Wrote.{Wrote}
 
 -- a number of n bytes, and then the rest
 pub put-next : (n : ℕ) (l : List ℕ) (a b v : ℕ) (r : List ℕ) → b ≡ a + n → sets l a (bytesOf n v ++ r) ≡ sets (putAt n l a v) b r

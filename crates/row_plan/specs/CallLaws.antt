@@ -7,9 +7,9 @@ use Rattle.gate.specs.Outcome.{Outcome, refused, onward, written, bufferAfter}
 use Rattle.gate.specs.Answers.{lengthAnswered}
 use Rattle.row.specs.Row.{rowPieces}
 use Rattle.outcome.specs.Outcomes.{Summaries, askRow, askLog}
 use Rattle.row_gate.specs.Asks.{askAll, summariesIn, Through}
 use Rattle.row_gate.specs.AsksLaws.{after-all}
-use Rattle.row_gate.specs.Wrote.{Wrote}
+use Rattle.row_plan.specs.Wrote.{Wrote}
 
 module _ (bytes : Summaries → List ℕ) (row : List ℕ) where
   abbrev pub called : ℕ → Outcome (List ℕ)
