@@ -1,5 +1,8 @@
-// What each call on a row or on a whole log comes to, as definitions over bytes: theory. It all stands in specs/, but for answers that more than one
-// crate gives.
+// What each call on a row or on a whole log comes to, as definitions over bytes: theory. It all stands in specs/, but for what more than one crate
+// gives or asks.
+
+// How many bytes a run has: `runLength` is its definition.
+pub const RUN_LENGTH: usize = 30;
 
 // The mode that all pieces of a row are of, or the refusal. `modeAnswer` says what each case means.
 pub enum OneMode {

@@ -5,9 +5,7 @@ ghost use lib.ListN.{length};
 ghost use lib.Seq.{sets};
 ghost use Rattle.outcome.specs.Outcomes.{runLength, runBytes};
 use figure::Run;
-
-// How many bytes a run has.
-pub const RUN_LENGTH: usize = 30;
+use outcome::RUN_LENGTH;
 
 pub fn write_run(out: &mut [u8], at: usize, mode: u16, run: Run)
     requires { ⌜ at + runLength ≤ length (now out) ⌝ }

@@ -6,10 +6,10 @@ ghost use lib.Seq.{sets};
 ghost use Rattle.outcome.specs.Outcomes.{runLength};
 ghost use Rattle.row_plan.specs.Arrays.{lineIn, linesIn};
 ghost use Rattle.runs.specs.Runs.{Lines, LineAt, LineRun, linesRuns};
-use super::bytes::RUN_LENGTH;
 use super::bytes::write_run;
 use super::line::run_of_line;
 use figure::Run;
+use outcome::RUN_LENGTH;
 use run_level::place_of;
 
 // The run of line k.
