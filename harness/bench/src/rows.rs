@@ -30,12 +30,12 @@ fn full_hill(rng: &mut Rng, mode: Mode) -> Vec<u8> {
     encode(&Summary { mode, case: Case::Hill(forged::hill(rng, mode, &levels, 1_000)) })
 }
 
-/// The summaries of a log of full depth, cut into 64 chunks, end to end.
-fn deep_row(rng: &mut Rng, mode: Mode) -> Vec<u8> {
+/// The summaries of a log of full depth, cut into so many chunks, end to end.
+fn deep_row(rng: &mut Rng, mode: Mode, chunks: usize) -> Vec<u8> {
     let records = log(rng, Shape::Deep, Values::Small, 4_096);
     let mut row = Vec::new();
     let mut out = vec![0u8; raw::LONGEST_SUMMARY];
-    for chunk in records.chunks(records.len().div_ceil(64)) {
+    for chunk in records.chunks(records.len().div_ceil(chunks)) {
         let length = raw::summarise(&encode_all(chunk), mode.number(), &mut out);
         row.extend(&out[..length as usize]);
     }
@@ -65,9 +65,9 @@ fn merging(mode: Mode, out: &mut [u8]) -> [f64; 4] {
     [two, all, random, regular]
 }
 
-/// The lines of a plan, on average; then the plan, the runs and the work of a row of 64 chunks of a deep log, beside merging the same row.
-fn along_the_plan(mode: Mode, out: &mut [u8]) -> [f64; 5] {
-    let rows = many(|rng| deep_row(rng, mode));
+/// The lines of a plan, on average; then the plan, the runs and the work of a row of so many chunks of a deep log, beside merging the same row.
+fn along_the_plan(mode: Mode, chunks: usize, out: &mut [u8]) -> [f64; 5] {
+    let rows = many(|rng| deep_row(rng, mode, chunks));
     let mut totals = [0i64; 3];
     let mut all_lines = 0;
     for row in &rows {
@@ -90,7 +90,7 @@ fn along_the_plan(mode: Mode, out: &mut [u8]) -> [f64; 5] {
     [all_lines as f64 / COUNT as f64, plan, runs, work, merge]
 }
 
-/// Two tables in microseconds, a line for each mode.
+/// Three tables in microseconds, a line for each mode.
 pub fn bench() {
     let mut out = vec![0u8; raw::LONGEST_RUNS];
     println!("\n| Longest summaries, mode | two | 64 | one chunk, depth 63, mixed | one chunk, farm day |\n|---|---|---|---|---|");
@@ -98,9 +98,12 @@ pub fn bench() {
         let [two, all, random, regular] = merging(mode, &mut out);
         println!("| {} | {two:.2} | {all:.1} | {random:.1} | {regular:.1} |", mode.number());
     }
-    println!("\n| 64 chunks, mode | lines | plan | runs | work | merging the row |\n|---|---|---|---|---|---|");
-    for mode in Mode::ALL {
-        let [lines, plan, runs, work, merge] = along_the_plan(mode, &mut out);
-        println!("| {} | {lines:.0} | {plan:.1} | {runs:.1} | {work:.1} | {merge:.1} |", mode.number());
+    for (chunks, places) in [(2, 2), (64, 1)] {
+        println!("\n| {chunks} chunks, mode | lines | plan | runs | work | merging the row |\n|---|---|---|---|---|---|");
+        for mode in Mode::ALL {
+            let [lines, times @ ..] = along_the_plan(mode, chunks, &mut out);
+            let times = times.map(|micros| format!("{micros:.places$}")).join(" | ");
+            println!("| {} | {lines:.0} | {times} |", mode.number());
+        }
     }
 }
