@@ -1,13 +1,15 @@
 -- Laws of a chunk's records, and of a call on a whole log, question by question. Assumes nothing.
-use mathlib.Core.Path.{_≡_, refl, ap}
-use mathlib.Core.Bool.{Bool, true, false, _&&_}
+use mathlib.Core.Path.{_≡_, refl, sym, ap, _∙_}
+use mathlib.Core.Bool.{Bool, true, false}
 use mathlib.Core.List.{List, [], _∷_, _++_}
 use Prim.Native.Nat.{ℕ, _≤_, _<_}
 use lib.Dec.{leb}
 use lib.ListN.{length}
 use borrow.Author.Tests.{le-leb, lt-leb, leb-true, eq-eqb, ne-eqb}
-use Rattle.gate.specs.Outcome.{Outcome, refused, result, onward}
-use Rattle.record.specs.Record.{amountsFit, inRange, recordsOf}
+use Rattle.gate.specs.Outcome.{Outcome, refused, result, question, onward}
+use Rattle.gate.specs.Laws.{not-result}
+use Rattle.record.specs.Record.{inRange, recordsOf}
+use Rattle.record.specs.RangeLaws.{range-parts}
 use Rattle.record.specs.declared.Fields.{Fields}
 use Rattle.figure.specs.FourModes.{Amounts}
 use Rattle.figure.specs.Stored.{amounts}
@@ -25,12 +27,7 @@ pub is-close : (f : Fields) → (f .kind ≡ 1 → ⊥) → recordOf f ≡ closi
 is-close f e = rw (ne-eqb (f .kind) 1 e)
 
 pub depth-low : (f : Fields) → inRange (f .depth) (f .value) (f .floor) (f .ceiling) ≡ true → f .depth ≤ 63
-unfolding inRange
-depth-low f e = leb-true (f .depth) 63 (first (leb (f .depth) 63) (amountsFit (f .value) (f .floor) (f .ceiling)) e)
-  where
-    first : (a b : Bool) → a && b ≡ true → a ≡ true
-    first true b e = refl
-    first false b e = e
+depth-low f e = range-parts (f .depth) (f .value) (f .floor) (f .ceiling) e .depth
 
 pub chunk-append : (fs gs : List Fields) → chunkOf (fs ++ gs) ≡ chunkOf fs ++ chunkOf gs
 chunk-append [] gs = refl
@@ -61,3 +58,33 @@ module _ {B : Type 0} (f : List (Record Amounts) → B) (log : List ℕ) where
     pub readable : (fs : List Fields) → recordsOf log ≡ result fs → answerFrom f log ≡ outcome (logFault (chunkOf fs)) (f (chunkOf fs))
     unfolding wholeLog
     readable fs e = rw (le-leb (length log) 65_536 short, e) (onward-outcome f (logFault (chunkOf fs)) (chunkOf fs))
+
+-- ---- the bytes of a log that is let through
+
+pub record IsLog (log : List ℕ) (xs : List (Record Amounts)) : Type 0 where
+  pub short : length log ≤ 65_536
+  pub fields : List Fields
+  pub read : recordsOf log ≡ result fields
+  pub records : chunkOf fields ≡ xs
+  pub fine : logFault xs ≡ pass
+
+pub is-log : (log : List ℕ) (xs : List (Record Amounts)) → wholeLog log ≡ result xs → IsLog log xs
+unfolding wholeLog
+is-log log xs e = go (leb (length log) 65_536) refl (recordsOf log) refl e
+  where
+    last : length log ≤ 65_536 → (fs : List Fields) → recordsOf log ≡ result fs → (v : Verdict) → logFault (chunkOf fs) ≡ v → outcome v (chunkOf fs) ≡ result xs → IsLog log xs
+    last h fs r pass p e = let same : chunkOf fs ≡ xs = cc in record { short = h; fields = fs; read = r; records = same; fine = ap logFault (sym same) ∙ p }
+    last h fs r (refuse n) p e = absurd (not-result n xs e)
+
+    go : (t : Bool) → leb (length log) 65_536 ≡ t → (o : Outcome (List Fields)) → recordsOf log ≡ o → question 2 t (onward o (λ fs. outcome (logFault (chunkOf fs)) (chunkOf fs))) ≡ result xs → IsLog log xs
+    go false l o r e = absurd (not-result 2 xs e)
+    go true l (refused n) r e = absurd (not-result n xs e)
+    go true l (result fs) r e = last (leb-true (length log) 65_536 l) fs r (logFault (chunkOf fs)) refl e
+
+pub log-is : {log : List ℕ} {xs : List (Record Amounts)} → IsLog log xs → wholeLog log ≡ result xs
+unfolding wholeLog
+log-is {log} {xs} i = rw (le-leb (length log) 65_536 (i .short), i .read, i .records, i .fine)
+
+-- bytes have the records of one log
+pub one-log : {log : List ℕ} {xs ys : List (Record Amounts)} → IsLog log xs → IsLog log ys → xs ≡ ys
+one-log i j = let same : i .fields ≡ j .fields = cc (i .read, j .read) in sym (i .records) ∙ ap chunkOf same ∙ j .records

@@ -13,7 +13,8 @@ use Rattle.gate.specs.Outcome.{Outcome, refused, result}
 use Rattle.number.specs.Bytes.{leAt}
 use Rattle.number.specs.Laws.{leAt-append}
 use Rattle.record.specs.Record.{inRange, accepted, whole, byShape, readOf, before, recordsOf, fullOpen, shortOpen, close}
-use Rattle.record.specs.Laws.{sound, records-nil, records-bad, records-next}
+use Rattle.record.specs.Laws.{sound, records-nil, records-next}
+use Rattle.record.specs.Readable.{First, first-read, none-read}
 use Rattle.record.specs.declared.Fields.{Fields}
 use Rattle.figure.specs.FourModes.{Amounts}
 use Rattle.hill.specs.Log.{Record}
@@ -72,38 +73,6 @@ module _ (a b : List ℕ) where
       shape-back (leAt 2 a 2) (leAt 2 a 0) f (rw (leAt-append 2 a b 2 (omega arith), leAt-append 2 a b 0 (omega arith)) at e) h
 
 -- ---- the first records of a log, and the others
-
--- The first record, and the rest.
-record First (s : List ℕ) (f : Fields) (fs : List Fields) : Type 0 where
-  pub here : readOf s ≡ result f
-  pub rest : recordsOf (drop (f .length) s) ≡ result fs
-
-first-read : (s : List ℕ) (f : Fields) (fs : List Fields) → recordsOf s ≡ result (f ∷ fs) → First s f fs
-first-read [] f fs e = let z : _≡_ {A = ℕ} 0 1 = cc records-nil in absurd (omega arith)
-first-read (x ∷ s) f fs e = go (readOf (x ∷ s)) refl
-  where
-    go : (r : Outcome Fields) → readOf (x ∷ s) ≡ r → First (x ∷ s) f fs
-    go (refused k) p = let z : _≡_ {A = ℕ} 0 1 = cc (records-bad (x ∷ s) k (omega arith) p) in absurd (omega arith)
-    go (result g) p = more (recordsOf (drop (g .length) (x ∷ s))) refl
-      where
-        more : (o : Outcome (List Fields)) → recordsOf (drop (g .length) (x ∷ s)) ≡ o → First (x ∷ s) f fs
-        more (refused n) q = let z : _≡_ {A = ℕ} 0 1 = cc (records-next (x ∷ s) g p) in absurd (omega arith)
-        more (result gs) q =
-            let k : g ≡ f = cc (records-next (x ∷ s) g p) in
-            let l : gs ≡ fs = cc (records-next (x ∷ s) g p) in
-            record { here = p ∙ ap result k; rest = subst (λ (y : Fields). recordsOf (drop (y .length) (x ∷ s)) ≡ result fs) k (q ∙ ap result l) }
-
-none-read : (s : List ℕ) → recordsOf s ≡ result [] → length s ≡ 0
-none-read [] e = refl
-none-read (x ∷ s) e = go (readOf (x ∷ s)) refl
-  where
-    go : (r : Outcome Fields) → readOf (x ∷ s) ≡ r → length (x ∷ s) ≡ 0
-    go (refused k) p = let z : _≡_ {A = ℕ} 0 1 = cc (records-bad (x ∷ s) k (omega arith) p) in absurd (omega arith)
-    go (result g) p = more (recordsOf (drop (g .length) (x ∷ s))) refl
-      where
-        more : (o : Outcome (List Fields)) → recordsOf (drop (g .length) (x ∷ s)) ≡ o → length (x ∷ s) ≡ 0
-        more (refused n) q = let z : _≡_ {A = ℕ} 0 1 = cc (records-next (x ∷ s) g p) in absurd (omega arith)
-        more (result gs) q = let z : _≡_ {A = ℕ} 0 1 = cc (records-next (x ∷ s) g p) in absurd (omega arith)
 
 drop-take : {A : Type 0} (l n : ℕ) (s : List A) → l ≤ length s → drop l (take (l + n) s) ≡ take n (drop l s)
 drop-take l n s h = ap (drop l) (take-add l n s) ∙ drop-at (take l s) (take n (drop l s)) l (length-take-le l s h)

@@ -1,10 +1,6 @@
 -- The summary that a head and the arrays say, and what a function that writes it asks and leaves. Definitions only.
 use mathlib.Core.Path.{_≡_}
-use mathlib.Core.List.{List}
 use Prim.Native.Nat.{ℕ, _-_, _≤_}
-use Rattle.gate.specs.Outcome.{Outcome, bufferAfter}
-use Rattle.gate.specs.Answers.{writtenAnswer, lengthAnswered}
-use Rattle.gate.specs.declared.Written.{Written}
 use Rattle.figure.specs.FourModes.{storeHeld}
 use Rattle.figure.specs.Mode.{Mode, modeOf}
 use Rattle.hill.specs.Summary.{blank, part, spoilt, whole}
@@ -53,10 +49,3 @@ Writable M (Hill h) A = WritableHill M h A
 pub record Said (m : ℕ) (head : Head) (A : Arrays) (s : SummaryIn m) : Type 0 where
   pub writable : Writable (modeOf m) head A
   pub is : summarySaid m head A ≡ s
-
--- ---- what is left
-
--- The answer and the buffer are those of the outcome o.
-pub record Answers (o : Outcome (List ℕ)) (before after : List ℕ) (r : Written) : Type 0 where
-  pub answered : writtenAnswer r ≡ lengthAnswered o
-  pub buffer : after ≡ bufferAfter o before

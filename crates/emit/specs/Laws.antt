@@ -1,15 +1,14 @@
 -- What is answered of bytes that fit, or do not, and how long they are; what a head says by its case. Assumes nothing.
-use mathlib.Core.Path.{_≡_, refl, sym, ap, subst, _∙_}
+use mathlib.Core.Path.{_≡_, sym, ap, subst, _∙_}
 use mathlib.Core.List.{List}
 use Prim.Native.Nat.{ℕ, _+_, _-_, _≤_, _<_}
 use lib.IntN.{ℤ}
 use native.Mathlib.Omega.{arith}
 use lib.ListN.{length}
-use borrow.Author.Tests.{le-leb, lt-leb}
-use Rattle.gate.specs.Outcome.{Outcome, refused, result, written, bufferAfter}
-use Rattle.gate.specs.Answers.{writtenAnswer, lengthAnswered}
+use Rattle.gate.specs.Outcome.{written}
+use Rattle.gate.specs.Promises.{Answers, answer-fits, answer-same}
 use Rattle.gate.specs.declared.Written.{Written}
-use Rattle.gate.specs.declared.Written.the-variants.{Bytes, Refused}
+use Rattle.gate.specs.declared.Written.the-variants.{Bytes}
 use Rattle.figure.specs.FourModes.{storeHeld}
 use Rattle.figure.specs.Mode.{Mode, modeOf}
 use Rattle.figure.specs.declared.Held.{Held}
@@ -26,7 +25,7 @@ use Rattle.slopes.specs.Laws.{counts, rise-slopes, fall-slopes}
 use Rattle.summary.specs.Layout.{SummaryIn, encode}
 use Rattle.summary.specs.Accepted.{encode-length}
 use Rattle.emit.specs.Contracts.{Wrote, hillLength, Writes}
-use Rattle.emit.specs.Emitted.{countsOf, spoiltSaid, hillSaid, summarySaid, WritableHill, Writable, Said, Answers}
+use Rattle.emit.specs.Emitted.{countsOf, spoiltSaid, hillSaid, summarySaid, WritableHill, Writable, Said}
 
 abbrev pub spoiltHead : (fault start end opened : ℕ) → SpoiltHead
 spoiltHead f s e o = record { fault = f; start = s; end = e; opened = o }
@@ -36,29 +35,10 @@ hillHead s p e o m = record { start = s; peak = p; end = e; opened = o; middle =
 
 -- ---- by the length
 
-module _ (w o : List ℕ) where
-  pub answer-wrote : {o′ : List ℕ} {n : ℕ} → length w ≤ length o → Wrote w o o′ n → Answers (written (length o) w) o o′ (Bytes n)
-  answer-wrote h e = rw (le-leb (length w) (length o) h) record { answered = ap result (e .answered); buffer = e .buffer }
-
-  pub answer-short : length o < length w → Answers (written (length o) w) o o (Refused 12)
-  answer-short h = rw (lt-leb (length w) (length o) h) record { answered = refl; buffer = refl }
-
--- ---- the two promises of a call that writes a summary, where it is refused before that and where it is not
-
-abbrev pub Promised : Outcome (List ℕ) → Outcome ℕ → (before after : List ℕ) → Type 0
-Promised o a before after = (a ≡ lengthAnswered o) × (after ≡ bufferAfter o before)
-
-pub refuses : {o : Outcome (List ℕ)} {n : ℕ} (b : List ℕ) → o ≡ refused n → Promised o (refused n) b b
-refuses b e = rw e (refl, refl)
-
-pub comes-to : {o p : Outcome (List ℕ)} {r : Written} {before after : List ℕ} → o ≡ p → Answers p before after r → Promised o (writtenAnswer r) before after
-comes-to e s = rw e (s .answered, s .buffer)
+pub answer-wrote : (w o : List ℕ) {o′ : List ℕ} {n : ℕ} → length w ≤ length o → Wrote w o o′ n → Answers (written (length o) w) o o′ (Bytes n)
+answer-wrote w o h e = answer-fits w o h (e .answered) (e .buffer)
 
 -- ---- by what is said
-
--- other bytes that are the same
-pub answer-same : {w v o o′ : List ℕ} {r : Written} → w ≡ v → Answers (written (length o) w) o o′ r → Answers (written (length o) v) o o′ r
-answer-same e a = rw e at a
 
 pub blank-length : (m : ℕ) → length (encode m blank) ≡ 6
 blank-length m = encode-length m blank

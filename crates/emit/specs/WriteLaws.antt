@@ -10,8 +10,9 @@ use lib.ListN.{length, drop, length-append}
 use lib.Seq.{sets, sets-eq}
 use mir.Syntax.{w32, w64}
 use mir.Val.{ofZ}
+use Rattle.gate.specs.Promises.{stored-first}
 use Rattle.number.specs.Bytes.{bytesOf, putAt}
-use Rattle.number.specs.Laws.{sets-append, length-bytesOf}
+use Rattle.number.specs.Laws.{sets-append, stores-next, length-bytesOf}
 use Rattle.figure.specs.Mode.{Mode, modeOf}
 use Rattle.figure.specs.Stored.{IsStored}
 use Rattle.hill.specs.Summary.{blank, part, spoilt, whole}
@@ -24,13 +25,9 @@ use Rattle.emit.specs.Contracts.{Wrote, frontBytes, levelBytes, numbersB
 
 -- ---- runs of stores
 
--- a run behind another that ends at j
-pub stores-next : (o : List ℕ) (i j : ℕ) (a b : List ℕ) → i + length a ≡ j → sets (sets o i a) j b ≡ sets o i (a ++ b)
-stores-next o i j a b e = ap (λ (k : ℕ). sets (sets o i a) k b) (sym e) ∙ sym (sets-append o i a b)
-
 -- a run from 0 on
 pub wrote : (w o o′ : List ℕ) (n : ℕ) → n ≡ length w → length w ≤ length o → o′ ≡ sets o 0 w → Wrote w o o′ n
-wrote w o o′ n e h s = record { answered = e; buffer = s ∙ sets-eq w o 0 (omega arith) ∙ ap (λ (k : ℕ). w ++ drop k o) (zero-add (length w)) }
+wrote w o o′ n e h s = record { answered = e; buffer = stored-first w o o′ h s }
 
 pub front-stores : (o o₁ o₂ o₃ : List ℕ) (n kind m : ℕ) → o₁ ≡ putAt 2 o 0 n → o₂ ≡ putAt 2 o₁ 2 kind → o₃ ≡ putAt 2 o₂ 4 m → o₃ ≡ sets o 0 (frontBytes n kind m)
 front-stores o o₁ o₂ o₃ n kind m e₁ e₂ e₃ = e₃ ∙ simp (e₂, e₁, sets-append, length-bytesOf)

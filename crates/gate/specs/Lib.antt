@@ -2,3 +2,4 @@
 pub mod Outcome
 pub mod Answers
 pub mod Laws
+pub mod Promises

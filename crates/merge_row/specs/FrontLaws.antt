@@ -8,9 +8,9 @@ use lib.Seq.{take-at}
 use borrow.Author.Tests.{le-leb}
 use Rattle.gate.specs.Outcome.{refused, result, written}
 use Rattle.gate.specs.Answers.{writtenAnswer}
+use Rattle.gate.specs.Promises.{Answers}
 use Rattle.gate.specs.declared.Written.{Written}
 use Rattle.gate.specs.declared.Written.the-variants.{Bytes, Refused}
-use Rattle.emit.specs.Emitted.{Answers}
 use Rattle.merge_row.specs.RowAsks.{Front}
 
 module _ (w o : List ℕ) where

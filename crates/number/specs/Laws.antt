@@ -76,6 +76,10 @@ pub sets-append : (l : List ℕ) (i : ℕ) (a b : List ℕ) → sets l i (a ++ b
 sets-append l i [] b = rw add-zero
 sets-append l i (x ∷ a) b = rw (sets-append (set l i x) (suc i) a b, suc-add, add-suc)
 
+-- a run behind another that ends at j
+pub stores-next : (o : List ℕ) (i j : ℕ) (a b : List ℕ) → i + length a ≡ j → sets (sets o i a) j b ≡ sets o i (a ++ b)
+stores-next o i j a b e = ap (λ (k : ℕ). sets (sets o i a) k b) (sym e) ∙ sym (sets-append o i a b)
+
 pub getD-sets-before : (l : List ℕ) (i j : ℕ) (vs : List ℕ) → j < i → getD (sets l i vs) j 0 ≡ getD l j 0
 getD-sets-before l i j [] h = refl
 getD-sets-before l i j (v ∷ vs) h = getD-sets-before (set l i v) (suc i) j vs (omega arith) ∙ getD-set-other l i j v 0 (omega arith)

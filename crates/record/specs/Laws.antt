@@ -8,7 +8,7 @@ use native.Mathlib.Omega.{arith}
 use lib.ListN.{length, drop, length-drop}
 use lib.Dec.{T, leb, eqb, lit≤}
 use lib.IntN.{ℤ, pos, negsuc, natAbs}
-use borrow.Author.Tests.{lt-leb, leb-true}
+use borrow.Author.Tests.{lt-leb, leb-true, eqb-true}
 use Rattle.gate.specs.Outcome.{Outcome, refused, result}
 use Rattle.number.specs.Bytes.{leAt}
 use Rattle.record.specs.Record.{within, inRange, accepted, whole, byShape, readOf, before, andThen, recordsIn, recordsOf, fullOpen, shortOpen, close}
@@ -56,11 +56,11 @@ read-sound s =
 pub sound : (s : List ℕ) (f : Fields) → readOf s ≡ result f → Sound s f
 sound s f e = subst (SoundRead s) e (read-sound s)
 
-and-left : (a b : Bool) → a && b ≡ true → a ≡ true
+pub and-left : (a b : Bool) → a && b ≡ true → a ≡ true
 and-left true b e = refl
 and-left false b e = e
 
-and-right : (a b : Bool) → a && b ≡ true → b ≡ true
+pub and-right : (a b : Bool) → a && b ≡ true → b ≡ true
 and-right true b e = e
 and-right false b e = absurd (subst T (sym e) tt)
 
@@ -68,6 +68,33 @@ pub within-size : (z : ℤ) → within z ≡ true → natAbs z ≤ 1_000_000_000
 unfolding within
 within-size (pos n) e = leb-true n 1_000_000_000 e
 within-size (negsuc n) e = omega (arith, leb-true n 999_999_999 (and-left (leb n 999_999_999) true e))
+
+-- ---- the layout that a record was read by
+
+pub data Shape (s : List ℕ) : Fields → Type 0 where
+  full : leAt 2 s 0 ≡ 18 → leAt 2 s 2 ≡ 1 → Shape s (fullOpen s)
+  short : Shape s (shortOpen s)
+  closed : leAt 2 s 0 ≡ 6 → leAt 2 s 2 ≡ 2 → Shape s (close s)
+
+abbrev ShapeRead : List ℕ → Outcome Fields → Type 0
+ShapeRead s (result f) = Shape s f
+ShapeRead s (refused n) = Unit {0}
+
+whole-shape : (s : List ℕ) (f : Fields) → Shape s f → ShapeRead s (whole s f)
+unfolding whole accepted
+whole-shape s f h =
+    either (ShapeRead s) (leb (f .length) (length s)) (accepted f) (refused 3) (λ _. either (ShapeRead s) (inRange (f .depth) (f .value) (f .floor) (f .ceiling)) (result f) (refused 3) (λ _. h) tt) tt
+
+read-shape : (s : List ℕ) → ShapeRead s (readOf s)
+unfolding readOf byShape
+read-shape s =
+    either (ShapeRead s) (eqb (leAt 2 s 2) 1) _ _
+    (λ k. either (ShapeRead s) (eqb (leAt 2 s 0) 18) _ _ (λ l. whole-shape s (fullOpen s) (full (eqb-true _ _ l) (eqb-true _ _ k)))
+    (either (ShapeRead s) (eqb (leAt 2 s 0) 10) _ _ (λ _. whole-shape s (shortOpen s) short) tt))
+    (either (ShapeRead s) (eqb (leAt 2 s 2) 2) _ _ (λ k. either (ShapeRead s) (eqb (leAt 2 s 0) 6) _ _ (λ l. whole-shape s (close s) (closed (eqb-true _ _ l) (eqb-true _ _ k))) tt) tt)
+
+pub shape : (s : List ℕ) (f : Fields) → readOf s ≡ result f → Shape s f
+shape s f e = subst (ShapeRead s) e (read-shape s)
 
 -- ---- the records of a chunk
 

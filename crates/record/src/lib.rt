@@ -53,7 +53,7 @@ pub fn amounts_fit(value: i32, floor: i32, ceiling: i32) -> bool
 }
 
 // Whether a record's fields are in range. With `amounts_fit` in it, reading a chunk was slower.
-fn in_range(depth: u16, value: i32, floor: i32, ceiling: i32) -> bool
+pub fn in_range(depth: u16, value: i32, floor: i32, ceiling: i32) -> bool
     ensures { λ r. ⌜ r ≡ inRange depth value floor ceiling ⌝ }
 {
     (depth <= 63) & in_limits(value) & in_limits(floor) & in_limits(ceiling) & (floor <= ceiling)

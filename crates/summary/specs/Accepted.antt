@@ -7,6 +7,7 @@ use mathlib.Core.List.{List}
 use Prim.Native.Nat.{ℕ, _≤_}
 use native.Mathlib.Omega.{arith}
 use lib.ListN.{length}
+use Rattle.number.specs.FieldLaws.{AllBytes}
 use Rattle.figure.specs.FourModes.{Amounts}
 use Rattle.figure.specs.Mode.{modeOf, modeInUse}
 use Rattle.hill.specs.Log.{Record}
@@ -17,7 +18,6 @@ use Rattle.summary.specs.Layout.{SummaryIn, encode, lengthOf}
 use Rattle.summary.specs.Judge.{modeAt, IsSummary, isBlank, isSpoilt, isHill}
 use Rattle.summary.specs.Decode.{decode}
 use Rattle.summary.specs.ModeValues.{numbered}
-use Rattle.summary.specs.Fields.{AllBytes}
 use Rattle.summary.specs.ReadBack.{layout-length, layout-bytes}
 use Rattle.summary.specs.Written.{says}
 use Rattle.summary.specs.WriteBack.{layout-reading, reading-valid}

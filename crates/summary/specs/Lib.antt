@@ -7,7 +7,6 @@ pub mod Decide
 pub mod Outcomes
 -- Question 5 by the mode's figures, and by the hill that bytes say.
 pub mod Tests
-pub mod Fields
 pub mod ModeValues
 pub mod Values
 pub mod Hills

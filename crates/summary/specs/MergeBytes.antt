@@ -4,6 +4,7 @@ use mathlib.Core.Path.{_≡_, refl, sym, ap, ap₂, _∙_}
 use mathlib.Core.Bool.{true}
 use mathlib.Core.List.{List, [], _++_}
 use Prim.Native.Nat.{ℕ}
+use Rattle.number.specs.FieldLaws.{AllBytes}
 use Rattle.figure.specs.FourModes.{Amounts}
 use Rattle.figure.specs.Mode.{modeOf, modeInUse}
 use Rattle.hill.specs.Log.{Record}
@@ -14,7 +15,6 @@ use Rattle.hill.specs.SummaryLaws.{merge-blank, mergeSummary-assoc, summaryOf-a
 use Rattle.hill.specs.ValidLaws.{valid-mergeSummary}
 use Rattle.summary.specs.Layout.{SummaryIn, encode}
 use Rattle.summary.specs.Decode.{decode}
-use Rattle.summary.specs.Fields.{AllBytes}
 use Rattle.summary.specs.Accepted.{Accepted, IsSummaryIn, mode-used, encoded, decode-encode, encode-bytes, decoded, encode-decode, chunk-accepted}
 use Rattle.summary.specs.Outcomes.{summaryBytes, blankBytes, mergeBytes}
 

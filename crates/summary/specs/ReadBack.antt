@@ -12,6 +12,7 @@ use mir.Facts.{fits-ofZ, toZ-ofZ}
 use Rattle.number.specs.Bytes.{leAt}
 use Rattle.number.specs.Laws.{field-here, field-past, length-bytesOf}
 use Rattle.number.specs.IntegerLaws.{sfits-abs}
+use Rattle.number.specs.FieldLaws.{AllBytes, bytes-nil, bytes-append, bytes-bytesOf, behind, field-from, field-further}
 use Rattle.figure.specs.FourModes.{Amounts, InRange, limit}
 use Rattle.figure.specs.Mode.{Mode}
 use Rattle.figure.specs.Stored.{IsStored}
@@ -21,7 +22,6 @@ use Rattle.summary.specs.Layout.{i32Bytes, i64Bytes, leftBytes, recordBy
 use Rattle.summary.specs.Judge.{riseAt, leftAt, recordAt, heldAt}
 use Rattle.summary.specs.Decode.{amountsAt, leftsIn, rightsIn}
 use Rattle.summary.specs.Tests.{one-more}
-use Rattle.summary.specs.Fields.{AllBytes, bytes-nil, bytes-append, bytes-bytesOf, behind, field-from, field-further}
 
 -- ---- lengths
 

@@ -5,11 +5,12 @@ use Prim.Native.Nat.{ℕ, zero, suc, _+_, _*_, _≤_, _<_}
 use native.Mathlib.Nat.{le-refl, le-of-eq}
 use native.Mathlib.Omega.{arith}
 use lib.ListN.{length, drop, drop-of-length-le}
-use mir.Syntax.{w32, w64}
+use mir.Syntax.{w64}
 use mir.Val.{Fits}
 use mir.Facts.{ofZ-toZ}
 use Rattle.number.specs.Bytes.{leAt, bytesOf, i32At, i64At}
 use Rattle.number.specs.Laws.{leAt-lt}
+use Rattle.number.specs.FieldLaws.{AllBytes, split-field, split-signed}
 use Rattle.figure.specs.Mode.{Mode}
 use Rattle.figure.specs.Stored.{IsStored}
 use Rattle.hill.specs.Valid.{ValidSummary}
@@ -17,7 +18,6 @@ use Rattle.summary.specs.Layout.{i32Bytes, i64Bytes, leftBytes, recordBy
 use Rattle.summary.specs.Judge.{lengthAt, kindAt, modeAt, faultAt, spoiltStartAt, startAt, peakAt, endAt, openedAt, riseAt, fallAt, leftAt, middleAt, recordAt, heldAt, IsSummary, isBlank, isSpoilt, isHill}
 use Rattle.summary.specs.Decode.{amountsAt, leftsIn, rightsIn, hillIn, reading}
 use Rattle.summary.specs.ModeValues.{Numbered}
-use Rattle.summary.specs.Fields.{AllBytes, split-field}
 use Rattle.summary.specs.Values.{lefts-length, rights-length, reading-blank, reading-spoilt, reading-hill}
 use Rattle.summary.specs.Hills.{AllStored, hill-valid, hill-stored}
 
@@ -25,9 +25,7 @@ module _ (M : Mode) (b : List ℕ) (all : AllBytes b) where
   -- ---- one number, that ends at e
 
   grams-again : (k e : ℕ) → k + 4 ≡ e → e ≤ length b → i32Bytes (i32At b k) ++ drop e b ≡ drop k b
-  grams-again k e q l =
-      let f : Fits w32 (leAt 4 b k) = record { fits = leAt-lt 4 b k all } in
-      rw (ofZ-toZ f, ← q) (split-field 4 k b all (omega arith))
+  grams-again k e q l = rw (← q) (split-signed k b all (omega arith))
 
   figure-again : (k e : ℕ) → k + 8 ≡ e → e ≤ length b → IsStored M (i64At b k) → i64Bytes (M .store (M .read (i64At b k))) ++ drop e b ≡ drop k b
   unfolding IsStored

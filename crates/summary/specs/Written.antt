@@ -10,6 +10,7 @@ use mir.Syntax.{w64}
 use mir.Val.{ofZ, toZ}
 use Rattle.number.specs.Bytes.{leAt, bytesOf}
 use Rattle.number.specs.Laws.{field-here, field-past, length-bytesOf}
+use Rattle.number.specs.FieldLaws.{behind, field-from, drop-past}
 use Rattle.figure.specs.FourModes.{Amounts}
 use Rattle.figure.specs.Bound.{bound-fits}
 use Rattle.figure.specs.Mode.{Mode, modeInUse}
@@ -21,7 +22,6 @@ use Rattle.summary.specs.Layout.{i64Bytes, leftBytes, rightBytes, hillBy
 use Rattle.summary.specs.Judge.{lengthAt, kindAt, modeAt, openedAt, riseAt, fallAt, middleAt, HasLayout, IsSummary, isBlank, isSpoilt, isHill}
 use Rattle.summary.specs.Decode.{hillIn, reading, leftsIn, rightsIn}
 use Rattle.summary.specs.ModeValues.{Numbered}
-use Rattle.summary.specs.Fields.{behind, field-from, drop-past}
 use Rattle.summary.specs.Values.{}
 use Rattle.summary.specs.Hills.{AllStored, valid-hill}
 use Rattle.summary.specs.ReadBack.{left-length, layout-length, figure-back, stored, LeftsBack, lefts-back, RightsBack, rights-back}

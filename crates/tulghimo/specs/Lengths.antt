@@ -19,7 +19,7 @@ use Rattle.summary.specs.Judge.{modeAt}
 use Rattle.summary.specs.Decode.{decode}
 use Rattle.summary.specs.Decide.{isSummary}
 use Rattle.summary.specs.DecideLaws.{decide-summary}
-use Rattle.summary.specs.Fields.{AllBytes}
+use Rattle.number.specs.FieldLaws.{AllBytes}
 use Rattle.summary.specs.Accepted.{IsSummaryIn, encode-fits, encode-decode, decoded, chunk-accepted}
 use Rattle.summary.specs.Outcomes.{summaryBytes, mergeBytes, summariseOutcome, mergeOutcome}
 use Rattle.chunk.specs.Chunk.{chunkOf}

@@ -1,8 +1,9 @@
 -- `emit::put_blank` meets its contract: 6 bytes, where they fit. Assumes nothing.
 use borrow.Author.Needs.{needs}
+use Rattle.gate.specs.Promises.{answer-short}
 use Rattle.emit.proofs.put_blank.Statement.{statement}
 use Rattle.emit.proofs.put_blank.Tie as tie
-use Rattle.emit.specs.Laws.{answer-short, answer-wrote, blank-length}
+use Rattle.emit.specs.Laws.{answer-wrote, blank-length}
 use Rattle.summary.specs.Layout.{encode}
 use Rattle.hill.specs.Summary.{blank}
 use denote.Ref.{now}

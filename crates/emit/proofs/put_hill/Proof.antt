@@ -1,5 +1,6 @@
 -- `emit::put_hill` meets its contract: the length is told by the levels. Assumes nothing.
 use borrow.Author.Needs.{needs}
+use Rattle.gate.specs.Promises.{answer-short}
 use Rattle.emit.proofs.put_hill.Statement.{statement}
 use Rattle.emit.proofs.put_hill.Tie as tie
 use Prim.Native.Nat.{ℕ}
@@ -14,7 +15,7 @@ use Rattle.summary.specs.Layout.{encode}
 use Rattle.emit.specs.Contracts.{hillLength}
 use Rattle.slopes.specs.Arrays.{Arrays, arrays}
 use Rattle.emit.specs.Emitted.{countsOf, hillSaid}
-use Rattle.emit.specs.Laws.{answer-short, answer-wrote, hill-length, counts-are, can-write, wrote-said}
+use Rattle.emit.specs.Laws.{answer-wrote, hill-length, counts-are, can-write, wrote-said}
 
 abbrev these : tie.Start → Arrays
 these a = arrays (now (a .args .left)) (now (a .args .values)) (now (a .args .floors)) (now (a .args .ceilings)) (now (a .args .held))

@@ -1,6 +1,7 @@
 -- `emit::put_spoilt` meets its contract: 16 bytes, where they fit. Assumes nothing.
+use Rattle.gate.specs.Promises.{answer-short}
 use Rattle.emit.specs.Emitted.{spoiltSaid}
-use Rattle.emit.specs.Laws.{answer-short, answer-wrote, spoilt-length}
+use Rattle.emit.specs.Laws.{answer-wrote, spoilt-length}
 use Rattle.summary.specs.Layout.{encode}
 use Prim.Native.Nat.{ℕ}
 use mathlib.Core.List.{List}

@@ -1,5 +1,6 @@
 -- `merge::join` meets its contract: one piece, then the other, and what they merge to is written. Assumes nothing.
 use borrow.Author.Needs.{needs}
+use Rattle.gate.specs.Promises.{answer-same}
 use Rattle.merge.proofs.join.Statement.{statement}
 use Rattle.merge.proofs.join.Tie as tie
 use denote.Ref.{now}
@@ -7,7 +8,6 @@ use Rattle.figure.specs.Mode.{modeOf}
 use Rattle.hill.specs.Summary.{blank}
 use Rattle.hill.specs.Merge.{mergeSummary}
 use Rattle.summary.specs.Decode.{decode}
-use Rattle.emit.specs.Laws.{answer-same}
 use Rattle.merging.specs.KeptLaws.{zeros, whole-zeros}
 use Rattle.merge.specs.CallLaws.{two-merged}
 

@@ -1,5 +1,5 @@
 -- `merge::merge` meets its contract: each question in its order, then the two are joined. Assumes nothing.
-use Rattle.emit.specs.Laws.{refuses, comes-to}
+use Rattle.gate.specs.Promises.{refuses, comes-to}
 use Rattle.merge.specs.CallLaws.{left-5, right-5, other-mode, both-in}
 use Rattle.summary.specs.OutcomeLaws.{merge-is}
 use Rattle.judge.specs.Laws.{judges, judges-not}

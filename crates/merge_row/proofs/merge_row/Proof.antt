@@ -1,5 +1,5 @@
 -- `merge_row::merge_row` meets its contract: each question in its order, then the pieces are merged. Assumes nothing.
-use Rattle.emit.specs.Laws.{refuses, comes-to}
+use Rattle.gate.specs.Promises.{refuses, comes-to}
 use Rattle.merge_row.specs.CallLaws.{few-4, many-4, some-bytes, row-refused, is-row, row-is}
 use Rattle.outcome.specs.Answers.{modeAnswer}
 use lib.ListN.{length}

@@ -2,9 +2,9 @@
 use borrow.Author.Needs.{needs}
 use mathlib.Core.Path.{ap}
 use denote.Ref.{now}
+use Rattle.gate.specs.Promises.{answer-same}
 use Rattle.summary.specs.Layout.{encode}
 use Rattle.slopes.specs.Arrays.{Arrays, arrays}
-use Rattle.emit.specs.Laws.{answer-same}
 use Rattle.merging.proofs.put_merged.Statement.{statement}
 use Rattle.merging.proofs.put_merged.Tie as tie
 

@@ -2,9 +2,9 @@
 use borrow.Author.Needs.{needs}
 use mathlib.Core.Path.{ap, _∙_}
 use denote.Ref.{now}
+use Rattle.gate.specs.Promises.{answer-same}
 use Rattle.summary.specs.Layout.{encode}
 use Rattle.slopes.specs.Arrays.{Arrays, arrays}
-use Rattle.emit.specs.Laws.{answer-same}
 use Rattle.summarise.specs.AnsweredLaws.{bytes-are}
 use Rattle.summarise.proofs.conclude.Statement.{statement}
 use Rattle.summarise.proofs.conclude.Tie as tie

@@ -4,12 +4,12 @@ use mathlib.Core.Path.{_≡_, sym, _∙_}
 use mathlib.Core.Bool.{true}
 use native.Mathlib.Omega.{arith}
 use denote.Ref.{now}
+use Rattle.gate.specs.Promises.{refuses, comes-to}
 use Rattle.figure.specs.Mode.{modeInUse}
 use Rattle.figure.specs.Stored.{mode-small}
 use Rattle.summary.specs.OutcomeLaws.{summarise-is}
 use Rattle.chunk.specs.Chunk.{chunkOf}
 use Rattle.whole_log.specs.TallyLaws.{begun, not-begun}
-use Rattle.emit.specs.Laws.{refuses, comes-to}
 use Rattle.summarise.specs.CallLaws.{no-mode, too-many, not-readable}
 use Rattle.summarise.proofs.summarise.Statement.{statement}
 use Rattle.summarise.proofs.summarise.Tie as tie

@@ -6,9 +6,12 @@ use native.Mathlib.Nat.{add-zero, add-suc, suc-add, mod-lt}
 use native.Mathlib.Omega.{arith}
 use lib.Dec.{lit<}
 use lib.ListN.{length, getD, drop}
-use lib.Seq.{drop-cons, drop-at, drop-drop, drop-append-add}
-use Rattle.number.specs.Bytes.{leAt, bytesOf}
-use Rattle.number.specs.Laws.{leAt-drop, length-bytesOf}
+use lib.Seq.{getD-drop, drop-cons, drop-at, drop-drop, drop-append-add}
+use mir.Syntax.{w32}
+use mir.Val.{Fits, ofZ}
+use mir.Facts.{ofZ-toZ}
+use Rattle.number.specs.Bytes.{leAt, bytesOf, i32At}
+use Rattle.number.specs.Laws.{leAt-drop, leAt-lt, length-bytesOf}
 
 -- what a slice of bytes holds
 abbrev pub AllBytes : List ℕ → Type 0
@@ -33,6 +36,12 @@ split-field (suc n) i b h l =
     let rest : bytesOf n y ++ drop (i + suc n) b ≡ drop (suc i) b = rw (add-suc i n, ← suc-add i n) (split-field n (suc i) b h (omega arith)) in
     rw (leAt-suc n b i, first, others, rest) (sym (drop-cons b i 0 (omega arith)))
 
+-- a signed field likewise
+pub split-signed : (i : ℕ) (b : List ℕ) → AllBytes b → i + 4 ≤ length b → bytesOf 4 (ofZ w32 (i32At b i)) ++ drop (i + 4) b ≡ drop i b
+split-signed i b h l =
+    let f : Fits w32 (leAt 4 b i) = record { fits = leAt-lt 4 b i h } in
+    rw (ofZ-toZ f) (split-field 4 i b h l)
+
 pub bytes-append : (a b : List ℕ) → AllBytes a → AllBytes b → AllBytes (a ++ b)
 bytes-append [] b h k i = k i
 bytes-append (x ∷ a) b h k zero = h zero
@@ -40,6 +49,9 @@ bytes-append (x ∷ a) b h k (suc i) = bytes-append a b (λ j. h (suc j)) k i
 
 pub bytes-nil : AllBytes []
 bytes-nil i = omega arith
+
+pub bytes-drop : (n : ℕ) (b : List ℕ) → AllBytes b → AllBytes (drop n b)
+bytes-drop n b all i = rw (getD-drop n b i 0) (all (n + i))
 
 bytesOf-zero : (v : ℕ) → bytesOf zero v ≡ []
 unfolding bytesOf
