@@ -11,6 +11,7 @@ use lib.ListN.{length}
 use borrow.Author.Tests.{eqb-true}
 use Rattle.gate.specs.Outcome.{Outcome, refused, result, question, onward, written}
 use Rattle.gate.specs.Answers.{lengthAnswered}
+use Rattle.number.specs.FieldLaws.{AllBytes}
 use Rattle.record.specs.Record.{recordsOf}
 use Rattle.record.specs.declared.Fields.{Fields}
 use Rattle.figure.specs.Mode.{modeOf, modeInUse}
@@ -19,10 +20,12 @@ use Rattle.summary.specs.Judge.{modeAt}
 use Rattle.summary.specs.Decode.{decode}
 use Rattle.summary.specs.Decide.{isSummary}
 use Rattle.summary.specs.DecideLaws.{decide-summary}
-use Rattle.number.specs.FieldLaws.{AllBytes}
 use Rattle.summary.specs.Accepted.{IsSummaryIn, encode-fits, encode-decode, decoded, chunk-accepted}
 use Rattle.summary.specs.Outcomes.{summaryBytes, mergeBytes, summariseOutcome, mergeOutcome}
-use Rattle.chunk.specs.Chunk.{chunkOf}
+use Rattle.figure.specs.FourModes.{Amounts}
+use Rattle.hill.specs.Log.{Record}
+use Rattle.chunk.specs.Chunk.{chunkOf, wholeLog}
+use Rattle.chunk.specs.Laws.{is-log}
 use Rattle.summary.specs.MergeBytes.{merge-accepted, merge-bytes}
 use Rattle.summary.specs.OutcomeLaws.{chunk-readable}
 use Rattle.row.specs.Row.{rowPieces}
@@ -32,6 +35,11 @@ use Rattle.merge_row.specs.RowAsks.{rowMerged}
 use Rattle.merge_row.specs.RowLaws.{summary-fits}
 use Rattle.merge_row.specs.CallLaws.{few-4, many-4, row-refused, is-row, row-is}
 use Rattle.runs.specs.CallLaws.{runs-3750}
+use Rattle.day_table.specs.Table.{tableOf}
+use Rattle.day_table.specs.Outcomes.{tableBytes, writeLogOutcome, readTableOutcome}
+use Rattle.day_table.specs.TableLaws.{log-few, table-opened}
+use Rattle.day_table.specs.LineLaws.{length-table}
+use Rattle.day_table.specs.RoundTrips.{written-log}
 use Rattle.tulghimo.specs.Interface.{Short}
 
 short-question : (n : ℕ) (t : Bool) (o : Outcome (List ℕ)) → Short (lengthAnswered o) → Short (lengthAnswered (question n t o))
@@ -108,3 +116,20 @@ short-plan row cap = short-along planBytes (rowPieces row) cap (λ s t e f. omeg
 pub short-runs : (row : List ℕ) (cap : ℕ) → Short (lengthAnswered (runsOutcome row cap))
 unfolding runsOutcome
 short-runs row cap = short-along runsBytes (rowPieces row) cap (λ s t e f. omega (arith, runs-3750 (rowPieces row) s t e f))
+
+-- A log written from a table has at most 65,520 bytes, ..
+pub short-log : (table : List ℕ) (cap : ℕ) → Short (lengthAnswered (writeLogOutcome table cap))
+short-log table cap = go (writeLogOutcome table cap) refl
+  where
+    go : (o : Outcome (List ℕ)) → writeLogOutcome table cap ≡ o → Short (lengthAnswered o)
+    go (refused n) e = tt
+    go (result w) e = omega (arith, written-log table cap e .short)
+
+-- .. and the table of a log 14 for each record that it opens, at most 100,000.
+pub short-table : (log : List ℕ) (cap : ℕ) → Short (lengthAnswered (readTableOutcome log cap))
+unfolding readTableOutcome
+short-table log cap = go (wholeLog log) refl
+  where
+    go : (o : Outcome (List (Record Amounts))) → wholeLog log ≡ o → Short (lengthAnswered (onward o (λ xs. written cap (tableBytes (tableOf xs)))))
+    go (refused n) e = tt
+    go (result xs) e = short-written cap (tableBytes (tableOf xs)) (omega (arith, length-table (tableOf xs), table-opened xs, log-few xs (is-log log xs e .fine)))

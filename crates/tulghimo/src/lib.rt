@@ -8,6 +8,7 @@ ghost use Rattle.record.specs.Record.{readOf};
 ghost use Rattle.summary.specs.Outcomes.{summariseOutcome, mergeOutcome, finishOutcome};
 ghost use Rattle.outcome.specs.Outcomes.{mergeRowOutcome, planOutcome, runsOutcome, workOutcome};
 ghost use Rattle.outcome.specs.Day.{dayOutcome};
+ghost use Rattle.day_table.specs.Outcomes.{writeLogOutcome, readTableOutcome};
 ghost use Rattle.work.specs.Answers.{workIn};
 ghost use Rattle.tulghimo.specs.Interface.{statusOf, lengthStatus, Short, fieldsAfter, figureAfter, figuresAfter, workAfter};
 use day::Day;
@@ -170,4 +171,24 @@ pub extern "C" fn tulghimo_day(log: &[u8], figures: &mut [i64; 4]) -> i64
         Day::Figures(f) => put_figures(f, figures),
         Day::Refused(n) => refusal(n),
     }
+}
+
+// The log written from a day table: its length, or -2, -3, -13, -10 or -12 and `out` as it was.
+#[no_mangle]
+pub extern "C" fn tulghimo_write_log(table: &[u8], out: &mut [u8]) -> i64
+    ensures answer { λ r. ⌜ r ≡ lengthStatus (lengthAnswered (writeLogOutcome (now (table .entry)) (length (now (out .entry))))) ⌝ }
+    ensures buffer { λ _. ⌜ now (out .exit) ≡ bufferAfter (writeLogOutcome (now (table .entry)) (length (now (out .entry)))) (now (out .entry)) ⌝ }
+{
+    let log = table::write_log(table, out);
+    status(log)
+}
+
+// The day table of a whole log: its length, or -2, -3, -7 to -11 or -12 and `out` as it was.
+#[no_mangle]
+pub extern "C" fn tulghimo_read_table(log: &[u8], out: &mut [u8]) -> i64
+    ensures answer { λ r. ⌜ r ≡ lengthStatus (lengthAnswered (readTableOutcome (now (log .entry)) (length (now (out .entry))))) ⌝ }
+    ensures buffer { λ _. ⌜ now (out .exit) ≡ bufferAfter (readTableOutcome (now (log .entry)) (length (now (out .entry)))) (now (out .entry)) ⌝ }
+{
+    let table = table::read_table(log, out);
+    status(table)
 }

@@ -1,0 +1,129 @@
+-- The bytes of a log of full records and its records: one is read from the other, both ways; and how long they are. Assumes nothing.
+use mathlib.Core.Path.{_≡_, refl, sym, ap, subst, _∙_}
+use mathlib.Core.Bool.{Bool, true, false, cond}
+use mathlib.Core.Logic.{_⊎_, inl, inr}
+use mathlib.Core.List.{List, [], _∷_, _++_, append-assoc, append-nil}
+use Prim.Native.Nat.{ℕ, zero, suc, _+_, _*_, _≤_, _<_}
+use native.Mathlib.Omega.{arith}
+use lib.Dec.{leb}
+use lib.IntN.{pos}
+use lib.ListN.{length, drop, length-append, drop-of-length-le}
+use lib.Seq.{drop-at}
+use borrow.Author.Tests.{leb-true, leb-false}
+use Rattle.gate.specs.Outcome.{result}
+use Rattle.number.specs.FieldLaws.{AllBytes, bytes-drop}
+use Rattle.record.specs.Record.{inRange, readOf, recordsOf, before}
+use Rattle.record.specs.Laws.{and-left, and-right, sound, Shape, full, short, closed, shape, records-nil, records-next}
+use Rattle.record.specs.RangeLaws.{range-parts}
+use Rattle.record.specs.Readable.{First, first-read, none-read}
+use Rattle.record.specs.Encoding.{openBytes, closeBytes, open-length, close-length, read-open, read-close, open-again, close-again}
+use Rattle.record.specs.declared.Fields.{Fields}
+use Rattle.figure.specs.FourModes.{Amounts}
+use Rattle.hill.specs.Log.{Record, opening, closing}
+use Rattle.chunk.specs.Chunk.{recordOf, chunkOf}
+use Rattle.day_table.specs.Table.{TableLine, closesTo, logFrom, logOf}
+use Rattle.day_table.specs.Outcomes.{DayLine, couldHold, allCouldHold, fullBytes, logBytes}
+use Rattle.day_table.specs.Claims.{Full, AllFull}
+use Rattle.day_table.specs.TableLaws.{closes-one, closes-none, Under}
+
+pub log-append : (xs ys : List (Record Amounts)) → logBytes (xs ++ ys) ≡ logBytes xs ++ logBytes ys
+log-append [] ys = refl
+log-append (x ∷ xs) ys = ap (λ (t : List ℕ). fullBytes x ++ t) (log-append xs ys) ∙ sym (append-assoc (fullBytes x) (logBytes xs) (logBytes ys))
+
+-- ---- records in range that are written are read back
+
+abbrev pub Ranged : List (Record Amounts) → Type 0
+Ranged [] = Unit {0}
+Ranged (opening d r ∷ xs) = (inRange d (r .value) (r .floor) (r .ceiling) ≡ true) × Ranged xs
+Ranged (closing d ∷ xs) = (d ≤ 63) × Ranged xs
+
+-- what is read of a full record
+abbrev pub fieldsOf : Record Amounts → Fields
+fieldsOf (opening d r) = record { kind = 1; length = 18; depth = d; value = r .value; floor = r .floor; ceiling = r .ceiling }
+fieldsOf (closing d) = record { kind = 2; length = 6; depth = d; value = pos 0; floor = pos 0; ceiling = pos 0 }
+
+abbrev pub allFields : List (Record Amounts) → List Fields
+allFields [] = []
+allFields (x ∷ xs) = fieldsOf x ∷ allFields xs
+
+pub chunk-fields : (xs : List (Record Amounts)) → chunkOf (allFields xs) ≡ xs
+chunk-fields [] = refl
+chunk-fields (opening d r ∷ xs) = ap (λ (ys : List (Record Amounts)). opening d r ∷ ys) (chunk-fields xs)
+chunk-fields (closing d ∷ xs) = ap (λ (ys : List (Record Amounts)). closing d ∷ ys) (chunk-fields xs)
+
+pub log-read : (xs : List (Record Amounts)) → Ranged xs → recordsOf (logBytes xs) ≡ result (allFields xs)
+log-read [] f = records-nil
+log-read (opening d r ∷ xs) f =
+    records-next (openBytes d (r .value) (r .floor) (r .ceiling) ++ logBytes xs) (fieldsOf (opening d r)) (read-open d (r .value) (r .floor) (r .ceiling) (logBytes xs) (f .0))
+    ∙ ap (λ (s : List ℕ). before (fieldsOf (opening d r)) (recordsOf s)) (drop-at (openBytes d (r .value) (r .floor) (r .ceiling)) (logBytes xs) 18 (open-length d (r .value) (r .floor) (r .ceiling)))
+    ∙ ap (before (fieldsOf (opening d r))) (log-read xs (f .1))
+log-read (closing d ∷ xs) f =
+    records-next (closeBytes d ++ logBytes xs) (fieldsOf (closing d)) (read-close d (logBytes xs) (f .0))
+    ∙ ap (λ (s : List ℕ). before (fieldsOf (closing d)) (recordsOf s)) (drop-at (closeBytes d) (logBytes xs) 6 (close-length d))
+    ∙ ap (before (fieldsOf (closing d))) (log-read xs (f .1))
+
+-- ---- full records that were read are written again
+
+pub fields-full : (xs : List (Record Amounts)) → AllFull (allFields xs)
+fields-full [] = tt
+fields-full (opening d r ∷ xs) = (inl refl, fields-full xs)
+fields-full (closing d ∷ xs) = (inr refl, fields-full xs)
+
+not-full : {P : Type 0} → _⊎_ (_≡_ {A = ℕ} 10 18) (_≡_ {A = ℕ} 10 6) → P
+not-full (inl e) = absurd (omega arith)
+not-full (inr e) = absurd (omega arith)
+
+record-again : (s : List ℕ) → AllBytes s → (f : Fields) → f .length ≤ length s → Shape s f → Full f → fullBytes (recordOf f) ++ drop (f .length) s ≡ s
+record-again s all f h (full e0 e2) u = open-again s all h e0 e2
+record-again s all f h short u = not-full u
+record-again s all f h (closed e0 e2) u = close-again s all h e0 e2
+
+pub log-again : (fs : List Fields) (b : List ℕ) → AllBytes b → recordsOf b ≡ result fs → AllFull fs → logBytes (chunkOf fs) ≡ b
+log-again [] b all e u = sym (drop-of-length-le b {i = 0} (omega (arith, none-read b e)))
+log-again (f ∷ fs) b all e u =
+    let w : First b f fs = first-read b f fs e in
+    ap (λ (t : List ℕ). fullBytes (recordOf f) ++ t) (log-again fs (drop (f .length) b) (bytes-drop (f .length) b all) (w .rest) (u .1))
+    ∙ record-again b all f (sound b f (w .here) .inside) (shape b f (w .here)) (u .0)
+
+-- ---- the log of a table: its records are in range where the lines are, ..
+
+ranged-closes : (e l : ℕ) (ys : List (Record Amounts)) → l ≤ 64 → Ranged ys → Ranged (closesTo e l ++ ys)
+ranged-closes e zero ys h r = r
+ranged-closes e (suc l) ys h r = go (leb e l) (ranged-closes e l ys (omega arith) r)
+  where
+    go : (t : Bool) → Ranged (closesTo e l ++ ys) → Ranged (cond t (closing l ∷ closesTo e l) [] ++ ys)
+    go true ih = (omega arith, ih)
+    go false ih = r
+
+pub ranged-from : (l : ℕ) (ls : List DayLine) → l ≤ 64 → allCouldHold ls ≡ true → Ranged (logFrom l ls)
+ranged-from l [] h ok = subst Ranged (append-nil (closesTo 0 l)) (ranged-closes 0 l [] h tt)
+ranged-from l (x ∷ ls) h ok =
+    let here = and-left (couldHold x) (allCouldHold ls) ok in
+    let low = range-parts (x .depth) (x .carries .value) (x .carries .floor) (x .carries .ceiling) here .depth in
+    ranged-closes (x .depth) l _ h (here, ranged-from (suc (x .depth)) ls (omega arith) (and-right (couldHold x) (allCouldHold ls) ok))
+
+-- .. and each line takes 24 bytes, its open and its close
+
+length-closes : (e l : ℕ) → e ≤ l → length (logBytes (closesTo e l)) + 6 * e ≡ 6 * l
+length-closes e zero h = omega arith
+length-closes e (suc l) h = go (leb e l) refl (length-closes e l)
+  where
+    go : (t : Bool) → leb e l ≡ t → (e ≤ l → length (logBytes (closesTo e l)) + 6 * e ≡ 6 * l) → length (logBytes (cond t (closing l ∷ closesTo e l) [])) + 6 * e ≡ 6 * suc l
+    go true t ih = omega (arith, ih (leb-true e l t), length-append (closeBytes l) (logBytes (closesTo e l)), close-length l)
+    go false t ih = omega (arith, leb-false e l t)
+
+pub length-from : (l : ℕ) (ls : List DayLine) → Under l ls → length (logBytes (logFrom l ls)) ≡ 24 * length ls + 6 * l
+length-from l [] u = omega (arith, length-closes 0 l (omega arith))
+length-from l (x ∷ ls) u =
+    let o : Record Amounts = opening (x .depth) (x .carries) in
+    let rest : List (Record Amounts) = logFrom (suc (x .depth)) ls in
+    let a = log-append (closesTo (x .depth) l) (o ∷ rest) in
+    omega (
+      arith,
+      ap length a,
+      length-append (logBytes (closesTo (x .depth) l)) (fullBytes o ++ logBytes rest),
+      length-append (fullBytes o) (logBytes rest),
+      open-length (x .depth) (x .carries .value) (x .carries .floor) (x .carries .ceiling),
+      length-closes (x .depth) l (u .1),
+      length-from (suc (x .depth)) ls (u .2),
+    )

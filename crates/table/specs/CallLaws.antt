@@ -1,0 +1,64 @@
+-- What the two calls come to, where they are refused and where they write. Assumes nothing.
+use mathlib.Core.Path.{_≡_, refl, sym, ap, _∙_}
+use mathlib.Core.List.{List}
+use Prim.Native.Nat.{ℕ, _*_, _/_, _≤_, _<_}
+use native.Mathlib.Omega.{arith}
+use lib.ListN.{length}
+use lib.Seq.{sets}
+use Rattle.gate.specs.Outcome.{Outcome, refused, result, onward, written}
+use Rattle.gate.specs.Laws.{not-result}
+use Rattle.gate.specs.Promises.{Answers, stored-first, answer-fits, answer-short}
+use Rattle.gate.specs.declared.Written.the-variants.{Bytes, Refused}
+use Rattle.figure.specs.FourModes.{Amounts}
+use Rattle.hill.specs.Log.{Record, openedOf}
+use Rattle.chunk.specs.Chunk.{wholeLog}
+use Rattle.chunk.specs.Laws.{IsLog, is-log, log-is, one-log}
+use Rattle.whole_log.specs.Gate.{askOutcome}
+use Rattle.day_table.specs.Table.{tableOf, logOf}
+use Rattle.day_table.specs.Outcomes.{dayLines, tableBytes, logBytes, readTableOutcome}
+use Rattle.day_table.specs.TableLaws.{table-opened}
+use Rattle.day_table.specs.LineLaws.{length-lines, length-table}
+use Rattle.day_table.specs.CallLaws.{Taken, nested-length}
+use Rattle.table.specs.Contracts.{Opens, TableFits}
+
+-- ---- bytes that are all stored, or do not fit
+
+pub all-stored : (w before : List ℕ) {after : List ℕ} {n : ℕ} → n ≡ length w → n ≤ length before → after ≡ sets before 0 w → Answers (written (length before) w) before after (Bytes n)
+all-stored w before {after} e h s = answer-fits w before (omega arith) e (stored-first w before after (omega arith) s)
+
+pub none-stored : (w before : List ℕ) {n : ℕ} → n ≡ length w → length before < n → Answers (written (length before) w) before before (Refused 12)
+none-stored w before e h = answer-short w before (omega arith)
+
+-- ---- the log of a table that is taken: 24 bytes a line
+
+pub log-total : {table : List ℕ} → Taken table → length table / 14 * 24 ≡ length (logBytes (logOf (dayLines table)))
+log-total {table} t = omega (arith, nested-length (dayLines table) (t .in-order), length-lines table)
+
+-- ---- the table of a log that was let through: 14 bytes for each record that it opens
+
+pub table-total : {log : List ℕ} {opened : ℕ} {xs : List (Record Amounts)} → Opens log opened → IsLog log xs → 14 * opened ≡ length (tableBytes (tableOf xs))
+table-total {xs = xs} o i = omega (arith, o .count, ap openedOf (one-log (o .is) i), table-opened xs, length-table (tableOf xs))
+
+pub opens-fit : {log : List ℕ} {opened : ℕ} (o : Opens log opened) {room : ℕ} → 14 * opened ≤ room → TableFits log room
+opens-fit o h = record { records = o .records; is = o .is; fits = omega (arith, o .count) }
+
+module _ (log : List ℕ) where
+  pub log-opens : {n : ℕ} → result n ≡ askOutcome log → Opens log n
+  unfolding askOutcome
+  log-opens {n} e = go (wholeLog log) refl e
+    where
+      go : (o : Outcome (List (Record Amounts))) → wholeLog log ≡ o → result n ≡ onward o (λ xs. result (openedOf xs)) → Opens log n
+      go (refused k) w e = absurd (not-result k n (sym e))
+      go (result xs) w e = record { records = xs; is = is-log log xs w; count = cc }
+
+  pub read-refused : {n : ℕ} (cap : ℕ) → refused n ≡ askOutcome log → readTableOutcome log cap ≡ refused n
+  unfolding askOutcome readTableOutcome
+  read-refused {n} cap e = go (wholeLog log) e
+    where
+      go : (o : Outcome (List (Record Amounts))) → refused n ≡ onward o (λ xs. result (openedOf xs)) → onward o (λ xs. written cap (tableBytes (tableOf xs))) ≡ refused n
+      go (refused k) e = cc
+      go (result xs) e = absurd (not-result n (openedOf xs) e)
+
+  pub read-is : {xs : List (Record Amounts)} (cap : ℕ) → IsLog log xs → readTableOutcome log cap ≡ written cap (tableBytes (tableOf xs))
+  unfolding readTableOutcome
+  read-is cap i = rw (log-is i)

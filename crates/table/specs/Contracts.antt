@@ -1,0 +1,19 @@
+-- What the functions inside `table` ask. Definitions only.
+use mathlib.Core.Path.{_≡_}
+use mathlib.Core.List.{List}
+use Prim.Native.Nat.{ℕ, _*_, _≤_}
+use Rattle.figure.specs.FourModes.{Amounts}
+use Rattle.hill.specs.Log.{Record, openedOf}
+use Rattle.chunk.specs.Laws.{IsLog}
+
+-- A log that was let through, and how many records it opens.
+pub record Opens (log : List ℕ) (opened : ℕ) : Type 0 where
+  pub records : List (Record Amounts)
+  pub is : IsLog log records
+  pub count : opened ≡ openedOf records
+
+-- The table of a log that was let through fits into so many bytes.
+pub record TableFits (log : List ℕ) (room : ℕ) : Type 0 where
+  pub records : List (Record Amounts)
+  pub is : IsLog log records
+  pub fits : 14 * openedOf records ≤ room

@@ -1,0 +1,44 @@
+-- The stores of a line, of an open and of a close. Assumes nothing.
+use mathlib.Core.Path.{_≡_, sym, ap, _∙_}
+use mathlib.Core.List.{List, _++_, append-assoc}
+use Prim.Native.Nat.{ℕ, _+_}
+use lib.IntN.{ℤ}
+use lib.ListN.{length-append}
+use lib.Seq.{sets}
+use mir.Syntax.{w32}
+use mir.Val.{ofZ}
+use Rattle.number.specs.Bytes.{bytesOf, putAt}
+use Rattle.number.specs.Laws.{stores-next, length-bytesOf}
+use Rattle.record.specs.Encoding.{openBytes, closeBytes}
+use Rattle.figure.specs.Stored.{amounts}
+use Rattle.day_table.specs.Table.{tableLine}
+use Rattle.day_table.specs.Outcomes.{dayLineBytes}
+
+pub line-stores : (o o₁ o₂ o₃ o₄ : List ℕ) (i d : ℕ) (v f c v′ f′ c′ : ℤ) → v′ ≡ v → f′ ≡ f → c′ ≡ c
+    → o₁ ≡ putAt 2 o i d → o₂ ≡ putAt 4 o₁ (i + 2) (ofZ w32 v′) → o₃ ≡ putAt 4 o₂ (i + 6) (ofZ w32 f′) → o₄ ≡ putAt 4 o₃ (i + 10) (ofZ w32 c′)
+    → o₄ ≡ sets o i (dayLineBytes (tableLine d (amounts v f c)))
+line-stores o o₁ o₂ o₃ o₄ i d v f c v′ f′ c′ ev ef ec e₁ e₂ e₃ e₄ =
+    let D : List ℕ = bytesOf 2 d in
+    let W : List ℕ = bytesOf 4 (ofZ w32 v) in
+    let F : List ℕ = bytesOf 4 (ofZ w32 f) in
+    let C : List ℕ = bytesOf 4 (ofZ w32 c) in
+    e₄ ∙ simp (e₃, e₂, e₁, ev, ef, ec)
+    (ap (λ (l : List ℕ). sets (sets l (i + 6) F) (i + 10) C) (stores-next o i (i + 2) D W (simp length-bytesOf))
+    ∙ ap (λ (l : List ℕ). sets l (i + 10) C) (stores-next o i (i + 6) (D ++ W) F (simp (length-append, length-bytesOf)))
+    ∙ stores-next o i (i + 10) ((D ++ W) ++ F) C (simp (length-append, length-bytesOf))
+    ∙ simp append-assoc)
+
+-- two numbers of 16 bits, and then the rest
+head-stores : (o o₁ o₂ o₃ : List ℕ) (i n k : ℕ) (r : List ℕ) → o₁ ≡ putAt 2 o i n → o₂ ≡ putAt 2 o₁ (i + 2) k → o₃ ≡ sets o₂ (i + 4) r → o₃ ≡ sets o i (bytesOf 2 n ++ (bytesOf 2 k ++ r))
+head-stores o o₁ o₂ o₃ i n k r e₁ e₂ e₃ =
+    e₃ ∙ simp (e₂, e₁)
+    (ap (λ (l : List ℕ). sets l (i + 4) r) (stores-next o i (i + 2) (bytesOf 2 n) (bytesOf 2 k) (simp length-bytesOf))
+    ∙ stores-next o i (i + 4) (bytesOf 2 n ++ bytesOf 2 k) r (simp (length-append, length-bytesOf))
+    ∙ simp append-assoc)
+
+pub open-stores : (o o₁ o₂ o₃ : List ℕ) (i d : ℕ) (v f c v′ f′ c′ : ℤ) → v′ ≡ v → f′ ≡ f → c′ ≡ c
+    → o₁ ≡ putAt 2 o i 18 → o₂ ≡ putAt 2 o₁ (i + 2) 1 → o₃ ≡ sets o₂ (i + 4) (dayLineBytes (tableLine d (amounts v′ f′ c′))) → o₃ ≡ sets o i (openBytes d v f c)
+open-stores o o₁ o₂ o₃ i d v f c v′ f′ c′ ev ef ec e₁ e₂ e₃ = head-stores o o₁ o₂ o₃ i 18 1 (dayLineBytes (tableLine d (amounts v f c))) e₁ e₂ (e₃ ∙ rw (ev, ef, ec))
+
+pub close-stores : (o o₁ o₂ o₃ : List ℕ) (i d : ℕ) → o₁ ≡ putAt 2 o i 6 → o₂ ≡ putAt 2 o₁ (i + 2) 2 → o₃ ≡ putAt 2 o₂ (i + 4) d → o₃ ≡ sets o i (closeBytes d)
+close-stores o o₁ o₂ o₃ i d e₁ e₂ e₃ = head-stores o o₁ o₂ o₃ i 6 2 (bytesOf 2 d) e₁ e₂ e₃
