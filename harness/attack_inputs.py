@@ -24,6 +24,11 @@ def close(depth):
     return struct.pack("<HHH", 6, 2, depth)
 
 
+def line(depth, value=1, floor=0, ceiling=9):
+    """A line of a day table."""
+    return struct.pack("<Hiii", depth, value, floor, ceiling)
+
+
 def blank(mode):
     return struct.pack("<HHH", 6, 16, mode)
 
@@ -55,6 +60,14 @@ def merge(left, right, room=200):
     return call("merge::merge", left + right, len(left), room)
 
 
+def write_log(*lines, room=200):
+    return call("table::write_log", b"".join(lines), room=room)
+
+
+def read_table(log, room=200):
+    return call("table::read_table", log, room=room)
+
+
 def halves(mode, floor=0):
     """Log D cut after record 2, its first record with this floor."""
     none = NOTHING if mode == 2 else 0
@@ -84,6 +97,8 @@ TEN_OVER_5_AND_1 = short(0, 10) + short(1, 5) + close(1) + short(1, 1) + close(1
 NINE = short(0, 0) + short(1, 9) + close(1) + short(1, 1) + close(1) + close(0)
 TWO_DAYS = 2 * (short(0, 1) + close(0))
 LONGEST = short(0, 1) + 4095 * (short(1, 1) + close(1)) + close(0)
+# The day table of log D.
+D_LINES = [line(0, 10, 0, 100), line(1, 5, 0, 4), line(1, -3, 0, 100)]
 
 # What tells each edit from the program.
 INPUTS = {
@@ -186,6 +201,31 @@ INPUTS = {
     "summarise/peak_over_1": summarise(1, D[36:]),
     "summarise/takes_65537": summarise(1, LONGEST + b"\0"),
     "summarise/twelve_before_reading": summarise(1, D[:71], 0),
+    "table/always_one_line": read_table(D),
+    "table/asks_13_before_3": write_log(line(1), line(64)),
+    "table/close_at_wrong_depth": write_log(line(0), line(1)),
+    "table/close_missing_at_a_fall": write_log(*D_LINES),
+    "table/close_missing_at_the_end": write_log(line(0)),
+    "table/close_of_length_10": write_log(line(0)),
+    "table/closes_not_counted": write_log(line(0)),
+    "table/default_floor_forgotten": read_table(short(0, 1) + close(0)),
+    "table/each_fault_11": read_table(D[:71]),
+    "table/first_line_asked": write_log(line(0), line(64)),
+    "table/floor_unasked": write_log(line(0, 1, 5, 4)),
+    "table/jump_by_two": write_log(line(0), line(2)),
+    "table/line_exchanged": read_table(D),
+    "table/lines_of_15": read_table(D, 42),
+    "table/lines_of_closes": read_table(D),
+    "table/lines_over_each_other": read_table(D),
+    "table/no_line_13": write_log(),
+    "table/one_line_too_many": write_log(line(0), *12 * [line(1)], room=400),
+    "table/open_as_close": write_log(line(0)),
+    "table/open_exchanged": write_log(line(0)),
+    "table/ragged_taken": write_log(line(0)[:7]),
+    "table/second_0_taken": write_log(line(0), line(0)),
+    "table/table_as_records": read_table(D),
+    "table/takes_2731": write_log(line(0), *2730 * [line(1)], room=65_544),
+    "table/value_unasked": write_log(line(0, GRAMS + 1)),
     "text/leading_zero": call("day_line::text", NINE),
     "text/minus_sign": call("day_line::text", NEGATIVE),
     "text/zero_digit": call("day_line::text", D),
@@ -201,6 +241,8 @@ INPUTS = {
     "tulghimo/plan_always_one_line": call("tulghimo::tulghimo_plan", NESTED),
     "tulghimo/plan_refused": call("tulghimo::tulghimo_plan", HEAD + TAIL),
     "tulghimo/read_ceiling_for_floor": call("tulghimo::tulghimo_read", D),
+    "tulghimo/read_table_always_one_line": call("tulghimo::tulghimo_read_table", D),
+    "tulghimo/read_table_refused": call("tulghimo::tulghimo_read_table", D),
     "tulghimo/refusal_positive": call("tulghimo::tulghimo_read", b""),
     "tulghimo/runs_always_one": call("tulghimo::tulghimo_runs", NESTED),
     "tulghimo/runs_refused": call("tulghimo::tulghimo_runs", HEAD + TAIL),
@@ -211,6 +253,8 @@ INPUTS = {
     "tulghimo/work_levels_for_joins": call("tulghimo::tulghimo_work", HEAD + TAIL),
     "tulghimo/work_no_figure": call("tulghimo::tulghimo_work", HEAD + TAIL),
     "tulghimo/work_of_a_part": call("tulghimo::tulghimo_work", HEAD + TAIL),
+    "tulghimo/write_log_always_one_line": call("tulghimo::tulghimo_write_log", b"".join(D_LINES)),
+    "tulghimo/write_log_refused": call("tulghimo::tulghimo_write_log", b"".join(D_LINES)),
     "whole_log/close_stays": call("day::figures", D),
     "whole_log/closes_counted": summarise(1, D),
     "whole_log/end_level": call("day::figures", short(0, 1)),

@@ -33,27 +33,20 @@ module _ (table : List ℕ) (cap : ℕ) where
 
   module _ (short : length table ≤ 38_220) where
     -- 3
-    pub ragged : (length table % 14 ≡ 0 → ⊥) → writeLogOutcome table cap ≡ refused 3
+    pub unreadable : eqb (length table % 14) 0 && allCouldHold (dayLines table) ≡ false → writeLogOutcome table cap ≡ refused 3
     unfolding writeLogOutcome
-    ragged h = rw (le-leb (length table) 38_220 short, ne-eqb (length table % 14) 0 h)
+    unreadable h = rw (le-leb (length table) 38_220 short, h)
 
-    module _ (whole : length table % 14 ≡ 0) where
-      pub unreadable : allCouldHold (dayLines table) ≡ false → writeLogOutcome table cap ≡ refused 3
+    module _ (held : eqb (length table % 14) 0 && allCouldHold (dayLines table) ≡ true) where
+      -- 13
+      pub not-nested : nested (dayLines table) ≡ false → writeLogOutcome table cap ≡ refused 13
       unfolding writeLogOutcome
-      unreadable h = rw (le-leb (length table) 38_220 short, eq-eqb (length table % 14) 0 whole, h)
+      not-nested h = rw (le-leb (length table) 38_220 short, held, h)
 
-      module _ (held : allCouldHold (dayLines table) ≡ true) where
-        -- 13
-        pub not-nested : nested (dayLines table) ≡ false → writeLogOutcome table cap ≡ refused 13
-        unfolding writeLogOutcome
-        not-nested h = rw (le-leb (length table) 38_220 short, eq-eqb (length table % 14) 0 whole, held, h)
-
-        -- 10
-        pub no-line : nested (dayLines table) ≡ true → length table ≡ 0 → writeLogOutcome table cap ≡ refused 10
-        unfolding writeLogOutcome
-        no-line n h =
-            let z : length (dayLines table) < 1 = omega (arith, length-lines table) in
-            rw (le-leb (length table) 38_220 short, eq-eqb (length table % 14) 0 whole, held, n, lt-leb 1 (length (dayLines table)) z)
+      -- 10
+      pub no-line : nested (dayLines table) ≡ true → leb 1 (length (dayLines table)) ≡ false → writeLogOutcome table cap ≡ refused 10
+      unfolding writeLogOutcome
+      no-line n h = rw (le-leb (length table) 38_220 short, held, n, h)
 
   -- and 12
   pub taken-is : Taken table → writeLogOutcome table cap ≡ written cap (logBytes (logOf (dayLines table)))

@@ -6,6 +6,7 @@ use Prim.Native.Nat.{ℕ, _*_, _/_, _%_, _≤_, _<_}
 use native.Mathlib.Omega.{arith}
 use lib.Dec.{leb, eqb}
 use lib.ListN.{length}
+use borrow.Author.Tests.{eq-eqb}
 use Rattle.gate.specs.Outcome.{refused, result, question, written}
 use Rattle.gate.specs.Laws.{fits, not-result, yes}
 use Rattle.number.specs.FieldLaws.{AllBytes}
@@ -167,4 +168,4 @@ module _ (table : List ℕ) (r : Readable table) where
     where
       none-nested : (SomeLog (dayLines table) → ⊥) → (cap : ℕ) (b : Bool) → nested (dayLines table) ≡ b → writeLogOutcome table cap ≡ refused 13
       none-nested none cap true n = absurd (none (its-log (to-take n)))
-      none-nested none cap false n = not-nested table cap short whole (r .held) n
+      none-nested none cap false n = not-nested table cap short (rw (eq-eqb (length table % 14) 0 whole) (r .held)) n

@@ -1,25 +1,31 @@
 -- What the two calls come to, where they are refused and where they write. Assumes nothing.
-use mathlib.Core.Path.{_≡_, refl, sym, ap, _∙_}
+use mathlib.Core.Path.{_≡_, refl, sym, ap, subst, _∙_}
+use mathlib.Core.Bool.{Bool, true, false, _&&_}
+use mathlib.Core.Logic.{dite}
 use mathlib.Core.List.{List}
-use Prim.Native.Nat.{ℕ, _*_, _/_, _≤_, _<_}
+use Prim.Native.Nat.{ℕ, _*_, _/_, _%_, _≤_, _<_}
+use native.Mathlib.Decide.{decLt}
 use native.Mathlib.Omega.{arith}
+use lib.Dec.{leb, eqb}
 use lib.ListN.{length}
 use lib.Seq.{sets}
+use borrow.Author.Tests.{le-leb, lt-leb, leb-true, eqb-true}
 use Rattle.gate.specs.Outcome.{Outcome, refused, result, onward, written}
 use Rattle.gate.specs.Laws.{not-result}
 use Rattle.gate.specs.Promises.{Answers, stored-first, answer-fits, answer-short}
 use Rattle.gate.specs.declared.Written.the-variants.{Bytes, Refused}
+use Rattle.record.specs.Laws.{and-left, and-right}
 use Rattle.figure.specs.FourModes.{Amounts}
 use Rattle.hill.specs.Log.{Record, openedOf}
 use Rattle.chunk.specs.Chunk.{wholeLog}
 use Rattle.chunk.specs.Laws.{IsLog, is-log, log-is, one-log}
 use Rattle.whole_log.specs.Gate.{askOutcome}
-use Rattle.day_table.specs.Table.{tableOf, logOf}
-use Rattle.day_table.specs.Outcomes.{dayLines, tableBytes, logBytes, readTableOutcome}
+use Rattle.day_table.specs.Table.{tableOf, logOf, nested}
+use Rattle.day_table.specs.Outcomes.{dayLines, tableBytes, allCouldHold, logBytes, writeLogOutcome, readTableOutcome}
 use Rattle.day_table.specs.TableLaws.{table-opened}
 use Rattle.day_table.specs.LineLaws.{length-lines, length-table}
-use Rattle.day_table.specs.CallLaws.{Taken, nested-length}
-use Rattle.table.specs.Contracts.{Opens, TableFits}
+use Rattle.day_table.specs.CallLaws.{Taken, unreadable, not-nested, no-line, nested-length}
+use Rattle.table.specs.Contracts.{firstNo, Opens, TableFits}
 
 -- ---- bytes that are all stored, or do not fit
 
@@ -28,6 +34,53 @@ all-stored w before {after} e h s = answer-fits w before (omega arith) e (stored
 
 pub none-stored : (w before : List ℕ) {n : ℕ} → n ≡ length w → length before < n → Answers (written (length before) w) before before (Refused 12)
 none-stored w before e h = answer-short w before (omega arith)
+
+-- ---- questions 3, 13 and 10 by one number
+
+module _ (held nest some : Bool) where
+  pub no-3 : held ≡ false → 3 ≡ firstNo held nest some
+  no-3 h = rw h
+
+  module _ (h : held ≡ true) where
+    pub no-13 : nest ≡ false → 13 ≡ firstNo held nest some
+    no-13 n = rw (h, n)
+
+    module _ (n : nest ≡ true) where
+      pub no-10 : some ≡ false → 10 ≡ firstNo held nest some
+      no-10 s = rw (h, n, s)
+
+      pub all-yes : some ≡ true → 0 ≡ firstNo held nest some
+      all-yes s = rw (h, n, s)
+
+-- What the number n says of a table: 0 that it is taken, and any other the refusal.
+pub record Says (table : List ℕ) (n : ℕ) : Type 0 where
+  pub yes : n ≡ 0 → Taken table
+  pub no : (n ≡ 0 → ⊥) → (cap : ℕ) → writeLogOutcome table cap ≡ refused n
+
+some-line : (table : List ℕ) → leb 14 (length table) ≡ leb 1 (length (dayLines table))
+some-line table =
+    dite (decLt (length table) 14)
+    (λ h. lt-leb 14 (length table) h ∙ sym (lt-leb 1 (length (dayLines table)) (omega (arith, length-lines table))))
+    (λ h. le-leb 14 (length table) (omega arith) ∙ sym (le-leb 1 (length (dayLines table)) (omega (arith, length-lines table))))
+
+module _ (table : List ℕ) (short : length table ≤ 38_220) where
+  asked : (h d s : Bool) → h ≡ eqb (length table % 14) 0 && allCouldHold (dayLines table) → d ≡ nested (dayLines table) → s ≡ leb 1 (length (dayLines table)) → Says table (firstNo h d s)
+  asked false d s eh ed es = record { yes = λ z. absurd (omega arith); no = λ _ cap. unreadable table cap short (sym eh) }
+  asked true false s eh ed es = record { yes = λ z. absurd (omega arith); no = λ _ cap. not-nested table cap short (sym eh) (sym ed) }
+  asked true true false eh ed es = record { yes = λ z. absurd (omega arith); no = λ _ cap. no-line table cap short (sym eh) (sym ed) (sym es) }
+  asked true true true eh ed es = record {
+    yes = λ _. record {
+      short = short;
+      whole = eqb-true (length table % 14) 0 (and-left (eqb (length table % 14) 0) (allCouldHold (dayLines table)) (sym eh));
+      held = and-right (eqb (length table % 14) 0) (allCouldHold (dayLines table)) (sym eh);
+      in-order = sym ed;
+      some = leb-true 1 (length (dayLines table)) (sym es);
+    };
+    no = λ n. absurd (n refl);
+  }
+
+  pub says : {n : ℕ} {a b : Bool} → a ≡ allCouldHold (dayLines table) → b ≡ nested (dayLines table) → n ≡ firstNo (eqb (length table % 14) 0 && a) b (leb 14 (length table)) → Says table n
+  says {n} {a} {b} ea eb e = subst (Says table) (sym e) (asked _ b _ (ap (λ (t : Bool). eqb (length table % 14) 0 && t) ea) eb (some-line table))
 
 -- ---- the log of a table that is taken: 24 bytes a line
 

@@ -11,7 +11,7 @@ ghost use Rattle.chunk.specs.Laws.{IsLog};
 ghost use Rattle.day_table.specs.Table.{tableOf, logOf};
 ghost use Rattle.day_table.specs.Outcomes.{dayLines, tableBytes, logBytes, writeLogOutcome, readTableOutcome};
 ghost use Rattle.day_table.specs.CallLaws.{Taken};
-ghost use Rattle.table.specs.Contracts.{Opens};
+ghost use Rattle.table.specs.Contracts.{firstNo, Opens};
 use gate::Written;
 use whole_log::LogAsked;
 
@@ -31,6 +31,22 @@ fn put_log(table: &[u8], out: &mut [u8]) -> Written
     Written::Bytes(total)
 }
 
+// Questions 3, 13 and 10 of a table, in this order: the first that gets a "no", or 0.
+fn first_no(held: bool, nested: bool, some: bool) -> u8
+    ensures { λ r. ⌜ r ≡ firstNo held nested some ⌝ }
+{
+    if !held {
+        return 3;
+    }
+    if !nested {
+        return 13;
+    }
+    if !some {
+        return 10;
+    }
+    0
+}
+
 // The log of a table, or the first question that gets a "no".
 pub fn write_log(table: &[u8], out: &mut [u8]) -> Written
     ensures answer { λ r. ⌜ writtenAnswer r ≡ lengthAnswered (writeLogOutcome (now (table .entry)) (length (now (out .entry)))) ⌝ }
@@ -39,17 +55,10 @@ pub fn write_log(table: &[u8], out: &mut [u8]) -> Written
     if 38220 < table.len() {
         return Written::Refused(2);
     }
-    if table.len() % 14 != 0 {
-        return Written::Refused(3);
-    }
-    if !lines::all_could_hold(table) {
-        return Written::Refused(3);
-    }
-    if !lines::all_nested(table) {
-        return Written::Refused(13);
-    }
-    if table.len() == 0 {
-        return Written::Refused(10);
+    let held = (table.len() % 14 == 0) & lines::all_could_hold(table);
+    let refusal = first_no(held, lines::all_nested(table), 14 <= table.len());
+    if refusal != 0 {
+        return Written::Refused(refusal);
     }
     put_log(table, out)
 }
