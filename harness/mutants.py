@@ -1,6 +1,6 @@
 #!/usr/bin/env python3
-"""Changes each rule of document 01 in the reference once and shows that the tests
-notice.
+"""Changes each rule of documents 01 and 02 in the reference once and shows that the
+tests notice.
 
 Each line of the table is one change of text: the file in reference/src, the old text
 (which must stand there exactly once), the new text, and the rule that it breaks. The
@@ -27,7 +27,7 @@ TIMEOUT_SECONDS = 300
 
 # The tests that take no time; the others follow where these notice nothing.
 QUICK = ["--", "paper::", "gate::", "figures::", "records::", "question_5::", "rows::pieces",
-         "rows::halves"]
+         "rows::halves", "day_table::"]
 
 # Records: bytes, reading, ranges.
 RECORDS = [
@@ -264,12 +264,66 @@ CALLS = [
     ("calls.rs", "refused {number}\\n", "refused {number}", "the line ends with a newline"),
 ]
 
-TABLE = RECORDS + LOG + MODES + SUMMARIES + MERGING + ACCEPTING + PLANS + CALLS
+# Document 02, L1: the log out of the day table, and the table read back.
+DAY_TABLE = [
+    ("table.rs", "LINE: usize = 14;", "LINE: usize = 16;", "14 bytes a line"),
+    ("table.rs", "LONGEST_TABLE: usize = 38_220;", "LONGEST_TABLE: usize = 38_219;",
+     "2,730 lines are taken"),
+    ("table.rs", "LONGEST_TABLE: usize = 38_220;", "LONGEST_TABLE: usize = 38_221;",
+     "38,221 bytes are not"),
+    ("table.rs", "LONGEST_TABLE: usize = 38_220;", "LONGEST_TABLE: usize = 38_234;",
+     "2,731 lines are not"),
+    ("table.rs", "!table.len().is_multiple_of(LINE)", "table.len() < LINE && !table.is_empty()",
+     "a length that is no multiple of 14 gets 3"),
+    ("table.rs", "unsigned(&line[0..2])", "unsigned(&line[0..1])", "a depth has 16 bits"),
+    ("table.rs", "[2, 6, 10].map", "[2, 10, 6].map", "value, floor, ceiling in this order"),
+    ("table.rs", "lines.iter().all(a_record_could_hold)", "lines.iter().any(a_record_could_hold)",
+     "one bad line is enough for 3"),
+    ("table.rs", "read_first(&encode_full(line)).is_some()", "line.depth <= 63",
+     "a line's amounts are those of a readable record"),
+    ("table.rs", "read_first(&encode_full(line)).is_some()",
+     "read_first(&encode_full(&Open { depth: 0, ..*line })).is_some()",
+     "a line's depth is that of a readable record"),
+    ("table.rs", ".take(1).any(|line| line.depth != 0)", ".take(1).any(|line| line.depth > 1)",
+     "13: the first depth is not 0"),
+    ("table.rs", ".skip(1).any(|line| line.depth == 0)", ".skip(2).any(|line| line.depth == 0)",
+     "13: a later one is 0"),
+    ("table.rs", "pair[1].depth > pair[0].depth + 1", "pair[1].depth > pair[0].depth + 2",
+     "13: more than one above the line before"),
+    ("table.rs", "pair[1].depth > pair[0].depth + 1", "pair[1].depth > pair[0].depth",
+     "one above the line before is taken"),
+    ("table.rs", "Err(13)", "Err(11)", "tables that no log has get 13"),
+    ("table.rs", "Err(10)", "Err(13)", "no line gets 10"),
+    ("table.rs", ".rfind(|&earlier|", ".find(|&earlier|", "closes where they belong"),
+    ("table.rs", "opens(log).into_iter()", "opens(log).into_iter().take(2730)",
+     "reading back has no limit of lines"),
+    ("table.rs", "put(&mut out, line.depth as i64, 2);", "put(&mut out, line.depth as i64, 4);",
+     "the table read back has 14 bytes a line"),
+    ("calls.rs", "question_12(encode_all(&log_of(&lines)), capacity)",
+     "question_12(log_of(&lines).iter().flat_map(|record| match record {\n"
+     "        Record::Open(open) => crate::record::encode_short(open.depth, open.value),\n"
+     "        Record::Close { depth } => crate::record::encode_close(*depth),\n"
+     "    }).collect(), capacity)", "the log has full open records"),
+    ("calls.rs", "    table::question_2(table)?;\n    let lines = table::question_3(table)?;\n",
+     "    let lines = table::question_3(table)?;\n    table::question_2(table)?;\n",
+     "a table: 2 before 3"),
+    ("calls.rs", "    table::question_13(&lines)?;\n", "", "writing the log puts 13"),
+    ("calls.rs", "    table::question_13(&lines)?;\n    table::question_10(&lines)?;\n",
+     "    table::question_10(&lines)?;\n"
+     "    if capacity < 24 * lines.len() {\n        return Err(12);\n    }\n"
+     "    table::question_13(&lines)?;\n", "13 before 12"),
+    ("calls.rs", "    questions_7_to_11_of_log(&records)?;\n    Ok(records)", "    Ok(records)",
+     "the calls on a whole log put 7 to 11"),
+    ("calls.rs", "question_12(encode_table(&table_of(&records)), capacity)",
+     "Ok(encode_table(&table_of(&records)))", "reading back puts 12"),
+]
+
+TABLE = RECORDS + LOG + MODES + SUMMARIES + MERGING + ACCEPTING + PLANS + CALLS + DAY_TABLE
 
 
 def cargo(workspace, *arguments):
     """Runs cargo test in the scratch copy; its exit status, or None when it hangs."""
-    command = ["cargo", "test", "-q", "--offline", "-p", "reference", "--test", "document_01"]
+    command = ["cargo", "test", "-q", "--offline", "-p", "reference", "--tests"]
     environment = dict(
         os.environ,
         CARGO_PROFILE_TEST_OPT_LEVEL="1",

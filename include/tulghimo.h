@@ -1,8 +1,8 @@
 /* Tulghimo's C interface. Link target/staticlib/libtulghimo.a.
  *
  * A call answers 0 or a length, or it is refused: the answer is minus the number of the question that got a "no", and nothing is
- * written. Of several the lowest is answered. A pointer may be NULL where its length is 0. A buffer does not overlap an input.
- * Numbers in bytes are little-endian.
+ * written. Of several the first in the order that the call lists is answered. A pointer may be NULL where its length is 0. A buffer
+ * does not overlap an input. Numbers in bytes are little-endian.
  *
  * Summaries are merged as neighbours, the left one first, each stretch of the log exactly once; which neighbours are merged first
  * makes no difference. A summary does not know its place in the log: two inner stretches exchanged, one given twice or one left out
@@ -29,18 +29,21 @@ enum tulghimo_mode {
 
 /* Why a call is refused: it answers minus one of these. */
 enum tulghimo_refusal {
-    TULGHIMO_REFUSED_MODE = 1,             /* the mode is not 1 to 4 */
-    TULGHIMO_REFUSED_TOO_LONG = 2,         /* the chunk is longer than 65,536 bytes */
-    TULGHIMO_REFUSED_UNREADABLE = 3,       /* a record is not readable */
-    TULGHIMO_REFUSED_PIECE_COUNT = 4,      /* there are not 2 to 64 pieces */
-    TULGHIMO_REFUSED_NOT_A_SUMMARY = 5,    /* a given piece is not exactly one summary */
-    TULGHIMO_REFUSED_MIXED_MODES = 6,      /* the pieces are not all of one mode */
-    TULGHIMO_REFUSED_LEVEL_GAP = 7,        /* neighbouring records do not meet at one level */
-    TULGHIMO_REFUSED_LEVEL_ZERO = 8,       /* a level between records is 0 */
-    TULGHIMO_REFUSED_TOO_MANY_OPENED = 9,  /* more than 100,000 records are opened */
-    TULGHIMO_REFUSED_NO_RECORD = 10,       /* there is no record */
-    TULGHIMO_REFUSED_NOT_WHOLE = 11,       /* the log does not begin and end at level 0 */
-    TULGHIMO_REFUSED_BUFFER_TOO_SHORT = 12 /* the result does not fit the lent buffer */
+    TULGHIMO_REFUSED_MODE = 1,              /* the mode is not 1 to 4 */
+    TULGHIMO_REFUSED_TOO_LONG = 2,          /* the chunk is longer than 65,536 bytes, or the table than 38,220 */
+    TULGHIMO_REFUSED_UNREADABLE = 3,        /* a record is not readable; a table's length is no multiple of 14, or no
+                                               readable full open record could hold one of its lines */
+    TULGHIMO_REFUSED_PIECE_COUNT = 4,       /* there are not 2 to 64 pieces */
+    TULGHIMO_REFUSED_NOT_A_SUMMARY = 5,     /* a given piece is not exactly one summary */
+    TULGHIMO_REFUSED_MIXED_MODES = 6,       /* the pieces are not all of one mode */
+    TULGHIMO_REFUSED_LEVEL_GAP = 7,         /* neighbouring records do not meet at one level */
+    TULGHIMO_REFUSED_LEVEL_ZERO = 8,        /* a level between records is 0 */
+    TULGHIMO_REFUSED_TOO_MANY_OPENED = 9,   /* more than 100,000 records are opened */
+    TULGHIMO_REFUSED_NO_RECORD = 10,        /* there is no record, or no line */
+    TULGHIMO_REFUSED_NOT_WHOLE = 11,        /* the log does not begin and end at level 0 */
+    TULGHIMO_REFUSED_BUFFER_TOO_SHORT = 12, /* the result does not fit the lent buffer */
+    TULGHIMO_REFUSED_NOT_NESTED = 13        /* a table's depths are not those of a log: the first is not 0, a later one is 0, or one
+                                               is more than one above the line before it */
 };
 
 /* Lengths in bytes. A buffer of the longest is never too short. */
@@ -50,7 +53,11 @@ enum tulghimo_length {
     TULGHIMO_LINE = 12, /* length 12, kind 19, chunks i and j, lowest and highest depth: 16 bits each */
     TULGHIMO_LONGEST_PLAN = 125 * TULGHIMO_LINE,
     TULGHIMO_RUN = 30, /* length 30, kind 20, mode: 16 bits each; three signed 64-bit numbers */
-    TULGHIMO_LONGEST_RUNS = 125 * TULGHIMO_RUN
+    TULGHIMO_LONGEST_RUNS = 125 * TULGHIMO_RUN,
+    TULGHIMO_TABLE_LINE = 14, /* depth: 16 bits; value, floor and ceiling: signed, 32 bits each */
+    TULGHIMO_LONGEST_TABLE_TAKEN = 2730 * TULGHIMO_TABLE_LINE, /* by tulghimo_write_log */
+    TULGHIMO_LONGEST_LOG_WRITTEN = 2730 * (18 + 6),            /* an open and a close for each line */
+    TULGHIMO_LONGEST_TABLE_READ = 4096 * TULGHIMO_TABLE_LINE   /* of a log of 65,536 bytes: 4,096 short opens and their closes */
 };
 
 /* The first record of a chunk: 0 and kind (1 open, 2 close), length, depth, value, floor and ceiling (the last three 0 for a
@@ -81,6 +88,15 @@ int64_t tulghimo_work(const uint8_t *row, size_t n, int64_t totals[3]);
 /* The figures of a whole log, of the length of a chunk: 0 and net, heaviest, eaten and stamp, or -2, -3, -7, -8, -10 or -11. (No log
  * of this length has enough records for -9.) */
 int64_t tulghimo_day(const uint8_t *log, size_t n, int64_t figures[4]);
+
+/* The log of a day table, which has at most 2,730 lines of 14 bytes, in log order: a full open record for each line, and its close
+ * where it belongs. Its length, or -2, -3, -13, -10 or -12. */
+int64_t tulghimo_write_log(const uint8_t *table, size_t n, uint8_t *out, size_t cap);
+
+/* The day table of a whole log, of the length of a chunk: a line for each opened record, a short one with the floor -1,000,000,000
+ * and the ceiling 1,000,000,000. Its length, or -2, -3, -7, -8, -10, -11 or -12. (No log of this length has enough records for
+ * -9.) */
+int64_t tulghimo_read_table(const uint8_t *log, size_t n, uint8_t *out, size_t cap);
 
 #ifdef __cplusplus
 }

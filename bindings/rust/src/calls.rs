@@ -1,12 +1,12 @@
 //! The calls, with buffers of their own.
 
-use crate::{raw, Figures, Kind, Line, Mode, Record, Refusal, Run, Work};
+use crate::{raw, Figures, Kind, Line, Mode, Record, Refusal, Run, TableLine, Work};
 
 /// The number that a C function answers, or the refusal that it stands for.
 fn answer(status: i64) -> Result<usize, Refusal> {
     match usize::try_from(status) {
         Ok(number) => Ok(number),
-        Err(_) => Err(Refusal::from_number(-status).expect("a refusal has a number from 1 to 12")),
+        Err(_) => Err(Refusal::from_number(-status).expect("a refusal has a number from 1 to 13")),
     }
 }
 
@@ -182,4 +182,37 @@ pub fn day(log: &[u8]) -> Result<Figures, Refusal> {
     let [net, heaviest, eaten, stamp] = numbers(|figures| raw::day(log, figures))?;
     // A stamp is 0 to 2^32 - 1.
     Ok(Figures { net, heaviest, eaten, stamp: stamp as u32 })
+}
+
+/// The log of a day table of at most 2,730 lines: a full open record for each line, and its close where it belongs. Refused: 2, 3,
+/// 13, 10.
+///
+/// ```
+/// use tulghimo::{example, write_log, Refusal};
+///
+/// let [site, tank, other] = example::TABLE_D;
+/// assert_eq!(write_log(&[site, tank, other]), Ok(example::LOG_D.to_vec()));
+/// // The first depth of a table is 0, and no other one.
+/// assert_eq!(write_log(&[tank, other]), Err(Refusal::NotNested));
+/// assert_eq!(write_log(&[site, site]), Err(Refusal::NotNested));
+/// ```
+pub fn write_log(lines: &[TableLine]) -> Result<Vec<u8>, Refusal> {
+    let table: Vec<u8> = lines.iter().flat_map(TableLine::bytes).collect();
+    written(raw::LONGEST_LOG_WRITTEN.min(lines.len() * TableLine::LOG_LENGTH), |out| raw::write_log(&table, out))
+}
+
+/// The day table of a whole log of at most 65,536 bytes: a line for each opened record, a short one with the default floor and
+/// ceiling. Refused: 2, 3, 7, 8, 10, 11; none has enough records for 9.
+///
+/// ```
+/// use tulghimo::{example, read_table, Refusal};
+///
+/// assert_eq!(read_table(example::LOG_D), Ok(example::TABLE_D.to_vec()));
+///
+/// let (one, _) = example::two_stretches();
+/// assert_eq!(read_table(one), Err(Refusal::NotWhole));
+/// ```
+pub fn read_table(log: &[u8]) -> Result<Vec<TableLine>, Refusal> {
+    let table = written(raw::LONGEST_TABLE_READ, |out| raw::read_table(log, out))?;
+    Ok(table.chunks_exact(TableLine::LENGTH).map(TableLine::read).collect())
 }

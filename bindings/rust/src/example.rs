@@ -1,8 +1,17 @@
-//! Logs for the examples on these pages: log D of document 01, and a day with two tanks.
+//! Logs for the examples on these pages: log D of document 01 and its day table, and a day with two tanks.
+
+use crate::TableLine;
 
 /// open 0 value 10 floor 0 ceiling 100; open 1 value 5 floor 0 ceiling 4; close 1; open 1 value -3 floor 0 ceiling 100; close 1;
 /// close 0.
 pub const LOG_D: &[u8; 72] = include_bytes!("../../../samples/d.log");
+
+/// The day table of log D.
+pub const TABLE_D: [TableLine; 3] = [
+    TableLine { depth: 0, value: 10, floor: 0, ceiling: 100 },
+    TableLine { depth: 1, value: 5, floor: 0, ceiling: 4 },
+    TableLine { depth: 1, value: -3, floor: 0, ceiling: 100 },
+];
 
 /// Log D cut after its second record: the stretches of two stations.
 pub fn two_stretches() -> (&'static [u8], &'static [u8]) {

@@ -13,6 +13,16 @@ pub const LONGEST_PLAN: usize = 125 * crate::Line::LENGTH;
 /// No runs are longer, in bytes: there is one for each line.
 pub const LONGEST_RUNS: usize = 125 * crate::Run::LENGTH;
 
+/// No longer table is taken by [`write_log`], in bytes: it has at most 2,730 lines.
+pub const LONGEST_TABLE_TAKEN: usize = 2_730 * crate::TableLine::LENGTH;
+
+/// No log written by [`write_log`] is longer, in bytes.
+pub const LONGEST_LOG_WRITTEN: usize = 2_730 * crate::TableLine::LOG_LENGTH;
+
+/// No table written by [`read_table`] is longer, in bytes: a log of 65,536 bytes has at most 4,096 opened records, of 10 bytes and 6
+/// for the close.
+pub const LONGEST_TABLE_READ: usize = 4_096 * crate::TableLine::LENGTH;
+
 mod ffi {
     extern "C" {
         pub fn tulghimo_read(chunk: *const u8, n: usize, fields: *mut i64) -> i64;
@@ -24,6 +34,8 @@ mod ffi {
         pub fn tulghimo_runs(row: *const u8, n: usize, out: *mut u8, cap: usize) -> i64;
         pub fn tulghimo_work(row: *const u8, n: usize, totals: *mut i64) -> i64;
         pub fn tulghimo_day(log: *const u8, n: usize, figures: *mut i64) -> i64;
+        pub fn tulghimo_write_log(table: *const u8, n: usize, out: *mut u8, cap: usize) -> i64;
+        pub fn tulghimo_read_table(log: *const u8, n: usize, out: *mut u8, cap: usize) -> i64;
     }
 }
 
@@ -80,4 +92,16 @@ pub fn work(row: &[u8], totals: &mut [i64; 3]) -> i64 {
 pub fn day(log: &[u8], figures: &mut [i64; 4]) -> i64 {
     // SAFETY: the slice has as many bytes as it is said to have, and the array has the four numbers that the call may store.
     unsafe { ffi::tulghimo_day(log.as_ptr(), log.len(), figures.as_mut_ptr()) }
+}
+
+/// Writes the log of a day table into `out`: the length written, or minus the refusal (2, 3, 13, 10 or 12).
+pub fn write_log(table: &[u8], out: &mut [u8]) -> i64 {
+    // SAFETY: each slice has as many bytes as it is said to have, and the lent one is not borrowed elsewhere.
+    unsafe { ffi::tulghimo_write_log(table.as_ptr(), table.len(), out.as_mut_ptr(), out.len()) }
+}
+
+/// Writes the day table of a whole log into `out`: the length written, or minus the refusal (2, 3, 7, 8, 10, 11 or 12).
+pub fn read_table(log: &[u8], out: &mut [u8]) -> i64 {
+    // SAFETY: each slice has as many bytes as it is said to have, and the lent one is not borrowed elsewhere.
+    unsafe { ffi::tulghimo_read_table(log.as_ptr(), log.len(), out.as_mut_ptr(), out.len()) }
 }

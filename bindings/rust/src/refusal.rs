@@ -6,7 +6,8 @@ use std::fmt;
 /// Writes the enum and its words from one table.
 macro_rules! refusals {
     ($($name:ident = $number:literal, $question:literal, $reason:literal;)*) => {
-        /// A call was refused: the question that got a "no", by its number in document 01. Of several the lowest is answered.
+        /// A call was refused: the question that got a "no", by its number in document 01, or in 02 from 13 on. Of several the
+        /// first in the order that the call lists is answered.
         #[derive(Clone, Copy, Debug, PartialEq, Eq, Hash, PartialOrd, Ord)]
         #[repr(u8)]
         pub enum Refusal {
@@ -14,10 +15,11 @@ macro_rules! refusals {
         }
 
         impl Refusal {
-            /// All refusals, in the order in which the questions are put.
-            pub const ALL: [Refusal; 12] = [$(Refusal::$name),*];
+            /// All refusals, in the order of their numbers.
+            pub const ALL: [Refusal; 13] = [$(Refusal::$name),*];
 
-            /// The question that got a "no", in document 01's words.
+            /// The question that got a "no", in document 01's words; 13 is document 02's, as a question. What a day table is asked
+            /// under 2, 3 and 10 is told by the reason.
             pub fn question(self) -> &'static str {
                 match self { $(Refusal::$name => $question,)* }
             }
@@ -32,26 +34,29 @@ macro_rules! refusals {
 
 refusals! {
     Mode = 1, "Is the mode 1 to 4?", "the mode is not 1 to 4";
-    TooLong = 2, "Is the chunk at most 65,536 bytes?", "the chunk is longer than 65,536 bytes";
-    Unreadable = 3, "Is every record readable?", "a record is not readable";
+    TooLong = 2, "Is the chunk at most 65,536 bytes?", "the chunk is longer than 65,536 bytes, or the table than 38,220";
+    Unreadable = 3, "Is every record readable?", "a record is not readable, or a table's length is no multiple of 14, or no readable full open record could hold one of its lines";
     PieceCount = 4, "Are there 2 to 64 pieces?", "there are not 2 to 64 pieces";
     NotASummary = 5, "Is each given piece exactly one summary?", "a given piece is not exactly one summary";
     MixedModes = 6, "Are all of one mode?", "the pieces are not all of one mode";
     LevelGap = 7, "Do neighbouring records meet at one level?", "neighbouring records do not meet at one level";
     LevelZero = 8, "Is every level between records above 0?", "a level between records is 0";
     TooManyOpened = 9, "Are at most 100,000 records opened?", "more than 100,000 records are opened";
-    NoRecord = 10, "Is there any record?", "there is no record";
+    NoRecord = 10, "Is there any record?", "there is no record, or no line";
     NotWhole = 11, "Does the log begin and end at level 0?", "the log does not begin and end at level 0";
     BufferTooShort = 12, "Does the result fit the lent buffer?", "the result does not fit the lent buffer";
+    NotNested = 13,
+        "Is the first depth 0, no later one 0, and none more than one above the line before it?",
+        "a table's depths are not those of a log";
 }
 
 impl Refusal {
-    /// The question's number, 1 to 12.
+    /// The question's number, 1 to 13.
     pub fn number(self) -> u8 {
         self as u8
     }
 
-    /// The refusal with a number, if it is 1 to 12.
+    /// The refusal with a number, if it is 1 to 13.
     pub fn from_number(number: i64) -> Option<Refusal> {
         Refusal::ALL.into_iter().find(|refusal| i64::from(refusal.number()) == number)
     }
@@ -63,7 +68,7 @@ impl Refusal {
 /// use tulghimo::Refusal;
 ///
 /// let refusal = Refusal::NoRecord;
-/// assert_eq!(refusal.to_string(), "refused 10: there is no record");
+/// assert_eq!(refusal.to_string(), "refused 10: there is no record, or no line");
 /// assert_eq!(refusal.question(), "Is there any record?");
 /// assert_eq!(refusal.number(), 10);
 /// ```
@@ -80,12 +85,12 @@ mod tests {
     use super::Refusal;
 
     #[test]
-    fn numbers_are_1_to_12_in_order() {
+    fn numbers_are_1_to_13_in_order() {
         let numbers: Vec<u8> = Refusal::ALL.iter().map(|refusal| refusal.number()).collect();
-        assert_eq!(numbers, (1..=12).collect::<Vec<u8>>());
-        for number in -1..=14 {
+        assert_eq!(numbers, (1..=13).collect::<Vec<u8>>());
+        for number in -1..=15 {
             let found = Refusal::from_number(number).map(|refusal| i64::from(refusal.number()));
-            assert_eq!(found, (1..=12).contains(&number).then_some(number));
+            assert_eq!(found, (1..=13).contains(&number).then_some(number));
         }
     }
 }

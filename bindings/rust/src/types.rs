@@ -107,6 +107,40 @@ impl Run {
     }
 }
 
+/// A line of a day table: an opened record, its amounts in grams. The lines of a table stand in log order.
+#[derive(Clone, Copy, Debug, PartialEq, Eq, Hash)]
+#[allow(missing_docs)]
+pub struct TableLine {
+    pub depth: u16,
+    pub value: i32,
+    pub floor: i32,
+    pub ceiling: i32,
+}
+
+impl TableLine {
+    /// In bytes.
+    pub(crate) const LENGTH: usize = 14;
+
+    /// The bytes of a log that it is written as: an open of 18 and a close of 6.
+    pub(crate) const LOG_LENGTH: usize = 18 + 6;
+
+    /// The depth, and the three amounts.
+    pub(crate) fn read(bytes: &[u8]) -> TableLine {
+        let amount = |place: usize| i32::from_le_bytes(bytes[place..place + 4].try_into().expect("4 bytes"));
+        TableLine { depth: unsigned(bytes, 0), value: amount(2), floor: amount(6), ceiling: amount(10) }
+    }
+
+    /// What `read` reads.
+    pub(crate) fn bytes(&self) -> [u8; TableLine::LENGTH] {
+        let mut bytes = [0; TableLine::LENGTH];
+        bytes[..2].copy_from_slice(&self.depth.to_le_bytes());
+        for (place, amount) in [(2, self.value), (6, self.floor), (10, self.ceiling)] {
+            bytes[place..place + 4].copy_from_slice(&amount.to_le_bytes());
+        }
+        bytes
+    }
+}
+
 /// What the work along a plan gives.
 #[derive(Clone, Copy, Debug, PartialEq, Eq, Hash)]
 pub struct Work {

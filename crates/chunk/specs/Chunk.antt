@@ -1,13 +1,15 @@
 -- What the bytes of a chunk say: its records, and whether they are a whole log. Definitions only.
+use mathlib.Core.Path.{_≡_}
 use mathlib.Core.Bool.{cond}
 use mathlib.Core.List.{List, map}
 use Prim.Native.Nat.{ℕ}
 use lib.Dec.{leb, eqb}
 use lib.ListN.{length}
-use Rattle.gate.specs.Outcome.{Outcome, question, onward}
+use Rattle.gate.specs.Outcome.{Outcome, result, question, onward}
 use Rattle.record.specs.Record.{recordsOf}
 use Rattle.record.specs.declared.Fields.{Fields}
 use Rattle.figure.specs.FourModes.{Amounts}
+use Rattle.hill.specs.Verdict.{pass}
 use Rattle.hill.specs.Log.{Record, opening, closing, logFault}
 use Rattle.hill.specs.Finish.{outcome}
 
@@ -22,3 +24,10 @@ chunkOf fs = map recordOf fs
 -- 2: "Is the chunk at most 65,536 bytes?" 3: "Is every record readable?" 7 to 11: `logFault`, the lowest.
 unfoldable pub wholeLog : List ℕ → Outcome (List (Record Amounts))
 wholeLog log = question 2 (leb (length log) 65_536) (onward (recordsOf log) (λ fs. outcome (logFault (chunkOf fs)) (chunkOf fs)))
+
+-- "A log is well formed .." (7 to 11 get a "yes": `logFault`, and by places `hill/Questions.NoOfLog`), of any length: its bytes, and its records.
+pub record IsWellFormed (log : List ℕ) (xs : List (Record Amounts)) : Type 0 where
+  pub fields : List Fields
+  pub read : recordsOf log ≡ result fields
+  pub records-are : chunkOf fields ≡ xs
+  pub fine : logFault xs ≡ pass

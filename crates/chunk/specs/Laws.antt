@@ -16,7 +16,7 @@ use Rattle.figure.specs.Stored.{amounts}
 use Rattle.hill.specs.Verdict.{Verdict, pass, refuse}
 use Rattle.hill.specs.Log.{Record, opening, closing, logFault}
 use Rattle.hill.specs.Finish.{outcome}
-use Rattle.chunk.specs.Chunk.{recordOf, chunkOf, wholeLog}
+use Rattle.chunk.specs.Chunk.{recordOf, chunkOf, wholeLog, IsWellFormed}
 
 -- ---- records that were read
 
@@ -63,17 +63,14 @@ module _ {B : Type 0} (f : List (Record Amounts) → B) (log : List ℕ) where
 
 pub record IsLog (log : List ℕ) (xs : List (Record Amounts)) : Type 0 where
   pub short : length log ≤ 65_536
-  pub fields : List Fields
-  pub read : recordsOf log ≡ result fields
-  pub records : chunkOf fields ≡ xs
-  pub fine : logFault xs ≡ pass
+  pub formed : IsWellFormed log xs
 
 pub is-log : (log : List ℕ) (xs : List (Record Amounts)) → wholeLog log ≡ result xs → IsLog log xs
 unfolding wholeLog
 is-log log xs e = go (leb (length log) 65_536) refl (recordsOf log) refl e
   where
     last : length log ≤ 65_536 → (fs : List Fields) → recordsOf log ≡ result fs → (v : Verdict) → logFault (chunkOf fs) ≡ v → outcome v (chunkOf fs) ≡ result xs → IsLog log xs
-    last h fs r pass p e = let same : chunkOf fs ≡ xs = cc in record { short = h; fields = fs; read = r; records = same; fine = ap logFault (sym same) ∙ p }
+    last h fs r pass p e = let same : chunkOf fs ≡ xs = cc in record { short = h; formed = record { fields = fs; read = r; records-are = same; fine = ap logFault (sym same) ∙ p } }
     last h fs r (refuse n) p e = absurd (not-result n xs e)
 
     go : (t : Bool) → leb (length log) 65_536 ≡ t → (o : Outcome (List Fields)) → recordsOf log ≡ o → question 2 t (onward o (λ fs. outcome (logFault (chunkOf fs)) (chunkOf fs))) ≡ result xs → IsLog log xs
@@ -83,8 +80,8 @@ is-log log xs e = go (leb (length log) 65_536) refl (recordsOf log) refl e
 
 pub log-is : {log : List ℕ} {xs : List (Record Amounts)} → IsLog log xs → wholeLog log ≡ result xs
 unfolding wholeLog
-log-is {log} {xs} i = rw (le-leb (length log) 65_536 (i .short), i .read, i .records, i .fine)
+log-is {log} {xs} i = rw (le-leb (length log) 65_536 (i .short), i .formed .read, i .formed .records-are, i .formed .fine)
 
 -- bytes have the records of one log
-pub one-log : {log : List ℕ} {xs ys : List (Record Amounts)} → IsLog log xs → IsLog log ys → xs ≡ ys
-one-log i j = let same : i .fields ≡ j .fields = cc (i .read, j .read) in sym (i .records) ∙ ap chunkOf same ∙ j .records
+pub one-log : {log : List ℕ} {xs ys : List (Record Amounts)} → IsWellFormed log xs → IsWellFormed log ys → xs ≡ ys
+one-log i j = let same : i .fields ≡ j .fields = cc (i .read, j .read) in sym (i .records-are) ∙ ap chunkOf same ∙ j .records-are

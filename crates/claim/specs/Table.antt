@@ -9,8 +9,7 @@ use Rattle.gate.specs.Outcome.{Outcome, refused, result, onward}
 use Rattle.number.specs.Bytes.{leAt, bytesOf, i64At}
 use Rattle.number.specs.Integer.{minZ, maxZ, clamp, wrap}
 use Rattle.row.specs.Row.{firstLength, piecesIn, rowPieces, endToEnd}
-use Rattle.record.specs.Record.{within, inRange, accepted, whole, byShape, readOf, recordsIn, recordsOf}
-use Rattle.record.specs.Encoding.{openBytes, closeBytes}
+use Rattle.record.specs.Record.{within, inRange, accepted, whole, byShape, readOf, recordsIn, recordsOf, openBytes, closeBytes}
 use Rattle.record.specs.Examples.{logD}
 use Rattle.figure.specs.FourModes.{lift, lineOf, storeHeld, readHeld, isStamp}
 use Rattle.figure.specs.Run.{atLeast}

@@ -5,16 +5,15 @@ use mathlib.Core.Logic.{_⊎_}
 use mathlib.Core.List.{List, [], _∷_}
 use Prim.Native.Nat.{ℕ, _*_, _≤_}
 use lib.ListN.{length}
-use Rattle.gate.specs.Outcome.{refused, result}
-use Rattle.number.specs.FieldLaws.{AllBytes}
-use Rattle.record.specs.Record.{readOf, recordsOf}
+use Rattle.gate.specs.Outcome.{refused, result, written}
+use Rattle.number.specs.Bytes.{AllBytes}
+use Rattle.record.specs.Record.{readOf}
 use Rattle.record.specs.declared.Fields.{Fields}
 use Rattle.figure.specs.FourModes.{Amounts}
-use Rattle.hill.specs.Verdict.{pass}
-use Rattle.hill.specs.Log.{Record, logFault}
-use Rattle.chunk.specs.Chunk.{chunkOf, wholeLog}
-use Rattle.day_table.specs.Table.{tableOf}
-use Rattle.day_table.specs.Outcomes.{DayLine, dayLines, allCouldHold, writeLogOutcome}
+use Rattle.hill.specs.Log.{Record}
+use Rattle.chunk.specs.Chunk.{IsWellFormed, wholeLog}
+use Rattle.day_table.specs.Table.{TableLine, tableOf}
+use Rattle.day_table.specs.Outcomes.{tableLines, allCouldHold, writeLogOutcome, readTableOutcome}
 
 -- Records of length 18, and closes.
 abbrev pub Full : Fields → Type 0
@@ -26,11 +25,9 @@ AllFull (f ∷ fs) = Full f × AllFull fs
 
 -- "A well-formed log of full records": its bytes, and its records.
 pub record IsFullLog (log : List ℕ) (xs : List (Record Amounts)) : Type 0 where
-  pub fields : List Fields
-  pub read : recordsOf log ≡ result fields
-  pub full : AllFull fields
-  pub records : chunkOf fields ≡ xs
-  pub fine : logFault xs ≡ pass
+  pub bytes : AllBytes log
+  pub formed : IsWellFormed log xs
+  pub full : AllFull (formed .fields)
 
 -- "The log written from it, full open records, closes where they belong", of a table and the bytes w: they are a well-formed log of full records that
 -- has one opened record a line, with the line's depth and amounts; there is no other such log; and they are short enough for every call on a chunk or
@@ -38,31 +35,45 @@ pub record IsFullLog (log : List ℕ) (xs : List (Record Amounts)) : Type 0 wher
 pub record IsLogOfTable (table w : List ℕ) : Type 0 where
   pub records : List (Record Amounts)
   pub log : IsFullLog w records
-  pub lines : tableOf records ≡ dayLines table
-  pub only : (b : List ℕ) (xs : List (Record Amounts)) → AllBytes b → IsFullLog b xs → tableOf xs ≡ dayLines table → b ≡ w
+  pub lines : tableOf records ≡ tableLines table
+  pub only : (b : List ℕ) (xs : List (Record Amounts)) → IsFullLog b xs → tableOf xs ≡ tableLines table → b ≡ w
   pub short : length w ≤ 65_520
   pub taken : wholeLog w ≡ result records
 
--- A full open record that is readable and has the line's fields.
-abbrev pub HoldsLine : List ℕ → DayLine → Type 0
-HoldsLine b x = readOf b ≡ result (record { kind = 1; length = 18; depth = x .depth; value = x .carries .value; floor = x .carries .floor; ceiling = x .carries .ceiling })
+-- "Reading that log back must give the table", where it fits.
+abbrev pub ReadsBack : (table w : List ℕ) → Type 0
+ReadsBack table w = (room : ℕ) → readTableOutcome w room ≡ written room table
+
+-- "A well-formed log of full records, of at most 2,730 lines, must give a table that writes the same bytes", each where it fits.
+pub record WritesAgain (log : List ℕ) : Type 0 where
+  pub table : List ℕ
+  pub given : (room : ℕ) → readTableOutcome log room ≡ written room table
+  pub again : (cap : ℕ) → writeLogOutcome table cap ≡ written cap log
+
+-- The bytes begin with a readable full open record that has the line's fields.
+abbrev pub HoldsLine : List ℕ → TableLine → Type 0
+HoldsLine b x = readOf b ≡ result (record { kind = 1; length = 18; depth = x .depth; value = x .amounts .value; floor = x .amounts .floor; ceiling = x .amounts .ceiling })
 
 -- Some well-formed log has these lines, in their order.
-abbrev pub SomeLog : List DayLine → Type 0
-SomeLog ls = (log : List ℕ) × (xs : List (Record Amounts)) × (wholeLog log ≡ result xs) × (tableOf xs ≡ ls)
+pub record SomeLog (ls : List TableLine) : Type 0 where
+  pub log : List ℕ
+  pub records : List (Record Amounts)
+  pub bytes : AllBytes log
+  pub formed : IsWellFormed log records
+  pub lines : tableOf records ≡ ls
 
 -- A table of 1 to 2,730 lines, each of which a readable full open record could hold.
-pub record Readable (table : List ℕ) : Type 0 where
+pub record ReadableTable (table : List ℕ) : Type 0 where
   pub count : ℕ
   pub whole : length table ≡ 14 * count
   pub some : 1 ≤ count
   pub few : count ≤ 2_730
-  pub held : allCouldHold (dayLines table) ≡ true
+  pub readable : allCouldHold (tableLines table) ≡ true
 
 -- 13 exactly: such a table is taken, given room, where some well-formed log has its lines, and only there; and 13 is answered where none has, and only
 -- there.
 pub record Exactly13 (table : List ℕ) : Type 0 where
-  pub taken : SomeLog (dayLines table) → (cap : ℕ) → 24 * length (dayLines table) ≤ cap → (w : List ℕ) × (writeLogOutcome table cap ≡ result w)
-  pub only-taken : (cap : ℕ) (w : List ℕ) → writeLogOutcome table cap ≡ result w → SomeLog (dayLines table)
-  pub refused-13 : (SomeLog (dayLines table) → ⊥) → (cap : ℕ) → writeLogOutcome table cap ≡ refused 13
-  pub only-refused : (cap : ℕ) → writeLogOutcome table cap ≡ refused 13 → SomeLog (dayLines table) → ⊥
+  pub taken : SomeLog (tableLines table) → (cap : ℕ) → 24 * length (tableLines table) ≤ cap → (w : List ℕ) × (writeLogOutcome table cap ≡ result w)
+  pub only-taken : (cap : ℕ) (w : List ℕ) → writeLogOutcome table cap ≡ result w → SomeLog (tableLines table)
+  pub refused-13 : (SomeLog (tableLines table) → ⊥) → (cap : ℕ) → writeLogOutcome table cap ≡ refused 13
+  pub only-refused : (cap : ℕ) → writeLogOutcome table cap ≡ refused 13 → SomeLog (tableLines table) → ⊥

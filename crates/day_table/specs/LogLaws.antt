@@ -3,28 +3,34 @@ use mathlib.Core.Path.{_≡_, refl, sym, ap, subst, _∙_}
 use mathlib.Core.Bool.{Bool, true, false, cond}
 use mathlib.Core.Logic.{_⊎_, inl, inr}
 use mathlib.Core.List.{List, [], _∷_, _++_, append-assoc, append-nil}
-use Prim.Native.Nat.{ℕ, zero, suc, _+_, _*_, _≤_, _<_}
+use Prim.Native.Nat.{ℕ, zero, suc, _+_, _*_, _≤_}
 use native.Mathlib.Omega.{arith}
 use lib.Dec.{leb}
 use lib.IntN.{pos}
-use lib.ListN.{length, drop, length-append, drop-of-length-le}
+use lib.ListN.{length, drop, length-append, length-drop, length-map, drop-of-length-le}
 use lib.Seq.{drop-at}
 use borrow.Author.Tests.{leb-true, leb-false}
 use Rattle.gate.specs.Outcome.{result}
-use Rattle.number.specs.FieldLaws.{AllBytes, bytes-drop}
-use Rattle.record.specs.Record.{inRange, readOf, recordsOf, before}
+use Rattle.number.specs.Bytes.{AllBytes}
+use Rattle.number.specs.FieldLaws.{bytes-nil, bytes-append, bytes-drop}
+use Rattle.record.specs.Record.{inRange, recordsOf, before, openBytes, closeBytes}
 use Rattle.record.specs.Laws.{and-left, and-right, sound, Shape, full, short, closed, shape, records-nil, records-next}
 use Rattle.record.specs.RangeLaws.{range-parts}
 use Rattle.record.specs.Readable.{First, first-read, none-read}
-use Rattle.record.specs.Encoding.{openBytes, closeBytes, open-length, close-length, read-open, read-close, open-again, close-again}
+use Rattle.record.specs.Encoding.{open-length, close-length, open-bytes, close-bytes, read-open, read-close, open-again, close-again}
 use Rattle.record.specs.declared.Fields.{Fields}
 use Rattle.figure.specs.FourModes.{Amounts}
-use Rattle.hill.specs.Log.{Record, opening, closing}
-use Rattle.chunk.specs.Chunk.{recordOf, chunkOf}
-use Rattle.day_table.specs.Table.{TableLine, closesTo, logFrom, logOf}
-use Rattle.day_table.specs.Outcomes.{DayLine, couldHold, allCouldHold, fullBytes, logBytes}
+use Rattle.hill.specs.Log.{Record, opening, closing, opens, openedOf}
+use Rattle.chunk.specs.Chunk.{recordOf, chunkOf, IsWellFormed}
+use Rattle.day_table.specs.Table.{TableLine, closesTo, logFrom}
+use Rattle.day_table.specs.Outcomes.{couldHold, allCouldHold, fullBytes, logBytes}
 use Rattle.day_table.specs.Claims.{Full, AllFull}
-use Rattle.day_table.specs.TableLaws.{closes-one, closes-none, Under}
+use Rattle.day_table.specs.TableLaws.{Under, log-pairs}
+
+pub log-bytes : (xs : List (Record Amounts)) → AllBytes (logBytes xs)
+log-bytes [] = bytes-nil
+log-bytes (opening d r ∷ xs) = bytes-append (openBytes d (r .value) (r .floor) (r .ceiling)) (logBytes xs) (open-bytes d (r .value) (r .floor) (r .ceiling)) (log-bytes xs)
+log-bytes (closing d ∷ xs) = bytes-append (closeBytes d) (logBytes xs) (close-bytes d) (log-bytes xs)
 
 pub log-append : (xs ys : List (Record Amounts)) → logBytes (xs ++ ys) ≡ logBytes xs ++ logBytes ys
 log-append [] ys = refl
@@ -32,10 +38,10 @@ log-append (x ∷ xs) ys = ap (λ (t : List ℕ). fullBytes x ++ t) (log-append 
 
 -- ---- records in range that are written are read back
 
-abbrev pub Ranged : List (Record Amounts) → Type 0
-Ranged [] = Unit {0}
-Ranged (opening d r ∷ xs) = (inRange d (r .value) (r .floor) (r .ceiling) ≡ true) × Ranged xs
-Ranged (closing d ∷ xs) = (d ≤ 63) × Ranged xs
+abbrev pub RecordsInRange : List (Record Amounts) → Type 0
+RecordsInRange [] = Unit {0}
+RecordsInRange (opening d r ∷ xs) = (inRange d (r .value) (r .floor) (r .ceiling) ≡ true) × RecordsInRange xs
+RecordsInRange (closing d ∷ xs) = (d ≤ 63) × RecordsInRange xs
 
 -- what is read of a full record
 abbrev pub fieldsOf : Record Amounts → Fields
@@ -51,7 +57,7 @@ chunk-fields [] = refl
 chunk-fields (opening d r ∷ xs) = ap (λ (ys : List (Record Amounts)). opening d r ∷ ys) (chunk-fields xs)
 chunk-fields (closing d ∷ xs) = ap (λ (ys : List (Record Amounts)). closing d ∷ ys) (chunk-fields xs)
 
-pub log-read : (xs : List (Record Amounts)) → Ranged xs → recordsOf (logBytes xs) ≡ result (allFields xs)
+pub log-read : (xs : List (Record Amounts)) → RecordsInRange xs → recordsOf (logBytes xs) ≡ result (allFields xs)
 log-read [] f = records-nil
 log-read (opening d r ∷ xs) f =
     records-next (openBytes d (r .value) (r .floor) (r .ceiling) ++ logBytes xs) (fieldsOf (opening d r)) (read-open d (r .value) (r .floor) (r .ceiling) (logBytes xs) (f .0))
@@ -87,43 +93,61 @@ log-again (f ∷ fs) b all e u =
 
 -- ---- the log of a table: its records are in range where the lines are, ..
 
-ranged-closes : (e l : ℕ) (ys : List (Record Amounts)) → l ≤ 64 → Ranged ys → Ranged (closesTo e l ++ ys)
+ranged-closes : (e l : ℕ) (ys : List (Record Amounts)) → l ≤ 64 → RecordsInRange ys → RecordsInRange (closesTo l e ++ ys)
 ranged-closes e zero ys h r = r
 ranged-closes e (suc l) ys h r = go (leb e l) (ranged-closes e l ys (omega arith) r)
   where
-    go : (t : Bool) → Ranged (closesTo e l ++ ys) → Ranged (cond t (closing l ∷ closesTo e l) [] ++ ys)
+    go : (t : Bool) → RecordsInRange (closesTo l e ++ ys) → RecordsInRange (cond t (closing l ∷ closesTo l e) [] ++ ys)
     go true ih = (omega arith, ih)
     go false ih = r
 
-pub ranged-from : (l : ℕ) (ls : List DayLine) → l ≤ 64 → allCouldHold ls ≡ true → Ranged (logFrom l ls)
-ranged-from l [] h ok = subst Ranged (append-nil (closesTo 0 l)) (ranged-closes 0 l [] h tt)
+pub ranged-from : (l : ℕ) (ls : List TableLine) → l ≤ 64 → allCouldHold ls ≡ true → RecordsInRange (logFrom l ls)
+ranged-from l [] h ok = subst RecordsInRange (append-nil (closesTo l 0)) (ranged-closes 0 l [] h tt)
 ranged-from l (x ∷ ls) h ok =
     let here = and-left (couldHold x) (allCouldHold ls) ok in
-    let low = range-parts (x .depth) (x .carries .value) (x .carries .floor) (x .carries .ceiling) here .depth in
+    let low = range-parts (x .depth) (x .amounts .value) (x .amounts .floor) (x .amounts .ceiling) here .depth in
     ranged-closes (x .depth) l _ h (here, ranged-from (suc (x .depth)) ls (omega arith) (and-right (couldHold x) (allCouldHold ls) ok))
 
 -- .. and each line takes 24 bytes, its open and its close
 
-length-closes : (e l : ℕ) → e ≤ l → length (logBytes (closesTo e l)) + 6 * e ≡ 6 * l
+length-closes : (e l : ℕ) → e ≤ l → length (logBytes (closesTo l e)) + 6 * e ≡ 6 * l
 length-closes e zero h = omega arith
 length-closes e (suc l) h = go (leb e l) refl (length-closes e l)
   where
-    go : (t : Bool) → leb e l ≡ t → (e ≤ l → length (logBytes (closesTo e l)) + 6 * e ≡ 6 * l) → length (logBytes (cond t (closing l ∷ closesTo e l) [])) + 6 * e ≡ 6 * suc l
-    go true t ih = omega (arith, ih (leb-true e l t), length-append (closeBytes l) (logBytes (closesTo e l)), close-length l)
+    go : (t : Bool) → leb e l ≡ t → (e ≤ l → length (logBytes (closesTo l e)) + 6 * e ≡ 6 * l) → length (logBytes (cond t (closing l ∷ closesTo l e) [])) + 6 * e ≡ 6 * suc l
+    go true t ih = omega (arith, ih (leb-true e l t), length-append (closeBytes l) (logBytes (closesTo l e)), close-length l)
     go false t ih = omega (arith, leb-false e l t)
 
-pub length-from : (l : ℕ) (ls : List DayLine) → Under l ls → length (logBytes (logFrom l ls)) ≡ 24 * length ls + 6 * l
+pub length-from : (l : ℕ) (ls : List TableLine) → Under l ls → length (logBytes (logFrom l ls)) ≡ 24 * length ls + 6 * l
 length-from l [] u = omega (arith, length-closes 0 l (omega arith))
 length-from l (x ∷ ls) u =
-    let o : Record Amounts = opening (x .depth) (x .carries) in
+    let o : Record Amounts = opening (x .depth) (x .amounts) in
     let rest : List (Record Amounts) = logFrom (suc (x .depth)) ls in
-    let a = log-append (closesTo (x .depth) l) (o ∷ rest) in
+    let a = log-append (closesTo l (x .depth)) (o ∷ rest) in
     omega (
       arith,
       ap length a,
-      length-append (logBytes (closesTo (x .depth) l)) (fullBytes o ++ logBytes rest),
+      length-append (logBytes (closesTo l (x .depth))) (fullBytes o ++ logBytes rest),
       length-append (fullBytes o) (logBytes rest),
-      open-length (x .depth) (x .carries .value) (x .carries .floor) (x .carries .ceiling),
+      open-length (x .depth) (x .amounts .value) (x .amounts .floor) (x .amounts .ceiling),
       length-closes (x .depth) l (u .1),
       length-from (suc (x .depth)) ls (u .2),
     )
+
+-- ---- a log's bytes: 6 for each record, and 4 more for each open
+
+shape-long : (s : List ℕ) (f : Fields) → Shape s f → 6 + 4 * opens (recordOf f) ≤ f .length
+shape-long s f (full e0 e2) = omega arith
+shape-long s f short = omega arith
+shape-long s f (closed e0 e2) = omega arith
+
+pub records-long : (fs : List Fields) (b : List ℕ) → recordsOf b ≡ result fs → 6 * length fs + 4 * openedOf (chunkOf fs) ≤ length b
+records-long [] b e = omega arith
+records-long (f ∷ fs) b e =
+    let w : First b f fs = first-read b f fs e in
+    omega (arith, records-long fs (drop (f .length) b) (w .rest), shape-long b f (shape b f (w .here)), sound b f (w .here) .inside, length-drop (f .length) b)
+
+-- so a well-formed log has 16 for each record that it opens, at the least
+pub log-long : {log : List ℕ} {xs : List (Record Amounts)} → IsWellFormed log xs → 16 * openedOf xs ≤ length log
+log-long {log} {xs} i =
+    omega (arith, records-long (i .fields) log (i .read), length-map (i .fields) recordOf, ap length (i .records-are), ap openedOf (i .records-are), log-pairs xs (i .fine))

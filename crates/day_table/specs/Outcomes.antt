@@ -8,43 +8,37 @@ use mir.Syntax.{w32}
 use mir.Val.{ofZ}
 use Rattle.gate.specs.Outcome.{Outcome, question, onward, written}
 use Rattle.number.specs.Bytes.{leAt, bytesOf, i32At}
-use Rattle.record.specs.Record.{inRange}
-use Rattle.record.specs.Encoding.{openBytes, closeBytes}
+use Rattle.record.specs.Record.{inRange, openBytes, closeBytes}
 use Rattle.figure.specs.FourModes.{Amounts}
-use Rattle.figure.specs.Stored.{amounts}
 use Rattle.hill.specs.Log.{Record, opening, closing}
 use Rattle.chunk.specs.Chunk.{wholeLog}
 use Rattle.day_table.specs.Table.{TableLine, tableLine, tableOf, logOf, nested}
 
--- A line of the day: depth, and value, floor and ceiling.
-abbrev pub DayLine : Type 0
-DayLine = TableLine Amounts
-
 -- "Depth (16 bits), value, floor, ceiling (signed 32 bits)": the line that bytes begin with, ..
-abbrev pub dayLineIn : List ℕ → DayLine
-dayLineIn b = tableLine (leAt 2 b 0) (amounts (i32At b 2) (i32At b 6) (i32At b 10))
+abbrev pub tableLineIn : List ℕ → TableLine
+tableLineIn b = tableLine (leAt 2 b 0) (record { value = i32At b 2; floor = i32At b 6; ceiling = i32At b 10 })
 
 -- .. and the bytes of a line.
-abbrev pub dayLineBytes : DayLine → List ℕ
-dayLineBytes x = bytesOf 2 (x .depth) ++ (bytesOf 4 (ofZ w32 (x .carries .value)) ++ (bytesOf 4 (ofZ w32 (x .carries .floor)) ++ bytesOf 4 (ofZ w32 (x .carries .ceiling))))
+abbrev pub tableLineBytes : TableLine → List ℕ
+tableLineBytes x = bytesOf 2 (x .depth) ++ (bytesOf 4 (ofZ w32 (x .amounts .value)) ++ (bytesOf 4 (ofZ w32 (x .amounts .floor)) ++ bytesOf 4 (ofZ w32 (x .amounts .ceiling))))
 
-abbrev pub tableBytes : List DayLine → List ℕ
+abbrev pub tableBytes : List TableLine → List ℕ
 tableBytes [] = []
-tableBytes (x ∷ ls) = dayLineBytes x ++ tableBytes ls
+tableBytes (x ∷ ls) = tableLineBytes x ++ tableBytes ls
 
 -- "14 bytes a line": the first n lines of bytes, and all that they have.
-abbrev pub dayLinesIn : ℕ → List ℕ → List DayLine
-dayLinesIn zero b = []
-dayLinesIn (suc n) b = dayLineIn b ∷ dayLinesIn n (drop 14 b)
+abbrev pub tableLinesIn : ℕ → List ℕ → List TableLine
+tableLinesIn zero b = []
+tableLinesIn (suc n) b = tableLineIn b ∷ tableLinesIn n (drop 14 b)
 
-unfoldable pub dayLines : List ℕ → List DayLine
-dayLines table = dayLinesIn (length table / 14) table
+unfoldable pub tableLines : List ℕ → List TableLine
+tableLines table = tableLinesIn (length table / 14) table
 
 -- "A line whose fields no readable full open record could hold gets 3": each line's fields are in range.
-abbrev pub couldHold : DayLine → Bool
-couldHold x = inRange (x .depth) (x .carries .value) (x .carries .floor) (x .carries .ceiling)
+abbrev pub couldHold : TableLine → Bool
+couldHold x = inRange (x .depth) (x .amounts .value) (x .amounts .floor) (x .amounts .ceiling)
 
-abbrev pub allCouldHold : List DayLine → Bool
+abbrev pub allCouldHold : List TableLine → Bool
 allCouldHold [] = true
 allCouldHold (x ∷ ls) = couldHold x && allCouldHold ls
 
@@ -62,10 +56,10 @@ logBytes (x ∷ xs) = fullBytes x ++ logBytes xs
 unfoldable pub writeLogOutcome : List ℕ → (cap : ℕ) → Outcome (List ℕ)
 writeLogOutcome table cap =
     question 2 (leb (length table) 38_220)
-    (question 3 (eqb (length table % 14) 0 && allCouldHold (dayLines table))
-    (question 13 (nested (dayLines table))
-    (question 10 (leb 1 (length (dayLines table)))
-    (written cap (logBytes (logOf (dayLines table)))))))
+    (question 3 (eqb (length table % 14) 0 && allCouldHold (tableLines table))
+    (question 13 (nested (tableLines table))
+    (question 10 (leb 1 (length (tableLines table)))
+    (written cap (logBytes (logOf (tableLines table)))))))
 
 -- READING THE TABLE of a log: "2, 3, 7 to 11 and 12 as in document 01", and "no limit of lines".
 unfoldable pub readTableOutcome : List ℕ → (cap : ℕ) → Outcome (List ℕ)

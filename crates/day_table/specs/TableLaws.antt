@@ -2,14 +2,15 @@
 use mathlib.Core.Path.{_≡_, refl, sym, ap, subst, _∙_}
 use mathlib.Core.Bool.{Bool, true, false, cond, _&&_}
 use mathlib.Core.List.{List, [], _∷_, _++_, append-nil}
-use Prim.Native.Nat.{ℕ, zero, suc, _≤_, _<_}
+use Prim.Native.Nat.{ℕ, zero, suc, _+_, _*_, _≤_, _<_}
 use native.Mathlib.Omega.{arith}
 use lib.Dec.{leb, ltb, eqb}
 use lib.ListN.{length}
 use borrow.Author.Tests.{leb-true, leb-false, le-leb, lt-leb, ltb-true, lt-ltb, eqb-true, eq-eqb}
 use Rattle.record.specs.Laws.{and-left, and-right}
+use Rattle.figure.specs.FourModes.{Amounts}
 use Rattle.hill.specs.Verdict.{pass, joint, count, ends}
-use Rattle.hill.specs.VerdictLaws.{low-fst, low-snd, joint-pass, joint-high, joint-same, count-pass, count-few, ends-pass, refuse-pass}
+use Rattle.hill.specs.VerdictLaws.{low-fst, low-snd, joint-pass, joint-high, joint-same, count-few, ends-pass, refuse-pass}
 use Rattle.hill.specs.Log.{Record, opening, closing, startLevel, endLevel, endOf, openedOf, joints, faultOf, logFault}
 use Rattle.hill.specs.Spell.{endFrom, end-from}
 use Rattle.day_table.specs.Table.{TableLine, tableLine, tableOf, closesTo, logFrom, logOf, nestedAfter, nested}
@@ -18,183 +19,191 @@ joint-meets : (a b : ℕ) → a ≡ b → 0 < a → joint a b ≡ pass
 joint-meets zero b e h = absurd (omega arith)
 joint-meets (suc a) b e h = subst (λ c. joint (suc a) c ≡ pass) e (joint-same a)
 
-module _ {R : Type 0} where
-  -- ---- the table of the log is the table
+-- ---- the table of the log is the table
 
-  closes-no-line : (e l : ℕ) (ys : List (Record R)) → tableOf (closesTo e l ++ ys) ≡ tableOf ys
-  closes-no-line e zero ys = refl
-  closes-no-line e (suc l) ys = go (leb e l) (closes-no-line e l ys)
-    where
-      go : (t : Bool) → tableOf (closesTo e l ++ ys) ≡ tableOf ys → tableOf (cond t (closing l ∷ closesTo e l) [] ++ ys) ≡ tableOf ys
-      go true h = h
-      go false h = refl
+closes-no-line : (e l : ℕ) (ys : List (Record Amounts)) → tableOf (closesTo l e ++ ys) ≡ tableOf ys
+closes-no-line e zero ys = refl
+closes-no-line e (suc l) ys = go (leb e l) (closes-no-line e l ys)
+  where
+    go : (t : Bool) → tableOf (closesTo l e ++ ys) ≡ tableOf ys → tableOf (cond t (closing l ∷ closesTo l e) [] ++ ys) ≡ tableOf ys
+    go true h = h
+    go false h = refl
 
-  table-from : (l : ℕ) (ls : List (TableLine R)) → tableOf (logFrom l ls) ≡ ls
-  table-from l [] = ap tableOf (sym (append-nil (closesTo 0 l))) ∙ closes-no-line 0 l []
-  table-from l (x ∷ ls) = closes-no-line (x .depth) l _ ∙ ap (λ (ys : List (TableLine R)). tableLine (x .depth) (x .carries) ∷ ys) (table-from (suc (x .depth)) ls)
+table-from : (l : ℕ) (ls : List TableLine) → tableOf (logFrom l ls) ≡ ls
+table-from l [] = ap tableOf (sym (append-nil (closesTo l 0))) ∙ closes-no-line 0 l []
+table-from l (x ∷ ls) = closes-no-line (x .depth) l _ ∙ ap (λ (ys : List TableLine). tableLine (x .depth) (x .amounts) ∷ ys) (table-from (suc (x .depth)) ls)
 
-  -- READING THE LOG BACK GIVES THE TABLE, whatever the table.
-  pub table-log : (ls : List (TableLine R)) → tableOf (logOf ls) ≡ ls
-  table-log ls = table-from 0 ls
+-- READING THE LOG BACK GIVES THE TABLE, whatever the table.
+pub table-log : (ls : List TableLine) → tableOf (logOf ls) ≡ ls
+table-log ls = table-from 0 ls
 
-  -- ---- levels: each record starts where the one before ended, above level 0
+-- ---- levels: each record starts where the one before ended, above level 0
 
-  abbrev Stays : ℕ → List (Record R) → Type 0
-  Stays l [] = Unit {0}
-  Stays l (x ∷ xs) = (l ≡ startLevel x) × (0 < l) × Stays (endLevel x) xs
+abbrev Stays : ℕ → List (Record Amounts) → Type 0
+Stays l [] = Unit {0}
+Stays l (x ∷ xs) = (l ≡ startLevel x) × (0 < l) × Stays (endLevel x) xs
 
-  joints-stays : (x : Record R) (xs : List (Record R)) → joints x xs ≡ pass → Stays (endLevel x) xs
-  joints-stays x [] v = tt
-  joints-stays x (y ∷ ys) v =
-      let j = low-fst (joint (endLevel x) (startLevel y)) (joints y ys) v in
-      (joint-pass (endLevel x) (startLevel y) j, joint-high (endLevel x) (startLevel y) j, joints-stays y ys (low-snd (joint (endLevel x) (startLevel y)) (joints y ys) v))
+joints-stays : (x : Record Amounts) (xs : List (Record Amounts)) → joints x xs ≡ pass → Stays (endLevel x) xs
+joints-stays x [] v = tt
+joints-stays x (y ∷ ys) v =
+    let j = low-fst (joint (endLevel x) (startLevel y)) (joints y ys) v in
+    (joint-pass (endLevel x) (startLevel y) j, joint-high (endLevel x) (startLevel y) j, joints-stays y ys (low-snd (joint (endLevel x) (startLevel y)) (joints y ys) v))
 
-  stays-joints : (x : Record R) (xs : List (Record R)) → Stays (endLevel x) xs → joints x xs ≡ pass
-  stays-joints x [] s = refl
-  stays-joints x (y ∷ ys) s = rw (joint-meets (endLevel x) (startLevel y) (s .0) (s .1)) (stays-joints y ys (s .2))
+stays-joints : (x : Record Amounts) (xs : List (Record Amounts)) → Stays (endLevel x) xs → joints x xs ≡ pass
+stays-joints x [] s = refl
+stays-joints x (y ∷ ys) s = rw (joint-meets (endLevel x) (startLevel y) (s .0) (s .1)) (stays-joints y ys (s .2))
 
-  -- ---- the log of the table is the log
+-- ---- the log of the table is the log
 
-  pub closes-none : (e l : ℕ) → l ≤ e → closesTo {R = R} e l ≡ []
-  closes-none e zero h = refl
-  closes-none e (suc l) h = rw (lt-leb e l h)
+pub closes-none : (e l : ℕ) → l ≤ e → closesTo l e ≡ []
+closes-none e zero h = refl
+closes-none e (suc l) h = rw (lt-leb e l h)
 
-  pub closes-one : (e l : ℕ) → e ≤ l → closesTo {R = R} e (suc l) ≡ closing l ∷ closesTo e l
-  closes-one e l h = rw (le-leb e l h)
+pub closes-one : (e l : ℕ) → e ≤ l → closesTo (suc l) e ≡ closing l ∷ closesTo l e
+closes-one e l h = rw (le-leb e l h)
 
-  -- the first line that follows level l is at depth l or below
-  abbrev FirstLow : ℕ → List (TableLine R) → Type 0
-  FirstLow l [] = Unit {0}
-  FirstLow l (x ∷ ls) = x .depth ≤ l
+-- the first line that follows level l is at depth l or below
+abbrev FirstLow : ℕ → List TableLine → Type 0
+FirstLow l [] = Unit {0}
+FirstLow l (x ∷ ls) = x .depth ≤ l
 
-  low-more : (l m : ℕ) (ls : List (TableLine R)) → l ≤ m → FirstLow l ls → FirstLow m ls
-  low-more l m [] h f = tt
-  low-more l m (x ∷ ls) h f = omega (arith, f)
+low-more : (l m : ℕ) (ls : List TableLine) → l ≤ m → FirstLow l ls → FirstLow m ls
+low-more l m [] h f = tt
+low-more l m (x ∷ ls) h f = omega (arith, f)
 
-  first-low : (l : ℕ) (xs : List (Record R)) → Stays l xs → FirstLow l (tableOf xs)
-  first-low l [] s = tt
-  first-low l (opening d r ∷ xs) s = omega (arith, s .0)
-  first-low l (closing d ∷ xs) s = low-more d l (tableOf xs) (omega (arith, s .0)) (first-low d xs (s .2))
+first-low : (l : ℕ) (xs : List (Record Amounts)) → Stays l xs → FirstLow l (tableOf xs)
+first-low l [] s = tt
+first-low l (opening d r ∷ xs) s = omega (arith, s .0)
+first-low l (closing d ∷ xs) s = low-more d l (tableOf xs) (omega (arith, s .0)) (first-low d xs (s .2))
 
-  from-close : (l : ℕ) (ls : List (TableLine R)) → FirstLow l ls → logFrom (suc l) ls ≡ closing l ∷ logFrom l ls
-  from-close l [] f = closes-one 0 l (omega arith)
-  from-close l (x ∷ ls) f = ap (λ (cs : List (Record R)). cs ++ (opening (x .depth) (x .carries) ∷ logFrom (suc (x .depth)) ls)) (closes-one (x .depth) l f)
+from-close : (l : ℕ) (ls : List TableLine) → FirstLow l ls → logFrom (suc l) ls ≡ closing l ∷ logFrom l ls
+from-close l [] f = closes-one 0 l (omega arith)
+from-close l (x ∷ ls) f = ap (λ (cs : List (Record Amounts)). cs ++ (opening (x .depth) (x .amounts) ∷ logFrom (suc (x .depth)) ls)) (closes-one (x .depth) l f)
 
-  from-table : (l : ℕ) (xs : List (Record R)) → Stays l xs → endFrom l xs ≡ 0 → logFrom l (tableOf xs) ≡ xs
-  from-table l [] s e = closes-none 0 l (omega (arith, e))
-  from-table l (opening d r ∷ xs) s e =
-      ap (λ (cs : List (Record R)). cs ++ (opening d r ∷ logFrom (suc d) (tableOf xs))) (closes-none d l (omega (arith, s .0)))
-      ∙ ap (λ (ys : List (Record R)). opening d r ∷ ys) (from-table (suc d) xs (s .2) e)
-  from-table l (closing d ∷ xs) s e =
-      let g : l ≡ suc d = s .0 in
-      ap (λ k. logFrom k (tableOf xs)) g ∙ from-close d (tableOf xs) (first-low d xs (s .2)) ∙ ap (λ (ys : List (Record R)). closing d ∷ ys) (from-table d xs (s .2) e)
+from-table : (l : ℕ) (xs : List (Record Amounts)) → Stays l xs → endFrom l xs ≡ 0 → logFrom l (tableOf xs) ≡ xs
+from-table l [] s e = closes-none 0 l (omega (arith, e))
+from-table l (opening d r ∷ xs) s e =
+    ap (λ (cs : List (Record Amounts)). cs ++ (opening d r ∷ logFrom (suc d) (tableOf xs))) (closes-none d l (omega (arith, s .0)))
+    ∙ ap (λ (ys : List (Record Amounts)). opening d r ∷ ys) (from-table (suc d) xs (s .2) e)
+from-table l (closing d ∷ xs) s e =
+    let g : l ≡ suc d = s .0 in
+    ap (λ k. logFrom k (tableOf xs)) g ∙ from-close d (tableOf xs) (first-low d xs (s .2)) ∙ ap (λ (ys : List (Record Amounts)). closing d ∷ ys) (from-table d xs (s .2) e)
 
-  log-parts : (x : Record R) (xs : List (Record R)) → logFault (x ∷ xs) ≡ pass → (joints x xs ≡ pass) × (startLevel x ≡ 0) × (endOf x xs ≡ 0)
-  log-parts x xs v =
-      let e = ends-pass (startLevel x) (endOf x xs) (low-snd (faultOf x xs) (ends (startLevel x) (endOf x xs)) v) in
-      (low-fst (joints x xs) (count (openedOf (x ∷ xs))) (low-fst (faultOf x xs) (ends (startLevel x) (endOf x xs)) v), e .0, e .1)
+log-parts : (x : Record Amounts) (xs : List (Record Amounts)) → logFault (x ∷ xs) ≡ pass → (joints x xs ≡ pass) × (startLevel x ≡ 0) × (endOf x xs ≡ 0)
+log-parts x xs v =
+    let e = ends-pass (startLevel x) (endOf x xs) (low-snd (faultOf x xs) (ends (startLevel x) (endOf x xs)) v) in
+    (low-fst (joints x xs) (count (openedOf (x ∷ xs))) (low-fst (faultOf x xs) (ends (startLevel x) (endOf x xs)) v), e .0, e .1)
 
-  -- A WELL-FORMED LOG GIVES A TABLE THAT WRITES IT AGAIN: it is the only one with its table.
-  pub log-table : (xs : List (Record R)) → logFault xs ≡ pass → logOf (tableOf xs) ≡ xs
-  log-table [] v = refl
-  log-table (opening d r ∷ xs) v =
-      let p = log-parts (opening d r) xs v in
-      ap (λ (ys : List (Record R)). opening d r ∷ ys) (from-table (suc d) xs (joints-stays (opening d r) xs (p .0)) (end-from (opening d r) xs ∙ p .2))
-  log-table (closing d ∷ xs) v = absurd (omega (arith, log-parts (closing d) xs v .1))
+-- A WELL-FORMED LOG GIVES A TABLE THAT WRITES IT AGAIN: it is the only one with its table.
+pub log-table : (xs : List (Record Amounts)) → logFault xs ≡ pass → logOf (tableOf xs) ≡ xs
+log-table [] v = refl
+log-table (opening d r ∷ xs) v =
+    let p = log-parts (opening d r) xs v in
+    ap (λ (ys : List (Record Amounts)). opening d r ∷ ys) (from-table (suc d) xs (joints-stays (opening d r) xs (p .0)) (end-from (opening d r) xs ∙ p .2))
+log-table (closing d ∷ xs) v = absurd (omega (arith, log-parts (closing d) xs v .1))
 
-  -- ---- question 13, as what must hold
+-- ---- question 13, as what must hold
 
-  -- Lines that can follow level l: each deeper than 0, and none more than one above the line before it.
-  abbrev pub Under : ℕ → List (TableLine R) → Type 0
-  Under l [] = Unit {0}
-  Under l (x ∷ ls) = (0 < x .depth) × (x .depth ≤ l) × Under (suc (x .depth)) ls
+-- Lines that can follow level l: each deeper than 0, and none more than one above the line before it.
+abbrev pub Under : ℕ → List TableLine → Type 0
+Under l [] = Unit {0}
+Under l (x ∷ ls) = (0 < x .depth) × (x .depth ≤ l) × Under (suc (x .depth)) ls
 
-  after-under : (d : ℕ) (ls : List (TableLine R)) → nestedAfter d ls ≡ true → Under (suc d) ls
-  after-under d [] e = tt
-  after-under d (x ∷ ls) e =
-      let two = and-left (ltb 0 (x .depth) && leb (x .depth) (suc d)) (nestedAfter (x .depth) ls) e in (
-        ltb-true 0 (x .depth) (and-left (ltb 0 (x .depth)) (leb (x .depth) (suc d)) two),
-        leb-true (x .depth) (suc d) (and-right (ltb 0 (x .depth)) (leb (x .depth) (suc d)) two),
-        after-under (x .depth) ls (and-right (ltb 0 (x .depth) && leb (x .depth) (suc d)) (nestedAfter (x .depth) ls) e),
-      )
+after-under : (d : ℕ) (ls : List TableLine) → nestedAfter d ls ≡ true → Under (suc d) ls
+after-under d [] e = tt
+after-under d (x ∷ ls) e =
+    let two = and-left (ltb 0 (x .depth) && leb (x .depth) (suc d)) (nestedAfter (x .depth) ls) e in (
+      ltb-true 0 (x .depth) (and-left (ltb 0 (x .depth)) (leb (x .depth) (suc d)) two),
+      leb-true (x .depth) (suc d) (and-right (ltb 0 (x .depth)) (leb (x .depth) (suc d)) two),
+      after-under (x .depth) ls (and-right (ltb 0 (x .depth) && leb (x .depth) (suc d)) (nestedAfter (x .depth) ls) e),
+    )
 
-  under-after : (d : ℕ) (ls : List (TableLine R)) → Under (suc d) ls → nestedAfter d ls ≡ true
-  under-after d [] u = refl
-  under-after d (x ∷ ls) u = rw (lt-ltb 0 (x .depth) (u .0), le-leb (x .depth) (suc d) (u .1)) (under-after (x .depth) ls (u .2))
+under-after : (d : ℕ) (ls : List TableLine) → Under (suc d) ls → nestedAfter d ls ≡ true
+under-after d [] u = refl
+under-after d (x ∷ ls) u = rw (lt-ltb 0 (x .depth) (u .0), le-leb (x .depth) (suc d) (u .1)) (under-after (x .depth) ls (u .2))
 
-  pub nested-under : (x : TableLine R) (ls : List (TableLine R)) → nested (x ∷ ls) ≡ true → (x .depth ≡ 0) × Under (suc (x .depth)) ls
-  nested-under x ls e =
-      (eqb-true (x .depth) 0 (and-left (eqb (x .depth) 0) (nestedAfter (x .depth) ls) e), after-under (x .depth) ls (and-right (eqb (x .depth) 0) (nestedAfter (x .depth) ls) e))
+pub nested-under : (x : TableLine) (ls : List TableLine) → nested (x ∷ ls) ≡ true → (x .depth ≡ 0) × Under (suc (x .depth)) ls
+nested-under x ls e =
+    (eqb-true (x .depth) 0 (and-left (eqb (x .depth) 0) (nestedAfter (x .depth) ls) e), after-under (x .depth) ls (and-right (eqb (x .depth) 0) (nestedAfter (x .depth) ls) e))
 
-  -- ---- exactly the nested tables are those of well-formed logs
+-- ---- exactly the nested tables are those of well-formed logs
 
-  under-more : (l m : ℕ) (ls : List (TableLine R)) → l ≤ m → Under l ls → Under m ls
-  under-more l m [] h n = tt
-  under-more l m (x ∷ ls) h n = (n .0, omega (arith, n .1), n .2)
+under-more : (l m : ℕ) (ls : List TableLine) → l ≤ m → Under l ls → Under m ls
+under-more l m [] h n = tt
+under-more l m (x ∷ ls) h n = (n .0, omega (arith, n .1), n .2)
 
-  stays-under : (l : ℕ) (xs : List (Record R)) → Stays l xs → Under l (tableOf xs)
-  stays-under l [] s = tt
-  stays-under l (opening d r ∷ xs) s = (omega (arith, s .0, s .1), omega (arith, s .0), stays-under (suc d) xs (s .2))
-  stays-under l (closing d ∷ xs) s = under-more d l (tableOf xs) (omega (arith, s .0)) (stays-under d xs (s .2))
+stays-under : (l : ℕ) (xs : List (Record Amounts)) → Stays l xs → Under l (tableOf xs)
+stays-under l [] s = tt
+stays-under l (opening d r ∷ xs) s = (omega (arith, s .0, s .1), omega (arith, s .0), stays-under (suc d) xs (s .2))
+stays-under l (closing d ∷ xs) s = under-more d l (tableOf xs) (omega (arith, s .0)) (stays-under d xs (s .2))
 
-  -- THE TABLE OF A WELL-FORMED LOG passes 13.
-  pub log-nested : (xs : List (Record R)) → logFault xs ≡ pass → nested (tableOf xs) ≡ true
-  log-nested [] v = refl
-  log-nested (opening d r ∷ xs) v =
-      let p = log-parts (opening d r) xs v in
-      rw (eq-eqb d 0 (p .1)) (under-after d (tableOf xs) (stays-under (suc d) xs (joints-stays (opening d r) xs (p .0))))
-  log-nested (closing d ∷ xs) v = absurd (omega (arith, log-parts (closing d) xs v .1))
+-- THE TABLE OF A WELL-FORMED LOG passes 13.
+pub log-nested : (xs : List (Record Amounts)) → logFault xs ≡ pass → nested (tableOf xs) ≡ true
+log-nested [] v = refl
+log-nested (opening d r ∷ xs) v =
+    let p = log-parts (opening d r) xs v in
+    rw (eq-eqb d 0 (p .1)) (under-after d (tableOf xs) (stays-under (suc d) xs (joints-stays (opening d r) xs (p .0))))
+log-nested (closing d ∷ xs) v = absurd (omega (arith, log-parts (closing d) xs v .1))
 
-  -- It has a line, and not too many.
-  pub log-some : (xs : List (Record R)) → logFault xs ≡ pass → 1 ≤ length (tableOf xs)
-  log-some [] v = absurd (refuse-pass v)
-  log-some (opening d r ∷ xs) v = omega arith
-  log-some (closing d ∷ xs) v = absurd (omega (arith, log-parts (closing d) xs v .1))
+-- It has a line.
+pub log-some : (xs : List (Record Amounts)) → logFault xs ≡ pass → 1 ≤ length (tableOf xs)
+log-some [] v = absurd (refuse-pass v)
+log-some (opening d r ∷ xs) v = omega arith
+log-some (closing d ∷ xs) v = absurd (omega (arith, log-parts (closing d) xs v .1))
 
-  pub log-few : (xs : List (Record R)) → logFault xs ≡ pass → openedOf xs ≤ 100_000
-  log-few [] v = omega arith
-  log-few (x ∷ xs) v = count-pass (openedOf (x ∷ xs)) (low-snd (joints x xs) (count (openedOf (x ∷ xs))) (low-fst (faultOf x xs) (ends (startLevel x) (endOf x xs)) v))
+stays-count : (l : ℕ) (xs : List (Record Amounts)) → Stays l xs → l + 2 * openedOf xs ≡ endFrom l xs + length xs
+stays-count l [] s = omega arith
+stays-count l (opening d r ∷ xs) s = omega (arith, s .0, stays-count (suc d) xs (s .2))
+stays-count l (closing d ∷ xs) s = omega (arith, s .0, stays-count d xs (s .2))
 
-  stays-closes : (e l : ℕ) (ys : List (Record R)) → e ≤ l → Stays e ys → Stays l (closesTo e l ++ ys)
-  stays-closes e zero ys h s = subst (λ k. Stays k ys) (omega arith) s
-  stays-closes e (suc l) ys h s = go (leb e l) refl (stays-closes e l ys)
-    where
-      go : (t : Bool) → leb e l ≡ t → (e ≤ l → Stays e ys → Stays l (closesTo e l ++ ys)) → Stays (suc l) (cond t (closing l ∷ closesTo e l) [] ++ ys)
-      go true t ih = (refl, omega arith, ih (leb-true e l t) s)
-      go false t ih = let g : e ≡ suc l = omega (arith, leb-false e l t) in subst (λ k. Stays k ys) g s
+-- Each record that it opens it closes.
+pub log-pairs : (xs : List (Record Amounts)) → logFault xs ≡ pass → length xs ≡ 2 * openedOf xs
+log-pairs [] v = refl
+log-pairs (opening d r ∷ xs) v =
+    let p = log-parts (opening d r) xs v in
+    omega (arith, p .1, stays-count (suc d) xs (joints-stays (opening d r) xs (p .0)), end-from (opening d r) xs, p .2)
+log-pairs (closing d ∷ xs) v = absurd (omega (arith, log-parts (closing d) xs v .1))
 
-  end-closes : (e l : ℕ) (ys : List (Record R)) → e ≤ l → endFrom l (closesTo e l ++ ys) ≡ endFrom e ys
-  end-closes e zero ys h = let g : 0 ≡ e = omega arith in ap (λ k. endFrom k ys) g
-  end-closes e (suc l) ys h = go (leb e l) refl (end-closes e l ys)
-    where
-      go : (t : Bool) → leb e l ≡ t → (e ≤ l → endFrom l (closesTo e l ++ ys) ≡ endFrom e ys) → endFrom (suc l) (cond t (closing l ∷ closesTo e l) [] ++ ys) ≡ endFrom e ys
-      go true t ih = ih (leb-true e l t)
-      go false t ih = let g : suc l ≡ e = omega (arith, leb-false e l t) in ap (λ k. endFrom k ys) g
+stays-closes : (e l : ℕ) (ys : List (Record Amounts)) → e ≤ l → Stays e ys → Stays l (closesTo l e ++ ys)
+stays-closes e zero ys h s = subst (λ k. Stays k ys) (omega arith) s
+stays-closes e (suc l) ys h s = go (leb e l) refl (stays-closes e l ys)
+  where
+    go : (t : Bool) → leb e l ≡ t → (e ≤ l → Stays e ys → Stays l (closesTo l e ++ ys)) → Stays (suc l) (cond t (closing l ∷ closesTo l e) [] ++ ys)
+    go true t ih = (refl, omega arith, ih (leb-true e l t) s)
+    go false t ih = let g : e ≡ suc l = omega (arith, leb-false e l t) in subst (λ k. Stays k ys) g s
 
-  under-stays : (l : ℕ) (ls : List (TableLine R)) → Under l ls → Stays l (logFrom l ls) × (endFrom l (logFrom l ls) ≡ 0)
-  under-stays l [] n = (
-    subst (λ ys. Stays l ys) (append-nil (closesTo 0 l)) (stays-closes 0 l [] (omega arith) tt),
-    ap (endFrom l) (sym (append-nil (closesTo 0 l))) ∙ end-closes 0 l [] (omega arith),
-  )
-  under-stays l (x ∷ ls) n =
-      let w = under-stays (suc (x .depth)) ls (n .2) in (
-        stays-closes (x .depth) l (opening (x .depth) (x .carries) ∷ logFrom (suc (x .depth)) ls) (n .1) (refl, n .0, w .0),
-        end-closes (x .depth) l (opening (x .depth) (x .carries) ∷ logFrom (suc (x .depth)) ls) (n .1) ∙ w .1,
-      )
+end-closes : (e l : ℕ) (ys : List (Record Amounts)) → e ≤ l → endFrom l (closesTo l e ++ ys) ≡ endFrom e ys
+end-closes e zero ys h = let g : 0 ≡ e = omega arith in ap (λ k. endFrom k ys) g
+end-closes e (suc l) ys h = go (leb e l) refl (end-closes e l ys)
+  where
+    go : (t : Bool) → leb e l ≡ t → (e ≤ l → endFrom l (closesTo l e ++ ys) ≡ endFrom e ys) → endFrom (suc l) (cond t (closing l ∷ closesTo l e) [] ++ ys) ≡ endFrom e ys
+    go true t ih = ih (leb-true e l t)
+    go false t ih = let g : suc l ≡ e = omega (arith, leb-false e l t) in ap (λ k. endFrom k ys) g
 
-  pub table-opened : (xs : List (Record R)) → openedOf xs ≡ length (tableOf xs)
-  table-opened [] = refl
-  table-opened (opening d r ∷ xs) = omega (arith, table-opened xs)
-  table-opened (closing d ∷ xs) = omega (arith, table-opened xs)
+under-stays : (l : ℕ) (ls : List TableLine) → Under l ls → Stays l (logFrom l ls) × (endFrom l (logFrom l ls) ≡ 0)
+under-stays l [] n = (
+  subst (λ ys. Stays l ys) (append-nil (closesTo l 0)) (stays-closes 0 l [] (omega arith) tt),
+  ap (endFrom l) (sym (append-nil (closesTo l 0))) ∙ end-closes 0 l [] (omega arith),
+)
+under-stays l (x ∷ ls) n =
+    let w = under-stays (suc (x .depth)) ls (n .2) in (
+      stays-closes (x .depth) l (opening (x .depth) (x .amounts) ∷ logFrom (suc (x .depth)) ls) (n .1) (refl, n .0, w .0),
+      end-closes (x .depth) l (opening (x .depth) (x .amounts) ∷ logFrom (suc (x .depth)) ls) (n .1) ∙ w .1,
+    )
 
-  -- A NESTED TABLE WRITES A WELL-FORMED LOG.
-  pub nested-log : (x : TableLine R) (ls : List (TableLine R)) → nested (x ∷ ls) ≡ true → length (x ∷ ls) ≤ 100_000 → logFault (logOf (x ∷ ls)) ≡ pass
-  unfolding ends
-  nested-log x ls p few =
-      let o : Record R = opening (x .depth) (x .carries) in
-      let n = nested-under x ls p in
-      let w = under-stays (suc (x .depth)) ls (n .1) in
-      let j : joints o (logFrom (suc (x .depth)) ls) ≡ pass = stays-joints o (logFrom (suc (x .depth)) ls) (w .0) in
-      let c : count (openedOf (logOf (x ∷ ls))) ≡ pass = count-few _ (omega (arith, table-opened (logOf (x ∷ ls)), ap length (table-log (x ∷ ls)))) in
-      let e : endOf o (logFrom (suc (x .depth)) ls) ≡ 0 = sym (end-from o (logFrom (suc (x .depth)) ls)) ∙ w .1 in
-      rw (j, c, e, n .0)
+pub table-opened : (xs : List (Record Amounts)) → openedOf xs ≡ length (tableOf xs)
+table-opened [] = refl
+table-opened (opening d r ∷ xs) = omega (arith, table-opened xs)
+table-opened (closing d ∷ xs) = omega (arith, table-opened xs)
+
+-- A NESTED TABLE WRITES A WELL-FORMED LOG.
+pub nested-log : (x : TableLine) (ls : List TableLine) → nested (x ∷ ls) ≡ true → length (x ∷ ls) ≤ 100_000 → logFault (logOf (x ∷ ls)) ≡ pass
+unfolding ends
+nested-log x ls p few =
+    let o : Record Amounts = opening (x .depth) (x .amounts) in
+    let n = nested-under x ls p in
+    let w = under-stays (suc (x .depth)) ls (n .1) in
+    let j : joints o (logFrom (suc (x .depth)) ls) ≡ pass = stays-joints o (logFrom (suc (x .depth)) ls) (w .0) in
+    let c : count (openedOf (logOf (x ∷ ls))) ≡ pass = count-few _ (omega (arith, table-opened (logOf (x ∷ ls)), ap length (table-log (x ∷ ls)))) in
+    let e : endOf o (logFrom (suc (x .depth)) ls) ≡ 0 = sym (end-from o (logFrom (suc (x .depth)) ls)) ∙ w .1 in
+    rw (j, c, e, n .0)

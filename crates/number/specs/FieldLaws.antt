@@ -1,7 +1,7 @@
 -- Bytes as fields one after the other: a field behind others, bytes taken apart into their fields, and lists of bytes. Assumes nothing.
 use mathlib.Core.Path.{_≡_, refl, sym, ap, _∙_}
 use mathlib.Core.List.{List, [], _∷_, _++_}
-use Prim.Native.Nat.{ℕ, zero, suc, _+_, _-_, _*_, _/_, _%_, _≤_, _<_}
+use Prim.Native.Nat.{ℕ, zero, suc, _+_, _-_, _*_, _/_, _%_, _≤_}
 use native.Mathlib.Nat.{add-zero, add-suc, suc-add, mod-lt}
 use native.Mathlib.Omega.{arith}
 use lib.Dec.{lit<}
@@ -10,12 +10,8 @@ use lib.Seq.{getD-drop, drop-cons, drop-at, drop-drop, drop-append-add}
 use mir.Syntax.{w32}
 use mir.Val.{Fits, ofZ}
 use mir.Facts.{ofZ-toZ}
-use Rattle.number.specs.Bytes.{leAt, bytesOf, i32At}
+use Rattle.number.specs.Bytes.{AllBytes, leAt, bytesOf, i32At}
 use Rattle.number.specs.Laws.{leAt-drop, leAt-lt, length-bytesOf}
-
--- what a slice of bytes holds
-abbrev pub AllBytes : List ℕ → Type 0
-AllBytes b = (i : ℕ) → getD b i 0 < 256
 
 leAt-suc : (n : ℕ) (s : List ℕ) (i : ℕ) → leAt (suc n) s i ≡ getD s i 0 + 256 * leAt n s (suc i)
 unfolding leAt

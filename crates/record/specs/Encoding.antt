@@ -1,9 +1,9 @@
 -- The bytes of a full open record and of a close: they are read back, and a record of one of these lengths that was read has just these bytes.
 -- Assumes nothing.
-use mathlib.Core.Path.{_≡_, sym, ap, _∙_}
+use mathlib.Core.Path.{_≡_}
 use mathlib.Core.Bool.{true}
 use mathlib.Core.List.{List, _++_, append-assoc}
-use Prim.Native.Nat.{ℕ, _≤_, _<_}
+use Prim.Native.Nat.{ℕ, _≤_}
 use native.Mathlib.Omega.{arith}
 use lib.ListN.{length, drop, length-append}
 use lib.Dec.{lit≤, lit<}
@@ -13,28 +13,27 @@ use mir.Val.{SFits, ofZ}
 use mir.Facts.{fits-ofZ, toZ-ofZ}
 use borrow.Author.Tests.{le-leb}
 use Rattle.gate.specs.Outcome.{result}
-use Rattle.number.specs.Bytes.{leAt, bytesOf, i32At}
+use Rattle.number.specs.Bytes.{AllBytes, leAt, bytesOf, i32At}
 use Rattle.number.specs.Laws.{field-here, field-past, length-bytesOf}
-use Rattle.number.specs.FieldLaws.{AllBytes, split-field, split-signed}
+use Rattle.number.specs.FieldLaws.{split-field, split-signed, bytes-append, bytes-bytesOf}
 use Rattle.number.specs.IntegerLaws.{sfits-abs}
-use Rattle.record.specs.Record.{within, inRange, accepted, whole, byShape, readOf}
+use Rattle.record.specs.Record.{within, inRange, accepted, whole, byShape, readOf, openBytes, closeBytes}
 use Rattle.record.specs.Laws.{within-size}
 use Rattle.record.specs.RangeLaws.{range-parts, close-in-range}
-
--- Kind 1, length 18: depth, value, floor, ceiling.
-abbrev pub openBytes : ℕ → ℤ → ℤ → ℤ → List ℕ
-openBytes depth value floor ceiling =
-    bytesOf 2 18 ++ (bytesOf 2 1 ++ (bytesOf 2 depth ++ (bytesOf 4 (ofZ w32 value) ++ (bytesOf 4 (ofZ w32 floor) ++ bytesOf 4 (ofZ w32 ceiling)))))
-
--- Kind 2, length 6: depth.
-abbrev pub closeBytes : ℕ → List ℕ
-closeBytes depth = bytesOf 2 6 ++ (bytesOf 2 2 ++ bytesOf 2 depth)
 
 pub open-length : (d : ℕ) (v l h : ℤ) → length (openBytes d v l h) ≡ 18
 open-length d v l h = simp (length-append, length-bytesOf)
 
 pub close-length : (d : ℕ) → length (closeBytes d) ≡ 6
 close-length d = simp (length-append, length-bytesOf)
+
+pub open-bytes : (d : ℕ) (v l h : ℤ) → AllBytes (openBytes d v l h)
+open-bytes d v l h =
+    bytes-append (bytesOf 2 18) _ (bytes-bytesOf 2 18) (bytes-append (bytesOf 2 1) _ (bytes-bytesOf 2 1) (bytes-append (bytesOf 2 d) _ (bytes-bytesOf 2 d)
+    (bytes-append (bytesOf 4 (ofZ w32 v)) _ (bytes-bytesOf 4 _) (bytes-append (bytesOf 4 (ofZ w32 l)) _ (bytes-bytesOf 4 _) (bytes-bytesOf 4 _)))))
+
+pub close-bytes : (d : ℕ) → AllBytes (closeBytes d)
+close-bytes d = bytes-append (bytesOf 2 6) _ (bytes-bytesOf 2 6) (bytes-append (bytesOf 2 2) _ (bytes-bytesOf 2 2) (bytes-bytesOf 2 d))
 
 -- a number of grams within the limits fits its field
 pub fits-grams : (z : ℤ) → within z ≡ true → SFits w32 z

@@ -1,13 +1,15 @@
 -- Records, as document 01's section "Records" has them.
 use Prim.Native.Nat.{ℕ, zero, suc}
 use mathlib.Core.Bool.{Bool, cond, _&&_}
-use mathlib.Core.List.{List, [], _∷_}
+use mathlib.Core.List.{List, [], _∷_, _++_}
 use lib.ListN.{length, drop}
 use lib.Dec.{leb, eqb}
 use lib.IntN.{ℤ, pos, negsuc}
 use lib.Signed.{leZ}
 use Rattle.gate.specs.Outcome.{Outcome, refused, result}
-use Rattle.number.specs.Bytes.{leAt, i32At}
+use mir.Syntax.{w32}
+use mir.Val.{ofZ}
+use Rattle.number.specs.Bytes.{leAt, bytesOf, i32At}
 use Rattle.record.specs.declared.Fields.{Fields}
 use Rattle.record.specs.declared.Read.{Read}
 use Rattle.record.specs.declared.Read.the-variants.{Record, Refused}
@@ -92,3 +94,12 @@ recordsIn (suc n) (b ∷ s) = andThen (readOf (b ∷ s)) (λ f. recordsIn n (dro
 -- ALL RECORDS OF A CHUNK, or refusal 3. A chunk has no more records than bytes.
 unfoldable pub recordsOf : List ℕ → Outcome (List Fields)
 recordsOf s = recordsIn (length s) s
+
+-- The bytes of a full open record: kind 1, length 18, depth, value, floor, ceiling. They are read as that record (`read-open`).
+abbrev pub openBytes : ℕ → ℤ → ℤ → ℤ → List ℕ
+openBytes depth value floor ceiling =
+    bytesOf 2 18 ++ (bytesOf 2 1 ++ (bytesOf 2 depth ++ (bytesOf 4 (ofZ w32 value) ++ (bytesOf 4 (ofZ w32 floor) ++ bytesOf 4 (ofZ w32 ceiling)))))
+
+-- The bytes of a close: kind 2, length 6, depth. They are read as that record (`read-close`).
+abbrev pub closeBytes : ℕ → List ℕ
+closeBytes depth = bytesOf 2 6 ++ (bytesOf 2 2 ++ bytesOf 2 depth)

@@ -9,10 +9,10 @@ use lib.IntN.{ℤ, natAbs}
 use mir.Syntax.{w32, w64}
 use mir.Val.{SFits, ofZ, toZ}
 use mir.Facts.{fits-ofZ, toZ-ofZ}
-use Rattle.number.specs.Bytes.{leAt}
+use Rattle.number.specs.Bytes.{AllBytes, leAt}
 use Rattle.number.specs.Laws.{field-here, field-past, length-bytesOf}
 use Rattle.number.specs.IntegerLaws.{sfits-abs}
-use Rattle.number.specs.FieldLaws.{AllBytes, bytes-nil, bytes-append, bytes-bytesOf, behind, field-from, field-further}
+use Rattle.number.specs.FieldLaws.{bytes-nil, bytes-append, bytes-bytesOf, behind, field-from, field-further}
 use Rattle.figure.specs.FourModes.{Amounts, InRange, limit}
 use Rattle.figure.specs.Mode.{Mode}
 use Rattle.figure.specs.Stored.{IsStored}

@@ -8,9 +8,9 @@ use lib.ListN.{length, drop, drop-of-length-le}
 use mir.Syntax.{w64}
 use mir.Val.{Fits}
 use mir.Facts.{ofZ-toZ}
-use Rattle.number.specs.Bytes.{leAt, bytesOf, i32At, i64At}
+use Rattle.number.specs.Bytes.{AllBytes, leAt, bytesOf, i32At, i64At}
 use Rattle.number.specs.Laws.{leAt-lt}
-use Rattle.number.specs.FieldLaws.{AllBytes, split-field, split-signed}
+use Rattle.number.specs.FieldLaws.{split-field, split-signed}
 use Rattle.figure.specs.Mode.{Mode}
 use Rattle.figure.specs.Stored.{IsStored}
 use Rattle.hill.specs.Valid.{ValidSummary}

@@ -1,5 +1,5 @@
 -- The stores of a line, of an open and of a close. Assumes nothing.
-use mathlib.Core.Path.{_≡_, sym, ap, _∙_}
+use mathlib.Core.Path.{_≡_, ap, _∙_}
 use mathlib.Core.List.{List, _++_, append-assoc}
 use Prim.Native.Nat.{ℕ, _+_}
 use lib.IntN.{ℤ}
@@ -9,14 +9,14 @@ use mir.Syntax.{w32}
 use mir.Val.{ofZ}
 use Rattle.number.specs.Bytes.{bytesOf, putAt}
 use Rattle.number.specs.Laws.{stores-next, length-bytesOf}
-use Rattle.record.specs.Encoding.{openBytes, closeBytes}
+use Rattle.record.specs.Record.{openBytes, closeBytes}
 use Rattle.figure.specs.Stored.{amounts}
 use Rattle.day_table.specs.Table.{tableLine}
-use Rattle.day_table.specs.Outcomes.{dayLineBytes}
+use Rattle.day_table.specs.Outcomes.{tableLineBytes}
 
 pub line-stores : (o o₁ o₂ o₃ o₄ : List ℕ) (i d : ℕ) (v f c v′ f′ c′ : ℤ) → v′ ≡ v → f′ ≡ f → c′ ≡ c
     → o₁ ≡ putAt 2 o i d → o₂ ≡ putAt 4 o₁ (i + 2) (ofZ w32 v′) → o₃ ≡ putAt 4 o₂ (i + 6) (ofZ w32 f′) → o₄ ≡ putAt 4 o₃ (i + 10) (ofZ w32 c′)
-    → o₄ ≡ sets o i (dayLineBytes (tableLine d (amounts v f c)))
+    → o₄ ≡ sets o i (tableLineBytes (tableLine d (amounts v f c)))
 line-stores o o₁ o₂ o₃ o₄ i d v f c v′ f′ c′ ev ef ec e₁ e₂ e₃ e₄ =
     let D : List ℕ = bytesOf 2 d in
     let W : List ℕ = bytesOf 4 (ofZ w32 v) in
@@ -37,8 +37,8 @@ head-stores o o₁ o₂ o₃ i n k r e₁ e₂ e₃ =
     ∙ simp append-assoc)
 
 pub open-stores : (o o₁ o₂ o₃ : List ℕ) (i d : ℕ) (v f c v′ f′ c′ : ℤ) → v′ ≡ v → f′ ≡ f → c′ ≡ c
-    → o₁ ≡ putAt 2 o i 18 → o₂ ≡ putAt 2 o₁ (i + 2) 1 → o₃ ≡ sets o₂ (i + 4) (dayLineBytes (tableLine d (amounts v′ f′ c′))) → o₃ ≡ sets o i (openBytes d v f c)
-open-stores o o₁ o₂ o₃ i d v f c v′ f′ c′ ev ef ec e₁ e₂ e₃ = head-stores o o₁ o₂ o₃ i 18 1 (dayLineBytes (tableLine d (amounts v f c))) e₁ e₂ (e₃ ∙ rw (ev, ef, ec))
+    → o₁ ≡ putAt 2 o i 18 → o₂ ≡ putAt 2 o₁ (i + 2) 1 → o₃ ≡ sets o₂ (i + 4) (tableLineBytes (tableLine d (amounts v′ f′ c′))) → o₃ ≡ sets o i (openBytes d v f c)
+open-stores o o₁ o₂ o₃ i d v f c v′ f′ c′ ev ef ec e₁ e₂ e₃ = head-stores o o₁ o₂ o₃ i 18 1 (tableLineBytes (tableLine d (amounts v f c))) e₁ e₂ (e₃ ∙ rw (ev, ef, ec))
 
 pub close-stores : (o o₁ o₂ o₃ : List ℕ) (i d : ℕ) → o₁ ≡ putAt 2 o i 6 → o₂ ≡ putAt 2 o₁ (i + 2) 2 → o₃ ≡ putAt 2 o₂ (i + 4) d → o₃ ≡ sets o i (closeBytes d)
 close-stores o o₁ o₂ o₃ i d e₁ e₂ e₃ = head-stores o o₁ o₂ o₃ i 6 2 (bytesOf 2 d) e₁ e₂ e₃

@@ -7,9 +7,9 @@ ghost use Rattle.gate.specs.Answers.{writtenAnswer, lengthAnswered};
 ghost use Rattle.gate.specs.Promises.{Answers};
 ghost use Rattle.figure.specs.FourModes.{Amounts};
 ghost use Rattle.hill.specs.Log.{Record};
-ghost use Rattle.chunk.specs.Laws.{IsLog};
+ghost use Rattle.chunk.specs.Chunk.{IsWellFormed};
 ghost use Rattle.day_table.specs.Table.{tableOf, logOf};
-ghost use Rattle.day_table.specs.Outcomes.{dayLines, tableBytes, logBytes, writeLogOutcome, readTableOutcome};
+ghost use Rattle.day_table.specs.Outcomes.{tableLines, tableBytes, logBytes, writeLogOutcome, readTableOutcome};
 ghost use Rattle.day_table.specs.CallLaws.{Taken};
 ghost use Rattle.table.specs.Contracts.{firstNo, Opens};
 use gate::Written;
@@ -21,7 +21,7 @@ mod records;
 // The log of a table that is taken, where it fits.
 fn put_log(table: &[u8], out: &mut [u8]) -> Written
     requires { ⌜ Taken (now table) ⌝ }
-    ensures { λ r. ⌜ Answers (written (length (now (out .entry))) (logBytes (logOf (dayLines (now (table .entry)))))) (now (out .entry)) (now (out .exit)) r ⌝ }
+    ensures { λ r. ⌜ Answers (written (length (now (out .entry))) (logBytes (logOf (tableLines (now (table .entry)))))) (now (out .entry)) (now (out .exit)) r ⌝ }
 {
     let total = table.len() / 14 * 24;
     if out.len() < total {
@@ -31,11 +31,11 @@ fn put_log(table: &[u8], out: &mut [u8]) -> Written
     Written::Bytes(total)
 }
 
-// Questions 3, 13 and 10 of a table, in this order: the first that gets a "no", or 0.
-fn first_no(held: bool, nested: bool, some: bool) -> u8
-    ensures { λ r. ⌜ r ≡ firstNo held nested some ⌝ }
+// Questions 3, 13 and 10 of a table: the first that gets a "no", or 0. Their order stands here alone, so that another order can be tried.
+fn first_no(readable: bool, nested: bool, some: bool) -> u8
+    ensures { λ r. ⌜ r ≡ firstNo readable nested some ⌝ }
 {
-    if !held {
+    if !readable {
         return 3;
     }
     if !nested {
@@ -55,8 +55,8 @@ pub fn write_log(table: &[u8], out: &mut [u8]) -> Written
     if 38220 < table.len() {
         return Written::Refused(2);
     }
-    let held = (table.len() % 14 == 0) & lines::all_could_hold(table);
-    let refusal = first_no(held, lines::all_nested(table), 14 <= table.len());
+    let readable = (table.len() % 14 == 0) & lines::all_could_hold(table);
+    let refusal = first_no(readable, lines::all_nested(table), 14 <= table.len());
     if refusal != 0 {
         return Written::Refused(refusal);
     }
@@ -66,7 +66,7 @@ pub fn write_log(table: &[u8], out: &mut [u8]) -> Written
 // The table of a log that was let through, where it fits.
 fn put_table(log: &[u8], opened: u32, out: &mut [u8]) -> Written
     requires { ⌜ Opens (now log) opened ⌝ }
-    ensures { λ r. ⌜ ((xs : List (Record Amounts)) → IsLog (now (log .entry)) xs → Answers (written (length (now (out .entry))) (tableBytes (tableOf xs))) (now (out .entry)) (now (out .exit)) r) ⌝ }
+    ensures { λ r. ⌜ ((xs : List (Record Amounts)) → IsWellFormed (now (log .entry)) xs → Answers (written (length (now (out .entry))) (tableBytes (tableOf xs))) (now (out .entry)) (now (out .exit)) r) ⌝ }
 {
     let total = 14 * (opened as usize);
     if out.len() < total {

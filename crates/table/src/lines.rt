@@ -7,10 +7,9 @@ ghost use lib.Seq.{sets};
 ghost use Rattle.figure.specs.FourModes.{Amounts};
 ghost use Rattle.figure.specs.Stored.{amounts};
 ghost use Rattle.hill.specs.Log.{Record};
-ghost use Rattle.chunk.specs.Chunk.{recordOf};
-ghost use Rattle.chunk.specs.Laws.{IsLog};
+ghost use Rattle.chunk.specs.Chunk.{recordOf, IsWellFormed};
 ghost use Rattle.day_table.specs.Table.{tableLine, tableOf, nested};
-ghost use Rattle.day_table.specs.Outcomes.{dayLineIn, dayLineBytes, tableBytes, dayLines, couldHold, allCouldHold};
+ghost use Rattle.day_table.specs.Outcomes.{tableLineIn, tableLineBytes, tableBytes, tableLines, couldHold, allCouldHold};
 ghost use Rattle.number.specs.Writing.{StoredAt};
 ghost use Rattle.table.specs.Contracts.{TableFits};
 use record::Fields;
@@ -19,7 +18,7 @@ use record::Read;
 // Whether a readable full open record could hold the first line: question 3.
 fn could_hold(table: &[u8]) -> bool
     requires { ⌜ 14 ≤ length (now table) ⌝ }
-    ensures { λ r. ⌜ r ≡ couldHold (dayLineIn (now (table .entry))) ⌝ }
+    ensures { λ r. ⌜ r ≡ couldHold (tableLineIn (now (table .entry))) ⌝ }
 {
     record::in_range(
         number::read_u16(table, 0),
@@ -31,7 +30,7 @@ fn could_hold(table: &[u8]) -> bool
 
 // Question 3 of every line.
 pub fn all_could_hold(table: &[u8]) -> bool
-    ensures { λ r. ⌜ r ≡ allCouldHold (dayLines (now (table .entry))) ⌝ }
+    ensures { λ r. ⌜ r ≡ allCouldHold (tableLines (now (table .entry))) ⌝ }
 {
     let mut rest = table;
     while 14 <= rest.len() {
@@ -45,7 +44,7 @@ pub fn all_could_hold(table: &[u8]) -> bool
 
 // Question 13: the first depth is 0, and each later one is above 0 and at most one above the line before it.
 pub fn all_nested(table: &[u8]) -> bool
-    ensures { λ r. ⌜ r ≡ nested (dayLines (now (table .entry))) ⌝ }
+    ensures { λ r. ⌜ r ≡ nested (tableLines (now (table .entry))) ⌝ }
 {
     if table.len() < 14 {
         return true;
@@ -69,7 +68,7 @@ pub fn all_nested(table: &[u8]) -> bool
 // One line, 14 bytes.
 pub fn write_line(out: &mut [u8], at: usize, depth: u16, value: i32, floor: i32, ceiling: i32)
     requires { ⌜ at + 14 ≤ length (now out) ⌝ }
-    ensures { λ _. ⌜ now (out .exit) ≡ sets (now (out .entry)) at (dayLineBytes (tableLine depth (amounts value floor ceiling))) ⌝ }
+    ensures { λ _. ⌜ now (out .exit) ≡ sets (now (out .entry)) at (tableLineBytes (tableLine depth (amounts value floor ceiling))) ⌝ }
 {
     number::write_u16(out, at, depth);
     number::write_i32(out, at + 2, value);
@@ -92,7 +91,7 @@ fn write_line_of(f: Fields, out: &mut [u8], at: usize) -> usize
 // The table of a log that was let through, so that the reader cannot refuse.
 pub fn write_table(log: &[u8], out: &mut [u8])
     requires { ⌜ TableFits (now log) (length (now out)) ⌝ }
-    ensures { λ _. ⌜ ((xs : List (Record Amounts)) → IsLog (now (log .entry)) xs → now (out .exit) ≡ sets (now (out .entry)) 0 (tableBytes (tableOf xs))) ⌝ }
+    ensures { λ _. ⌜ ((xs : List (Record Amounts)) → IsWellFormed (now (log .entry)) xs → now (out .exit) ≡ sets (now (out .entry)) 0 (tableBytes (tableOf xs))) ⌝ }
 {
     let mut at: usize = 0;
     let mut rest = log;

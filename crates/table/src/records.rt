@@ -4,9 +4,9 @@ ghost use mathlib.Core.Bool.{true};
 ghost use Prim.Native.Nat.{_+_, _≤_};
 ghost use lib.ListN.{length};
 ghost use lib.Seq.{sets};
-ghost use Rattle.record.specs.Encoding.{openBytes, closeBytes};
+ghost use Rattle.record.specs.Record.{openBytes, closeBytes};
 ghost use Rattle.day_table.specs.Table.{closesTo, logOf};
-ghost use Rattle.day_table.specs.Outcomes.{dayLines, allCouldHold, logBytes};
+ghost use Rattle.day_table.specs.Outcomes.{tableLines, allCouldHold, logBytes};
 ghost use Rattle.number.specs.Writing.{StoredAt};
 use crate::lines;
 
@@ -32,8 +32,8 @@ fn write_close(out: &mut [u8], at: usize, depth: u16)
 
 // The closes from one level down to another, deepest first. It answers where they end.
 fn write_closes(out: &mut [u8], start: usize, from: u16, to: u16) -> usize
-    requires { ⌜ start + length (logBytes (closesTo to from)) ≤ length (now out) ⌝ }
-    ensures { λ r. ⌜ StoredAt (logBytes (closesTo to from)) start (now (out .entry)) (now (out .exit)) r ⌝ }
+    requires { ⌜ start + length (logBytes (closesTo from to)) ≤ length (now out) ⌝ }
+    ensures { λ r. ⌜ StoredAt (logBytes (closesTo from to)) start (now (out .entry)) (now (out .exit)) r ⌝ }
 {
     let mut at = start;
     let mut level = from;
@@ -47,9 +47,9 @@ fn write_closes(out: &mut [u8], start: usize, from: u16, to: u16) -> usize
 
 // The log of a table's lines: before each open the closes down to its depth, and after the last line those down to level 0.
 pub fn write_records(table: &[u8], out: &mut [u8])
-    requires { ⌜ allCouldHold (dayLines (now table)) ≡ true ⌝ }
-    requires { ⌜ length (logBytes (logOf (dayLines (now table)))) ≤ length (now out) ⌝ }
-    ensures { λ _. ⌜ now (out .exit) ≡ sets (now (out .entry)) 0 (logBytes (logOf (dayLines (now (table .entry))))) ⌝ }
+    requires { ⌜ allCouldHold (tableLines (now table)) ≡ true ⌝ }
+    requires { ⌜ length (logBytes (logOf (tableLines (now table)))) ≤ length (now out) ⌝ }
+    ensures { λ _. ⌜ now (out .exit) ≡ sets (now (out .entry)) 0 (logBytes (logOf (tableLines (now (table .entry))))) ⌝ }
 {
     let mut at: usize = 0;
     let mut level: u16 = 0;

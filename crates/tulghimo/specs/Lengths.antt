@@ -11,7 +11,7 @@ use lib.ListN.{length}
 use borrow.Author.Tests.{eqb-true}
 use Rattle.gate.specs.Outcome.{Outcome, refused, result, question, onward, written}
 use Rattle.gate.specs.Answers.{lengthAnswered}
-use Rattle.number.specs.FieldLaws.{AllBytes}
+use Rattle.number.specs.Bytes.{AllBytes}
 use Rattle.record.specs.Record.{recordsOf}
 use Rattle.record.specs.declared.Fields.{Fields}
 use Rattle.figure.specs.Mode.{modeOf, modeInUse}
@@ -25,7 +25,6 @@ use Rattle.summary.specs.Outcomes.{summaryBytes, mergeBytes, summariseOutcome, 
 use Rattle.figure.specs.FourModes.{Amounts}
 use Rattle.hill.specs.Log.{Record}
 use Rattle.chunk.specs.Chunk.{chunkOf, wholeLog}
-use Rattle.chunk.specs.Laws.{is-log}
 use Rattle.summary.specs.MergeBytes.{merge-accepted, merge-bytes}
 use Rattle.summary.specs.OutcomeLaws.{chunk-readable}
 use Rattle.row.specs.Row.{rowPieces}
@@ -37,9 +36,7 @@ use Rattle.merge_row.specs.CallLaws.{few-4, many-4, row-refused, is-row, row-is
 use Rattle.runs.specs.CallLaws.{runs-3750}
 use Rattle.day_table.specs.Table.{tableOf}
 use Rattle.day_table.specs.Outcomes.{tableBytes, writeLogOutcome, readTableOutcome}
-use Rattle.day_table.specs.TableLaws.{log-few, table-opened}
-use Rattle.day_table.specs.LineLaws.{length-table}
-use Rattle.day_table.specs.RoundTrips.{written-log}
+use Rattle.day_table.specs.RoundTrips.{written-log, table-short}
 use Rattle.tulghimo.specs.Interface.{Short}
 
 short-question : (n : ℕ) (t : Bool) (o : Outcome (List ℕ)) → Short (lengthAnswered o) → Short (lengthAnswered (question n t o))
@@ -125,11 +122,11 @@ short-log table cap = go (writeLogOutcome table cap) refl
     go (refused n) e = tt
     go (result w) e = omega (arith, written-log table cap e .short)
 
--- .. and the table of a log 14 for each record that it opens, at most 100,000.
+-- .. and the table of a log at most 57,344.
 pub short-table : (log : List ℕ) (cap : ℕ) → Short (lengthAnswered (readTableOutcome log cap))
 unfolding readTableOutcome
 short-table log cap = go (wholeLog log) refl
   where
     go : (o : Outcome (List (Record Amounts))) → wholeLog log ≡ o → Short (lengthAnswered (onward o (λ xs. written cap (tableBytes (tableOf xs)))))
     go (refused n) e = tt
-    go (result xs) e = short-written cap (tableBytes (tableOf xs)) (omega (arith, length-table (tableOf xs), table-opened xs, log-few xs (is-log log xs e .fine)))
+    go (result xs) e = short-written cap (tableBytes (tableOf xs)) (omega (arith, table-short log xs e))

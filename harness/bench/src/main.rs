@@ -6,18 +6,22 @@
 //! toss of a coin down to depth 2, 5 or 63, with short, full or mixed open records, and a farm's day, whose pattern is regular. In each of 200
 //! rounds each call is put once to each log, the library first and the recursion first in turns. A time is the sum of each log's best.
 //!
-//! Then merging, the plan, the runs and the work (`rows.rs`). Buffers are lent once and not cleared between calls.
+//! Then merging, the plan, the runs and the work (`rows.rs`), and the day table (`tables.rs`). Buffers are lent once and not cleared between
+//! calls.
 //!
-//! Run with `cargo run --release -p bench`, for the calls on rows alone with `cargo run --release -p bench -- rows`.
+//! Run with `cargo run --release -p bench`, for one part alone with `cargo run --release -p bench -- rows`, `beside` or `tables`.
 
 mod beside;
 mod chunks;
 mod peer;
 mod rows;
+mod tables;
 
 fn main() {
-    if std::env::args().nth(1).as_deref() != Some("rows") {
-        beside::bench();
+    let part = std::env::args().nth(1);
+    for (name, bench) in [("beside", beside::bench as fn()), ("rows", rows::bench), ("tables", tables::bench)] {
+        if part.as_ref().is_none_or(|part| part == name) {
+            bench();
+        }
     }
-    rows::bench();
 }

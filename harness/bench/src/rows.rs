@@ -14,7 +14,7 @@ use std::time::Instant;
 use tulghimo::raw;
 
 /// Microseconds for one call, which is put to each input once in a round: the best of 100 rounds.
-fn micros(mut call: impl FnMut(usize)) -> f64 {
+pub fn micros(mut call: impl FnMut(usize)) -> f64 {
     let mut best = f64::MAX;
     for _ in 0..100 {
         let start = Instant::now();

@@ -6,8 +6,8 @@ use reference::calls;
 use reference::gate::question_12;
 use tulghimo::raw;
 
-/// Longer than any result: 125 runs have 3,750 bytes.
-const AMPLE: usize = 8192;
+/// As long as the longest result: the log of 2,730 lines.
+const AMPLE: usize = 65_520;
 
 /// A call that writes bytes. It puts question 12 last, so the reference is asked once.
 fn bytes(ample: Result<Vec<u8>, u8>, call: impl Fn(&mut [u8]) -> i64) -> Vec<i64> {
@@ -60,4 +60,12 @@ pub fn finish(summary: &[u8]) -> Vec<i64> {
 
 pub fn day(log: &[u8]) -> Vec<i64> {
     numbers(calls::day(log), |figures| raw::day(log, figures))
+}
+
+pub fn write_log(table: &[u8]) -> Vec<i64> {
+    bytes(calls::write_log(table, AMPLE), |out| raw::write_log(table, out))
+}
+
+pub fn read_table(log: &[u8]) -> Vec<i64> {
+    bytes(calls::read_table(log, AMPLE), |out| raw::read_table(log, out))
 }

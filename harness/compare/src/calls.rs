@@ -1,4 +1,4 @@
-//! The library's calls with the signatures of [`reference::calls`], so that a test of document 01's figures can be put to both. Each
+//! The library's calls with the signatures of [`reference::calls`], so that a test of what the documents say can be put to both. Each
 //! lends guarded buffers; a byte that the answer does not account for is a panic.
 
 use crate::{LentBytes, LentNumbers, UNTOUCHED};
@@ -52,6 +52,14 @@ pub fn work(row: &[u8]) -> Result<(i64, i64, i64), u8> {
 
 pub fn day(log: &[u8]) -> Result<[i64; 4], u8> {
     numbers(|figures| raw::day(log, figures))
+}
+
+pub fn write_log(table: &[u8], capacity: usize) -> Result<Vec<u8>, u8> {
+    LentBytes::new(capacity).lend(|out| raw::write_log(table, out))
+}
+
+pub fn read_table(log: &[u8], capacity: usize) -> Result<Vec<u8>, u8> {
+    LentBytes::new(capacity).lend(|out| raw::read_table(log, out))
 }
 
 /// The day program, as `rt check day_program` makes it.

@@ -1,14 +1,17 @@
 //! The safe functions of the crate `tulghimo`: what they answer, in the types of their users, against the reference.
 
 use reference::calls;
-use reference::gen::{damage, forged, logs, Rng};
+use reference::gen::raw::longest_log;
+use reference::gen::{damage, forged, logs, tables, Rng};
 use reference::layout::encode;
 use reference::mode;
 use reference::plan::{encode_plan, Line};
-use tulghimo::{Kind, Mode, Refusal, Run};
+use reference::record::Open;
+use reference::table::encode_table;
+use tulghimo::{raw, Kind, Mode, Refusal, Run, TableLine};
 
-/// Longer than any result.
-const AMPLE: usize = 8192;
+/// As long as the longest result: the log of 2,730 lines.
+const AMPLE: usize = 65_520;
 
 /// Results as they are, refusals by number.
 fn by_number<T>(answer: Result<T, Refusal>) -> Result<T, u8> {
@@ -23,6 +26,45 @@ fn agree_on_log(log: &[u8]) {
     assert_eq!(read, calls::read(log));
     let day = by_number(tulghimo::day(log)).map(|f| [f.net, f.heaviest, f.eaten, f.stamp.into()]);
     assert_eq!(day, calls::day(log));
+    let table = by_number(tulghimo::read_table(log)).map(|lines| encode_table(&lines.iter().map(plain).collect::<Vec<_>>()));
+    assert_eq!(table, calls::read_table(log, AMPLE));
+}
+
+/// A line with the reference's types.
+fn plain(line: &TableLine) -> Open {
+    let [value, floor, ceiling] = [line.value, line.floor, line.ceiling].map(i64::from);
+    Open { depth: line.depth.into(), value, floor, ceiling }
+}
+
+/// The lines of a table, whether it is taken or not; bytes after the last whole one are left out.
+fn lines(table: &[u8]) -> Vec<TableLine> {
+    let grams = |bytes: &[u8]| i32::from_le_bytes(bytes.try_into().expect("4 bytes"));
+    let of_one = |line: &[u8]| TableLine {
+        depth: u16::from_le_bytes([line[0], line[1]]),
+        value: grams(&line[2..6]),
+        floor: grams(&line[6..10]),
+        ceiling: grams(&line[10..14]),
+    };
+    table.chunks_exact(14).map(of_one).collect()
+}
+
+fn agree_on_table(table: &[u8]) {
+    let whole_lines = &table[..table.len() / 14 * 14];
+    assert_eq!(by_number(tulghimo::write_log(&lines(table))), calls::write_log(whole_lines, AMPLE));
+}
+
+#[test]
+fn random_tables_and_refused_ones() {
+    let mut rng = Rng::new(0x5afd);
+    for round in 0..500 {
+        let lines = if round % 50 == 0 { tables::MOST_LINES } else { 40 };
+        let table = tables::any_table(&mut rng, lines);
+        agree_on_table(&encode_table(&table));
+        agree_on_table(&tables::damaged(&mut rng, &table));
+        let refusal = rng.pick(&[2, 3, 10, 13]);
+        agree_on_table(&tables::with_refusal(&mut rng, refusal));
+    }
+    agree_on_log(&longest_log());
 }
 
 fn agree_on_chunk(chunk: &[u8], mode: Mode) {
@@ -111,14 +153,19 @@ fn the_header_has_the_same_numbers() {
         let constant = format!("TULGHIMO_{} = {}", in_capitals(&format!("{mode:?}")), mode.number());
         assert!(has(header, &constant), "{constant}");
     }
-    assert!(header.contains(&format!("TULGHIMO_LONGEST_SUMMARY = {},", tulghimo::raw::LONGEST_SUMMARY)));
-    assert_eq!((tulghimo::raw::LONGEST_PLAN, tulghimo::raw::LONGEST_RUNS), (1500, 3750));
+    assert!(header.contains(&format!("TULGHIMO_LONGEST_SUMMARY = {},", raw::LONGEST_SUMMARY)));
+    assert_eq!((raw::LONGEST_PLAN, raw::LONGEST_RUNS), (1500, 3750));
+    assert_eq!((raw::LONGEST_TABLE_TAKEN, raw::LONGEST_LOG_WRITTEN, raw::LONGEST_TABLE_READ), (38_220, 65_520, 57_344));
     for constant in [
         "LONGEST_CHUNK = 65536,",
         "LINE = 12,",
         "LONGEST_PLAN = 125 * TULGHIMO_LINE,",
         "RUN = 30,",
-        "LONGEST_RUNS = 125 * TULGHIMO_RUN\n",
+        "LONGEST_RUNS = 125 * TULGHIMO_RUN,",
+        "TABLE_LINE = 14,",
+        "LONGEST_TABLE_TAKEN = 2730 * TULGHIMO_TABLE_LINE,",
+        "LONGEST_LOG_WRITTEN = 2730 * (18 + 6),",
+        "LONGEST_TABLE_READ = 4096 * TULGHIMO_TABLE_LINE ",
     ] {
         assert!(header.contains(&format!("TULGHIMO_{constant}")), "{constant}");
     }

@@ -3,12 +3,15 @@
 use crate::calls::{Call, Input};
 use std::panic::{catch_unwind, AssertUnwindSafe};
 
+/// The highest number of a refusal.
+const HIGHEST: usize = 13;
+
 /// The answers of one call. `refused[n]` counts refusal n.
 #[derive(Clone, Debug, Default, PartialEq, Eq)]
 pub struct Answers {
     pub calls: u64,
     pub results: u64,
-    pub refused: [u64; 13],
+    pub refused: [u64; HIGHEST + 1],
     pub differences: u64,
 }
 
@@ -16,7 +19,7 @@ impl Answers {
     fn note(&mut self, answer: i64) {
         self.calls += 1;
         match usize::try_from(-answer) {
-            Ok(number @ 1..=12) => self.refused[number] += 1,
+            Ok(number @ 1..=HIGHEST) => self.refused[number] += 1,
             _ => self.results += 1,
         }
     }
@@ -63,24 +66,28 @@ mod tests {
     use crate::inputs::inputs;
 
     #[test]
-    fn a_few_rounds_without_a_difference() {
+    fn rounds_without_a_difference_and_with_every_refusal() {
         let mut answers = vec![Answers::default(); CALLS.len()];
-        for seed in 0..400 {
+        for seed in 0..4000 {
             for input in inputs(seed) {
                 assert_eq!(put(CALLS, &input, &mut answers), Vec::<String>::new(), "seed {seed}");
             }
         }
-        // Each call both gave results and refused.
+        // Each call gave results and every refusal that it has, and no other.
         for (call, answers) in CALLS.iter().zip(&answers) {
-            assert!(answers.results > 0 && answers.results < answers.calls, "{}: {answers:?}", call.name);
+            assert!(answers.results > 0, "{}: {answers:?}", call.name);
+            for number in 1..=HIGHEST {
+                assert_eq!(answers.refused[number] > 0, call.refuses.contains(&number), "{}, {number}: {answers:?}", call.name);
+            }
         }
     }
 
     #[test]
     fn a_difference_is_told_with_its_input() {
-        let wrong = Call { name: "wrong", takes: Takes::Piece, compare: |given| vec![[0, -5][given.first.len()]] };
-        let right = Call { name: "right", takes: Takes::Piece, compare: |_| vec![0] };
-        let other = Call { name: "other", takes: Takes::Row, compare: |_| panic!("not asked") };
+        let call = |name, takes, compare| Call { name, takes, refuses: &[5], compare };
+        let wrong = call("wrong", Takes::Piece, |given| vec![[0, -5][given.first.len()]]);
+        let right = call("right", Takes::Piece, |_| vec![0]);
+        let other = call("other", Takes::Row, |_| panic!("not asked"));
         let mut answers = vec![Answers::default(); 3];
         let calls = [wrong, right, other];
         for length in 0..3 {

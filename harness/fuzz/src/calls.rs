@@ -14,6 +14,8 @@ pub enum Takes {
     Pieces,
     /// A row as one slice.
     Row,
+    /// A day table.
+    Table,
 }
 
 /// What a call is given. `second` is the right one of two pieces, and empty elsewhere.
@@ -25,25 +27,42 @@ pub struct Input {
     pub second: Vec<u8>,
 }
 
-/// A call: its name, what it takes, and its comparison with the reference, which gives the library's answers.
+/// A call: its name, what it takes, the refusals that it can give, in the order in which they are asked, and its comparison with the
+/// reference, which gives the library's answers.
 pub struct Call {
     pub name: &'static str,
     pub takes: Takes,
+    pub refuses: &'static [usize],
     pub compare: fn(&Input) -> Vec<i64>,
 }
 
 /// Every call of the library.
 pub const CALLS: &[Call] = &[
-    Call { name: "read", takes: Takes::Chunk, compare: |given| agree::read(&given.first) },
-    Call { name: "summarise", takes: Takes::Chunk, compare: |given| agree::summarise(&given.first, given.mode) },
-    Call { name: "merge", takes: Takes::Pieces, compare: |given| agree::merge(&given.first, &given.second) },
-    Call { name: "merge_row", takes: Takes::Row, compare: |given| agree::merge_row(&given.first) },
-    Call { name: "plan", takes: Takes::Row, compare: |given| agree::plan(&given.first) },
-    Call { name: "runs", takes: Takes::Row, compare: |given| agree::runs(&given.first) },
-    Call { name: "work", takes: Takes::Row, compare: |given| agree::work(&given.first) },
-    Call { name: "finish", takes: Takes::Piece, compare: |given| agree::finish(&given.first) },
-    Call { name: "day", takes: Takes::Chunk, compare: |given| agree::day(&given.first) },
+    Call { name: "read", takes: Takes::Chunk, refuses: &[3], compare: |given| agree::read(&given.first) },
+    Call {
+        name: "summarise",
+        takes: Takes::Chunk,
+        refuses: &[1, 2, 3, 12],
+        compare: |given| agree::summarise(&given.first, given.mode),
+    },
+    Call { name: "merge", takes: Takes::Pieces, refuses: &[5, 6, 12], compare: |given| agree::merge(&given.first, &given.second) },
+    Call { name: "merge_row", takes: Takes::Row, refuses: &[4, 5, 6, 12], compare: |given| agree::merge_row(&given.first) },
+    Call { name: "plan", takes: Takes::Row, refuses: OF_PLAN_AND_RUNS, compare: |given| agree::plan(&given.first) },
+    Call { name: "runs", takes: Takes::Row, refuses: OF_PLAN_AND_RUNS, compare: |given| agree::runs(&given.first) },
+    Call { name: "work", takes: Takes::Row, refuses: &[4, 5, 6, 7, 8, 9, 10, 11], compare: |given| agree::work(&given.first) },
+    Call { name: "finish", takes: Takes::Piece, refuses: &[5, 7, 8, 9, 10, 11], compare: |given| agree::finish(&given.first) },
+    Call { name: "day", takes: Takes::Chunk, refuses: &[2, 3, 7, 8, 10, 11], compare: |given| agree::day(&given.first) },
+    Call { name: "write_log", takes: Takes::Table, refuses: &[2, 3, 13, 10, 12], compare: |given| agree::write_log(&given.first) },
+    Call {
+        name: "read_table",
+        takes: Takes::Chunk,
+        refuses: &[2, 3, 7, 8, 10, 11, 12],
+        compare: |given| agree::read_table(&given.first),
+    },
 ];
+
+/// "plan and runs 4 to 12"
+const OF_PLAN_AND_RUNS: &[usize] = &[4, 5, 6, 7, 8, 9, 10, 11, 12];
 
 /// The words that `--replay` takes after the call's name.
 impl fmt::Display for Input {

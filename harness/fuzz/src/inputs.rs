@@ -1,15 +1,16 @@
-//! The inputs of a round: logs, cuts, lists of merges, forged and damaged bytes, from the generators of the reference.
+//! The inputs of a round: logs, cuts, lists of merges, day tables, forged and damaged bytes, from the generators of the reference.
 
 use crate::calls::{Input, Takes};
 use reference::calls;
-use reference::gen::{damage, forged, logs, Rng};
+use reference::gen::{damage, forged, logs, tables, Rng};
 use reference::layout::encode;
 use reference::mode::Mode;
 use reference::record::Record;
 use reference::replay::Stretches;
+use reference::table::encode_table;
 
-/// Longer than any summary.
-const AMPLE: usize = 4096;
+/// As long as the longest result: the log of 2,730 lines.
+const AMPLE: usize = 65_520;
 
 fn chunk(mode: u32, bytes: Vec<u8>) -> Input {
     Input { takes: Takes::Chunk, mode, first: bytes, second: Vec::new() }
@@ -27,16 +28,22 @@ fn row(bytes: Vec<u8>) -> Input {
     Input { takes: Takes::Row, mode: 0, first: bytes, second: Vec::new() }
 }
 
+fn table(bytes: Vec<u8>) -> Input {
+    Input { takes: Takes::Table, mode: 0, first: bytes, second: Vec::new() }
+}
+
 /// The inputs that a seed gives.
 pub fn inputs(seed: u64) -> Vec<Input> {
     let rng = &mut Rng::new(seed);
-    match rng.below(9) {
+    match rng.below(11) {
         0 => whole_log(rng),
         1 => faulty_log(rng),
         2 | 3 => cut_log(rng),
         4 => merge_list(rng),
         5 | 6 => forged_pieces(rng),
         7 => forged_row(rng),
+        8 => day_table(rng),
+        9 => refused_table(rng),
         _ => noise(rng),
     }
 }
@@ -182,13 +189,33 @@ fn forged_row(rng: &mut Rng) -> Vec<Input> {
     of_summaries(rng, mode, summaries.iter().map(encode).collect())
 }
 
+/// A table that a log can have, as it is and with damage to its lines or its bytes, and the log that is written from it.
+fn day_table(rng: &mut Rng) -> Vec<Input> {
+    let count = size(rng, 40, tables::MOST_LINES);
+    let lines = tables::any_table(rng, count);
+    let bytes = encode_table(&lines);
+    let log = calls::write_log(&bytes, AMPLE).expect("a table that a log can have");
+    let mut inputs = vec![table(tables::damaged(rng, &lines))];
+    inputs.extend(with_damage(rng, table(bytes)));
+    let log = chunk(any_mode(rng), log);
+    inputs.extend(with_damage(rng, log));
+    inputs
+}
+
+/// A table that is refused, and the same with damage.
+fn refused_table(rng: &mut Rng) -> Vec<Input> {
+    let refusal = rng.pick(&[2, 3, 10, 13]);
+    let input = table(tables::with_refusal(rng, refusal));
+    with_damage(rng, input)
+}
+
 /// Bytes without any order, short and long.
 fn noise(rng: &mut Rng) -> Vec<Input> {
     let longest = rng.pick(&[8, 24, 80]);
     let bytes = damage::noise(rng, longest);
     let long = vec![bytes.len() as u8; rng.pick(&[65_535, 65_536, 65_537, 70_000])];
     let mut inputs = vec![piece(bytes.clone()), row(bytes.clone()), pieces(bytes.clone(), damage::noise(rng, longest))];
-    inputs.push(chunk(any_mode(rng), bytes));
+    inputs.extend([table(bytes.clone()), chunk(any_mode(rng), bytes)]);
     if rng.one_in(50) {
         inputs.extend([chunk(any_mode(rng), long.clone()), piece(long.clone()), row(long)]);
     }

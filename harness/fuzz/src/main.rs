@@ -85,8 +85,7 @@ fn report(answers: &[Answers]) -> u64 {
     println!("{:<10} {:>12} {:>12}  refused", "call", "calls", "results");
     let mut sum = Answers::default();
     for (call, answers) in CALLS.iter().zip(answers) {
-        let refused: Vec<String> =
-            (1..13).filter(|&n| answers.refused[n] > 0).map(|n| format!("{n}: {}", answers.refused[n])).collect();
+        let refused: Vec<String> = call.refuses.iter().map(|&number| format!("{number}: {}", answers.refused[number])).collect();
         println!("{:<10} {:>12} {:>12}  {}", call.name, answers.calls, answers.results, refused.join(", "));
         sum.add(answers);
     }

@@ -1,4 +1,4 @@
-//! The calls of document 01, as functions of the lent bytes: the result or the
+//! The calls of documents 01 and 02, as functions of the lent bytes: the result or the
 //! number of the refusal. A buffer is only its capacity here: a refusal leaves it
 //! untouched, a result is written at its front and "bytes after it stay".
 
@@ -10,10 +10,11 @@ use crate::layout::encode;
 use crate::merge;
 use crate::mode::{stored, Mode};
 use crate::plan::{encode_plan, plan_by_levels};
-use crate::record::{read_first, Record, CLOSE, OPEN};
+use crate::record::{encode_all, read_first, Record, CLOSE, OPEN};
 use crate::row;
 use crate::run::{encode_run, run_of};
 use crate::summary::{self, summary_of, Summary};
+use crate::table::{self, encode_table, log_of, table_of};
 use crate::tree::log_figure;
 use crate::work;
 
@@ -87,9 +88,7 @@ pub fn work(row: &[u8]) -> Result<(i64, i64, i64), u8> {
 /// The day's figures, "net, heaviest, eaten and stamp": "the day program, and any
 /// later call on a whole log, 2, 3 and 7 to 11".
 pub fn day(log: &[u8]) -> Result<[i64; 4], u8> {
-    question_2(log)?;
-    let records = question_3(log)?;
-    questions_7_to_11_of_log(&records)?;
+    let records = whole_log(log)?;
     Ok(Mode::ALL.map(|mode| log_figure(mode, &records)))
 }
 
@@ -101,6 +100,30 @@ pub fn day_text(log: &[u8]) -> Vec<u8> {
         Err(number) => format!("refused {number}\n"),
     };
     text.into_bytes()
+}
+
+/// Document 02, L1: "We need the log written from it". 2 and 3; "13, after 3"; 10; 12.
+pub fn write_log(table: &[u8], capacity: usize) -> Result<Vec<u8>, u8> {
+    table::question_2(table)?;
+    let lines = table::question_3(table)?;
+    table::question_13(&lines)?;
+    table::question_10(&lines)?;
+    question_12(encode_all(&log_of(&lines)), capacity)
+}
+
+/// Document 02, L1: "Reading back puts 2, 3, 7 to 11 and 12 as in document 01 and has no
+/// limit of lines."
+pub fn read_table(log: &[u8], capacity: usize) -> Result<Vec<u8>, u8> {
+    let records = whole_log(log)?;
+    question_12(encode_table(&table_of(&records)), capacity)
+}
+
+/// The records of a whole log, by questions 2, 3 and 7 to 11.
+fn whole_log(log: &[u8]) -> Result<Vec<Record>, u8> {
+    question_2(log)?;
+    let records = question_3(log)?;
+    questions_7_to_11_of_log(&records)?;
+    Ok(records)
 }
 
 /// The summaries of a row, by questions 4, 5 and 6.

@@ -1,9 +1,10 @@
 //! The reference tally: document 01 ("The feed log, its hills and its join
-//! plan") and the tree recursion of METR 2006-64, written out slowly and plainly.
+//! plan"), the tree recursion of METR 2006-64, and what document 02 ("Changes
+//! customers asked for later") added, written out slowly and plainly.
 //!
 //! Everything else is compared with this crate, so it is meant to be read beside
-//! document 01. Each function quotes the sentence that it puts into code. Records
-//! find their closes and their holders by search, never by a stack.
+//! the two documents. Each function quotes the sentence that it puts into code.
+//! Records find their closes and their holders by search, never by a stack.
 //!
 //! | Section of document 01     | Module                                   |
 //! |----------------------------|------------------------------------------|
@@ -14,8 +15,12 @@
 //! | The row of demand 3        | [`replay`]                               |
 //! | The questions at the gate  | [`gate`], [`calls`]                      |
 //!
-//! [`gen`] makes the inputs that tests try: logs, cuts, merge lists, damaged bytes
-//! and summaries that no chunk makes.
+//! | Request of document 02     | Module                                   |
+//! |----------------------------|------------------------------------------|
+//! | L1                         | [`table`], [`calls`]                     |
+//!
+//! [`gen`] makes the inputs that tests try: logs, cuts, merge lists, day tables,
+//! damaged bytes and summaries that no chunk makes.
 
 pub mod bytes;
 pub mod calls;
@@ -31,5 +36,6 @@ pub mod replay;
 pub mod row;
 pub mod run;
 pub mod summary;
+pub mod table;
 pub mod tree;
 pub mod work;

@@ -2,26 +2,26 @@
 use mathlib.Core.List.{List}
 use Prim.Native.Nat.{ℕ}
 use native.Mathlib.Omega.{arith}
+use borrow.Author.Needs.{needs}
 use denote.Ref.{now}
 use Rattle.day_table.specs.Table.{logOf}
-use Rattle.day_table.specs.Outcomes.{dayLines, logBytes}
-use Rattle.table.specs.CallLaws.{all-stored, none-stored, log-total}
-use borrow.Author.Needs.{needs}
+use Rattle.day_table.specs.Outcomes.{tableLines, logBytes}
+use Rattle.table.specs.CallLaws.{all-stored, too-short-stored, log-total}
 use Rattle.table.proofs.put_log.Statement.{statement}
 use Rattle.table.proofs.put_log.Tie as tie
 
 -- what is to be written
 abbrev log : tie.Start → List ℕ
-log a = logBytes (logOf (dayLines (now (a .args .table))))
+log a = logBytes (logOf (tableLines (now (a .args .table))))
 
 mul-total : tie.Need-mul-total
 mul-total c = search needs
 
 returns : tie.Need-returns
-returns c = let a = c .before .before .before in none-stored (log a) (now (a .args .out)) (log-total (a .pre)) (c .if1 .taken)
+returns c = let a = c .before .before .before in too-short-stored (log a) (now (a .args .out)) (log-total (a .pre)) (c .if1 .taken)
 
 write-records-requires : tie.Need-write-records-requires
-write-records-requires c κs = let a = c .before .before .before .before in (a .pre .held, omega (arith, log-total (a .pre), c .before .if1 .left))
+write-records-requires c κs = let a = c .before .before .before .before in (a .pre .readable, omega (arith, log-total (a .pre), c .before .if1 .left))
 
 same-length : tie.Need-same-length
 same-length c = search needs

@@ -1,11 +1,11 @@
 -- `table::read_table` meets its contract: the log is asked, then its table is written. Assumes nothing.
 use mathlib.Core.Path.{_≡_, sym, ap, _∙_}
+use borrow.Author.Needs.{needs}
 use denote.Ref.{now}
 use Rattle.gate.specs.Outcome.{result}
 use Rattle.gate.specs.Promises.{refuses, comes-to}
 use Rattle.whole_log.specs.Gate.{askOutcome, askedAnswer}
-use Rattle.table.specs.CallLaws.{log-opens, read-refused, read-is}
-use borrow.Author.Needs.{needs}
+use Rattle.table.specs.CallLaws.{log-opens, read-refused, table-is}
 use Rattle.table.proofs.read_table.Statement.{statement}
 use Rattle.table.proofs.read_table.Tie as tie
 
@@ -29,7 +29,7 @@ same-length : tie.Need-same-length
 same-length c = search needs
 
 returns : tie.Need-returns
-returns c = let o = log-opens (now (c .before .before .before .before .before .before .before .before .before .before .args .log)) (opened (c .before .before .before .before)) in comes-to (read-is (now (c .before .before .before .before .before .before .before .before .before .before .args .log)) _ (o .is)) (c .before .before .put-table .ensures (o .records) (o .is))
+returns c = let o = log-opens (now (c .before .before .before .before .before .before .before .before .before .before .args .log)) (opened (c .before .before .before .before)) in comes-to (table-is (now (c .before .before .before .before .before .before .before .before .before .before .args .log)) _ (o .is)) (c .before .before .put-table .ensures (o .records) (o .is .formed))
 
 returns-2 : tie.Need-returns-2
 returns-2 c = let a = c .before .before .before .before .before .before .args in refuses (now (a .out)) (read-refused (now (a .log)) _ (ap askedAnswer (sym (c .before .asked2 .given .1)) ∙ c .before .before .before .ask .ensures))

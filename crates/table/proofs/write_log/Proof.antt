@@ -1,9 +1,9 @@
 -- `table::write_log` meets its contract: the questions in their order, and then the log. Assumes nothing.
+use borrow.Author.Needs.{needs}
 use denote.Ref.{now}
 use Rattle.gate.specs.Promises.{refuses, comes-to}
 use Rattle.day_table.specs.CallLaws.{too-long, taken-is}
-use Rattle.table.specs.CallLaws.{Says, says}
-use borrow.Author.Needs.{needs}
+use Rattle.table.specs.CallLaws.{Settled, settled}
 use Rattle.table.proofs.write_log.Statement.{statement}
 use Rattle.table.proofs.write_log.Tie as tie
 
@@ -19,9 +19,9 @@ all-nested-requires c κs = search needs
 first-no-requires : tie.Need-first-no-requires
 first-no-requires c κs = search needs
 
--- what the number says
-told : (c : tie.After-first-no) → Says (now (c .before .before .before .before .before .before .args .table)) (c .first-no .result)
-told c = says (now (c .before .before .before .before .before .before .args .table)) (c .before .before .before .if1 .left) (c .before .before .all-could-hold .ensures) (c .before .all-nested .ensures) (c .first-no .ensures)
+-- what the number settles
+told : (c : tie.After-first-no) → Settled (now (c .before .before .before .before .before .before .args .table)) (c .first-no .result)
+told c = settled (now (c .before .before .before .before .before .before .args .table)) (c .before .before .before .if1 .left) (c .before .before .all-could-hold .ensures) (c .before .all-nested .ensures) (c .first-no .ensures)
 
 returns-2 : tie.Need-returns-2
 returns-2 c = let a = c .before .before .before .before .before .before .before .args in refuses (now (a .out)) (told (c .before) .no (c .if2 .taken) _)

@@ -3,11 +3,17 @@
 
 /// An open record of length 18.
 pub fn open(depth: u16, value: i32, floor: i32, ceiling: i32) -> Vec<u8> {
-    let mut out = words(&[18, 1, depth]);
-    for grams in [value, floor, ceiling] {
-        out.extend(grams.to_le_bytes());
-    }
-    out
+    [words(&[18, 1, depth]), grams(&[value, floor, ceiling])].concat()
+}
+
+/// A line of a day table.
+pub fn line(depth: u16, value: i32, floor: i32, ceiling: i32) -> Vec<u8> {
+    [words(&[depth]), grams(&[value, floor, ceiling])].concat()
+}
+
+/// Numbers of 32 bits.
+fn grams(numbers: &[i32]) -> Vec<u8> {
+    numbers.iter().flat_map(|number| number.to_le_bytes()).collect()
 }
 
 /// An open record of length 10.

@@ -8,13 +8,13 @@ use borrow.Author.Tests.{not-true, not-false}
 use denote.Ref.{now}
 use Rattle.number.specs.Laws.{part-rest}
 use Rattle.day_table.specs.Table.{nestedAfter, nested}
-use Rattle.day_table.specs.Outcomes.{dayLines}
+use Rattle.day_table.specs.Outcomes.{tableLines}
 use Rattle.table.specs.LoopLaws.{nested-none, nested-not, nested-first, after-none, after-not, after-first}
 use Rattle.table.proofs.lines.all_nested.Statement.{statement}
 use Rattle.table.proofs.lines.all_nested.Tie as tie
 
 abbrev Inv-loop : tie.InvT-loop
-Inv-loop table before₀ rest₀ before rest = (nested (dayLines table) ≡ nestedAfter before (dayLines rest)) × (before < 65_536)
+Inv-loop table before₀ rest₀ before rest = (nested (tableLines table) ≡ nestedAfter before (tableLines rest)) × (before < 65_536)
 
 abbrev μ-loop : tie.MeasureT-loop
 μ-loop table before₀ rest₀ before rest = length rest

@@ -1,8 +1,8 @@
 -- `table::lines::could_hold` meets its contract. Assumes nothing.
 use mathlib.Core.Path.{_∙_}
+use borrow.Author.Needs.{needs}
 use mir.Syntax.{w32}
 use mir.Facts.{toZ-ofZ}
-use borrow.Author.Needs.{needs}
 use Rattle.table.proofs.lines.could_hold.Statement.{statement}
 use Rattle.table.proofs.lines.could_hold.Tie as tie
 

@@ -1,8 +1,8 @@
 -- `table::lines::write_line` meets its contract. Assumes nothing.
+use borrow.Author.Needs.{needs}
 use denote.Ref.{now}
 use mir.Facts.{toZ-ofZ}
 use Rattle.table.specs.StoreLaws.{line-stores}
-use borrow.Author.Needs.{needs}
 use Rattle.table.proofs.lines.write_line.Statement.{statement}
 use Rattle.table.proofs.lines.write_line.Tie as tie
 

@@ -1,11 +1,11 @@
 -- `table::lines::write_line_of` meets its contract. Assumes nothing.
-use lib.ListN.{length}
-use denote.Ref.{now}
 use mathlib.Core.Path.{_≡_}
+use lib.ListN.{length}
+use borrow.Author.Needs.{needs}
+use denote.Ref.{now}
 use mir.Syntax.{w32}
 use mir.Val.{toZ, ofZ}
-use Rattle.table.specs.LoopLaws.{line-fits, line-stored, none-stored}
-use borrow.Author.Needs.{needs}
+use Rattle.table.specs.LoopLaws.{line-fits, line-stored, close-stored}
 use Rattle.table.proofs.lines.write_line_of.Statement.{statement}
 use Rattle.table.proofs.lines.write_line_of.Tie as tie
 
@@ -27,7 +27,7 @@ returns c =
     line-stored (a .args .f) (a .args .at) (now (a .args .out)) _ _ _ _ (c .before .before .before .before .before .before .before .if1 .taken) (c .before .before .write-line .ensures) v l h
 
 returns-2 : tie.Need-returns-2
-returns-2 c = let a = c .before .before .before in none-stored (a .args .f) (a .args .at) (now (a .args .out)) (c .if1 .left)
+returns-2 c = let a = c .before .before .before in close-stored (a .args .f) (a .args .at) (now (a .args .out)) (c .if1 .left)
 
 pub write-line-of-spec : {M : Type 1} → statement M
 write-line-of-spec =

@@ -9,12 +9,12 @@ use Rattle.number.specs.Laws.{part-rest}
 use Rattle.record.specs.Record.{readOf, answerOf}
 use Rattle.record.specs.Laws.{sound}
 use Rattle.record.specs.Readable.{not-refused}
-use Rattle.table.specs.LoopLaws.{Reading, begin, fits, next, all-written, no-bytes}
+use Rattle.table.specs.LoopLaws.{TableSoFar, table-begun, line-room, table-next, all-written, no-bytes}
 use Rattle.table.proofs.lines.write_table.Statement.{statement}
 use Rattle.table.proofs.lines.write_table.Tie as tie
 
 abbrev Inv-loop : tie.InvT-loop
-Inv-loop log out₀ at₀ rest₀ out at rest = Reading log rest out₀ at out
+Inv-loop log out₀ at₀ rest₀ out at rest = TableSoFar log rest out₀ at out
 
 abbrev μ-loop : tie.MeasureT-loop
 μ-loop log out₀ at₀ rest₀ out at rest = length rest
@@ -24,7 +24,7 @@ read : (c : tie.After-f Inv-loop μ-loop) → readOf (now (c .before .before .be
 read c = sym (c .before .before .read-first .ensures) ∙ ap answerOf (c .f .given .1)
 
 loop-holds : tie.Need-loop-holds Inv-loop μ-loop
-loop-holds c = let p = c .before .before .pre in begin (p .is) (p .fits)
+loop-holds c = let p = c .before .before .pre in table-begun (p .is) (p .fits)
 
 read-first-requires : tie.Need-read-first-requires Inv-loop μ-loop
 read-first-requires c κs = search needs
@@ -47,7 +47,7 @@ cast-length : tie.Need-cast-length Inv-loop μ-loop
 cast-length c = search needs
 
 write-line-of-requires : tie.Need-write-line-of-requires Inv-loop μ-loop
-write-line-of-requires c κs = fits (c .before .before .before .before .before .before .before .loop .inv) (read (c .before .before .before))
+write-line-of-requires c κs = line-room (c .before .before .before .before .before .before .before .loop .inv) (read (c .before .before .before))
 
 sub-rest : tie.Need-sub-rest Inv-loop μ-loop
 sub-rest c = sound _ _ (read (c .before .before .before .before .before .before)) .inside
@@ -68,7 +68,7 @@ loop-again : tie.Need-loop-again Inv-loop μ-loop
 loop-again c =
     let l = c .before .before .before .before .before .before .before .before .before .before .before .loop in
     let f = c .before .before .before .before .before .before .before .f .given .0 .0 in
-    rw (part-rest (f .length) (now (l .rest))) (next (l .inv) (read (c .before .before .before .before .before .before .before)) (c .before .before .before .write-line-of .ensures))
+    rw (part-rest (f .length) (now (l .rest))) (table-next (l .inv) (read (c .before .before .before .before .before .before .before)) (c .before .before .before .write-line-of .ensures))
 
 same-length-2 : tie.Need-same-length-2 Inv-loop μ-loop
 same-length-2 c = c .before .loop .inv .lines .size

@@ -1,7 +1,7 @@
 -- `table::records::write_close` meets its contract. Assumes nothing.
+use borrow.Author.Needs.{needs}
 use denote.Ref.{now}
 use Rattle.table.specs.StoreLaws.{close-stores}
-use borrow.Author.Needs.{needs}
 use Rattle.table.proofs.records.write_close.Statement.{statement}
 use Rattle.table.proofs.records.write_close.Tie as tie
 

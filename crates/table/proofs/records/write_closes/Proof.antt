@@ -1,10 +1,11 @@
-use Prim.Native.Nat.{_+_, _-_, _≤_}
-use lib.ListN.{length}
 -- `table::records::write_closes` meets its contract: what is left are the closes below the level reached. Assumes nothing.
+use Prim.Native.Nat.{_+_, _-_, _≤_}
 use native.Mathlib.Omega.{arith}
+use lib.ListN.{length}
 use borrow.Author.Needs.{needs}
 use Rattle.number.specs.Writing.{Writing, begin, fits, next, done}
-use Rattle.record.specs.Encoding.{closeBytes, close-length}
+use Rattle.record.specs.Record.{closeBytes}
+use Rattle.record.specs.Encoding.{close-length}
 use Rattle.day_table.specs.Table.{closesTo}
 use Rattle.day_table.specs.Outcomes.{logBytes}
 use Rattle.table.specs.LoopLaws.{closes-turn, closes-end}
@@ -12,7 +13,7 @@ use Rattle.table.proofs.records.write_closes.Statement.{statement}
 use Rattle.table.proofs.records.write_closes.Tie as tie
 
 abbrev Inv-loop : tie.InvT-loop
-Inv-loop out₀ start from to at₀ level₀ out at level = Writing (logBytes (closesTo to from)) start out₀ (logBytes (closesTo to level)) at out
+Inv-loop out₀ start from to at₀ level₀ out at level = Writing (logBytes (closesTo from to)) start out₀ (logBytes (closesTo level to)) at out
 
 abbrev μ-loop : tie.MeasureT-loop
 μ-loop out₀ start from to at₀ level₀ out at level = level

@@ -1,8 +1,8 @@
-use mir.Facts.{toZ-ofZ}
 -- `table::records::write_open` meets its contract. Assumes nothing.
-use denote.Ref.{now}
-use Rattle.table.specs.StoreLaws.{open-stores}
 use borrow.Author.Needs.{needs}
+use denote.Ref.{now}
+use mir.Facts.{toZ-ofZ}
+use Rattle.table.specs.StoreLaws.{open-stores}
 use Rattle.table.proofs.records.write_open.Statement.{statement}
 use Rattle.table.proofs.records.write_open.Tie as tie
 

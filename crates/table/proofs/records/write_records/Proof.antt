@@ -10,13 +10,13 @@ use Rattle.number.specs.Laws.{part-rest}
 use Rattle.number.specs.Word.{back}
 use Rattle.number.specs.Writing.{StoredAt}
 use Rattle.day_table.specs.Table.{logOf}
-use Rattle.day_table.specs.Outcomes.{dayLines, logBytes}
-use Rattle.table.specs.LoopLaws.{Lines, no-line-yet, low, closes-fit, open-fits, line-written, last-fit, log-written}
+use Rattle.day_table.specs.Outcomes.{tableLines, logBytes}
+use Rattle.table.specs.LoopLaws.{LogSoFar, no-line-yet, low, closes-fit, open-fits, line-written, last-fit, log-written}
 use Rattle.table.proofs.records.write_records.Statement.{statement}
 use Rattle.table.proofs.records.write_records.Tie as tie
 
 abbrev Inv-loop : tie.InvT-loop
-Inv-loop table out₀ at₀ level₀ rest₀ out at level rest = Lines table rest out₀ at level out
+Inv-loop table out₀ at₀ level₀ rest₀ out at level rest = LogSoFar table rest out₀ at level out
 
 abbrev μ-loop : tie.MeasureT-loop
 μ-loop table out₀ at₀ level₀ rest₀ out at level rest = length rest
@@ -72,7 +72,7 @@ write-closes-requires-2 : tie.Need-write-closes-requires-2 Inv-loop μ-loop
 write-closes-requires-2 c κs = last-fit (c .before .before .loop .inv) (c .before .loop-test .left)
 
 -- all is written
-written : (c : tie.After-slice-known4 Inv-loop μ-loop) → let a = c .before .before .before .before .before .before .before .before .args in StoredAt (logBytes (logOf (dayLines (now (a .table))))) 0 (now (a .out)) (c .before .before .write-closes2 .last .0) (c .before .before .write-closes2 .result)
+written : (c : tie.After-slice-known4 Inv-loop μ-loop) → let a = c .before .before .before .before .before .before .before .before .args in StoredAt (logBytes (logOf (tableLines (now (a .table))))) 0 (now (a .out)) (c .before .before .write-closes2 .last .0) (c .before .before .write-closes2 .result)
 written c = log-written (c .before .before .before .before .before .loop .inv) (c .before .before .before .before .loop-test .left) (c .before .before .write-closes2 .ensures)
 
 same-length : tie.Need-same-length Inv-loop μ-loop

@@ -1,0 +1,8 @@
+//! What document 02 asks for, by hand and as laws: the tests that the reference is held to, put to the library.
+
+use compare::calls;
+
+#[path = "../../reference/tests/document_02/day_table.rs"]
+mod day_table;
+#[path = "../../reference/tests/document_02/round_trips.rs"]
+mod round_trips;

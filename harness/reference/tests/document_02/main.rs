@@ -1,0 +1,11 @@
+//! The reference held against document 02, request by request.
+//!
+//! Expected values come from document 02, or are written out by hand. Seeds are fixed.
+//! `day_table` and `round_trips` only make calls, and `compare` makes the same ones of
+//! the library.
+
+use reference::calls;
+
+mod day_table;
+mod round_trips;
+mod tables;
