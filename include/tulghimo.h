@@ -31,8 +31,8 @@ enum tulghimo_mode {
 enum tulghimo_refusal {
     TULGHIMO_REFUSED_MODE = 1,              /* the mode is not 1 to 4 */
     TULGHIMO_REFUSED_TOO_LONG = 2,          /* the chunk is longer than 65,536 bytes, or the table than 38,220 */
-    TULGHIMO_REFUSED_UNREADABLE = 3,        /* a record is not readable; a table's length is no multiple of 14, or no
-                                               readable full open record could hold one of its lines */
+    TULGHIMO_REFUSED_UNREADABLE = 3,        /* a record, or a line of a table, is not readable: no readable full open
+                                               record could hold it, or the table's length is no multiple of 14 */
     TULGHIMO_REFUSED_PIECE_COUNT = 4,       /* there are not 2 to 64 pieces */
     TULGHIMO_REFUSED_NOT_A_SUMMARY = 5,     /* a given piece is not exactly one summary */
     TULGHIMO_REFUSED_MIXED_MODES = 6,       /* the pieces are not all of one mode */
@@ -46,7 +46,8 @@ enum tulghimo_refusal {
                                                is more than one above the line before it */
 };
 
-/* Lengths in bytes. A buffer of the longest is never too short. */
+/* Lengths in bytes. A buffer of the longest is never too short; the longest chunk and the longest table taken are lengths of
+ * inputs. */
 enum tulghimo_length {
     TULGHIMO_LONGEST_CHUNK = 65536,
     TULGHIMO_LONGEST_SUMMARY = 1788,

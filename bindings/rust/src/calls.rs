@@ -184,8 +184,8 @@ pub fn day(log: &[u8]) -> Result<Figures, Refusal> {
     Ok(Figures { net, heaviest, eaten, stamp: stamp as u32 })
 }
 
-/// The log of a day table of at most 2,730 lines: a full open record for each line, and its close where it belongs. Refused: 2, 3,
-/// 13, 10.
+/// The log of a day table of at most 2,730 lines: a full open record for each line, and its close where it belongs. A line that no
+/// readable full open record could hold is refused by 3. Refused: 2, 3, 13, 10.
 ///
 /// ```
 /// use tulghimo::{example, write_log, Refusal};

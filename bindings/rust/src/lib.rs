@@ -1,6 +1,6 @@
 //! The proved feed tally, as safe Rust functions.
 //!
-//! A call answers its result or the [`Refusal`] with the paper's number, whatever it is given. Summaries are plain bytes, so that
+//! A call answers its result or the [`Refusal`] with the question's number, whatever it is given. Summaries are plain bytes, so that
 //! they can be sent and stored as they are.
 //!
 //! # What the caller must see to

@@ -35,7 +35,7 @@ macro_rules! refusals {
 refusals! {
     Mode = 1, "Is the mode 1 to 4?", "the mode is not 1 to 4";
     TooLong = 2, "Is the chunk at most 65,536 bytes?", "the chunk is longer than 65,536 bytes, or the table than 38,220";
-    Unreadable = 3, "Is every record readable?", "a record is not readable, or a table's length is no multiple of 14, or no readable full open record could hold one of its lines";
+    Unreadable = 3, "Is every record readable?", "a record, or a line of a table, is not readable";
     PieceCount = 4, "Are there 2 to 64 pieces?", "there are not 2 to 64 pieces";
     NotASummary = 5, "Is each given piece exactly one summary?", "a given piece is not exactly one summary";
     MixedModes = 6, "Are all of one mode?", "the pieces are not all of one mode";

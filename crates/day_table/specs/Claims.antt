@@ -47,6 +47,7 @@ ReadsBack table w = (room : ℕ) → readTableOutcome w room ≡ written room ta
 -- "A well-formed log of full records, of at most 2,730 lines, must give a table that writes the same bytes", each where it fits.
 pub record WritesAgain (log : List ℕ) : Type 0 where
   pub table : List ℕ
+  pub bytes : AllBytes table
   pub given : (room : ℕ) → readTableOutcome log room ≡ written room table
   pub again : (cap : ℕ) → writeLogOutcome table cap ≡ written cap log
 

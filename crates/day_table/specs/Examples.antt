@@ -1,4 +1,4 @@
--- The table of document 01's log D, both ways, and each refusal that the table itself gets, by computation. Assumes nothing.
+-- The table of document 01's log D, both ways, and each refusal of a table but 2, by computation. Assumes nothing.
 use mathlib.Core.Path.{_≡_, refl}
 use mathlib.Core.List.{List, [], _∷_, _++_}
 use Prim.Native.Nat.{ℕ}

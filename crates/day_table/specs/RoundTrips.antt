@@ -1,4 +1,4 @@
--- Document 02, L1: what is written from a table, both round trips, each refusal in its words, and 13 exactly. Assumes nothing.
+-- Document 02, L1: what is written from a table, both round trips, a log's faults, buffers that are never too short, which lines 3 lets through, and 13 exactly. Assumes nothing.
 use mathlib.Core.Path.{_≡_, refl, sym, ap, subst, _∙_}
 use mathlib.Core.Bool.{Bool, true, false, cond}
 use mathlib.Core.List.{List, [], _∷_, _++_}
@@ -27,7 +27,7 @@ use Rattle.day_table.specs.Table.{TableLine, tableLine, tableOf, logOf, 
 use Rattle.day_table.specs.Outcomes.{tableLines, tableBytes, couldHold, allCouldHold, logBytes, writeLogOutcome, readTableOutcome}
 use Rattle.day_table.specs.Claims.{IsFullLog, IsLogOfTable, ReadsBack, WritesAgain, HoldsLine, SomeLog, ReadableTable, Exactly13}
 use Rattle.day_table.specs.TableLaws.{table-log, log-table, log-nested, log-some, nested-log, table-opened}
-use Rattle.day_table.specs.LineLaws.{length-lines, length-table, lines-again, lines-back}
+use Rattle.day_table.specs.LineLaws.{length-lines, length-table, table-bytes, lines-again, lines-back}
 use Rattle.day_table.specs.LogLaws.{allFields, chunk-fields, fields-full, log-bytes, log-read, log-again, ranged-from, log-long}
 use Rattle.day_table.specs.CallLaws.{Taken, taken-is, is-taken, not-nested, nested-length}
 
@@ -126,6 +126,7 @@ writes-again log xs i few =
     let t = table-taken log xs (i .formed) few in
     record {
       table = tableBytes (tableOf xs);
+      bytes = table-bytes (tableOf xs);
       given = λ room. rw (log-is is);
       again = λ cap. taken-is (tableBytes (tableOf xs)) cap (t .0) ∙ rw (t .1, full-log log xs i);
     }

@@ -1,4 +1,4 @@
--- The summary that a head and the arrays say, and what a function that writes it asks and leaves. Definitions only.
+-- The summary that a head and the arrays say, and what a function that writes it asks. Definitions only.
 use mathlib.Core.Path.{_≡_}
 use Prim.Native.Nat.{ℕ, _-_, _≤_}
 use Rattle.figure.specs.FourModes.{storeHeld}

@@ -1,4 +1,4 @@
--- What is answered of bytes that fit, or do not, and how long they are; what a head says by its case. Assumes nothing.
+-- What is answered of a summary's bytes that fit, and how long they are; what a head says by its case. Assumes nothing.
 use mathlib.Core.Path.{_≡_, sym, ap, subst, _∙_}
 use mathlib.Core.List.{List}
 use Prim.Native.Nat.{ℕ, _+_, _-_, _≤_}

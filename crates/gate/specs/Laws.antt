@@ -1,4 +1,4 @@
--- What document 01 says of a lent buffer and of question 12, as laws of the definitions. Assumes nothing.
+-- What document 01 says of a lent buffer and of question 12, as laws of the definitions; and that a result means a "yes" to each question. Assumes nothing.
 use mathlib.Core.Path.{_≡_, refl, ap}
 use mathlib.Core.Bool.{Bool, true, false}
 use mathlib.Core.List.{List}

@@ -1,4 +1,4 @@
--- Writing bytes piece by piece into a buffer: what every such loop keeps, and what it comes to. Assumes nothing.
+-- Writing bytes piece by piece into a buffer: what a loop keeps from turn to turn, and what it comes to. Assumes nothing.
 use mathlib.Core.Path.{_≡_, refl, sym, ap, _∙_}
 use mathlib.Core.List.{List, [], _++_}
 use Prim.Native.Nat.{ℕ, _+_, _≤_}

@@ -1,4 +1,4 @@
--- What must be believed: Outcomes (the calls on a row), Day and Line (those on a whole log), definitions only. Answers says what an answer of the
+-- What must be believed: Outcomes (the calls on a row), Day and Line (the day's figures and its line), definitions only. Answers says what an answer of the
 -- code means. Worked cases are in Examples; Laws says what the questions of a row find, Through what they let through, RunsWritten that the runs are
 -- the paper's.
 pub mod Outcomes

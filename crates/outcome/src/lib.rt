@@ -1,4 +1,4 @@
-// What each call on a row or on a whole log comes to, as definitions over bytes: theory. It all stands in specs/, but for what more than one crate
+// What each call on a row, and the day's figures and its line, come to, as definitions over bytes: theory. It all stands in specs/, but for what more than one crate
 // gives or asks.
 
 // How many bytes a run has: `runLength` is its definition.

@@ -1,4 +1,4 @@
--- A pass over a chunk that hands on the rest: what every such loop keeps. Assumes nothing.
+-- A pass over a chunk that hands on the rest: what every such loop keeps that asks whether it is readable. Assumes nothing.
 use mathlib.Core.Path.{_≡_, sym, ap, _∙_}
 use mathlib.Core.List.{List, [], _∷_, _++_, append-nil}
 use Prim.Native.Nat.{ℕ, _+_, _-_, _*_, _≤_, _<_}

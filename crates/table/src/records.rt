@@ -4,10 +4,10 @@ ghost use mathlib.Core.Bool.{true};
 ghost use Prim.Native.Nat.{_+_, _≤_};
 ghost use lib.ListN.{length};
 ghost use lib.Seq.{sets};
+ghost use Rattle.number.specs.Writing.{StoredAt};
 ghost use Rattle.record.specs.Record.{openBytes, closeBytes};
 ghost use Rattle.day_table.specs.Table.{closesTo, logOf};
 ghost use Rattle.day_table.specs.Outcomes.{tableLines, allCouldHold, logBytes};
-ghost use Rattle.number.specs.Writing.{StoredAt};
 use crate::lines;
 
 // A full open record, 18 bytes: its length, its kind, and then a line.

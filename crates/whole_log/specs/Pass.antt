@@ -1,4 +1,4 @@
--- A pass over a whole log: what every such loop keeps from turn to turn, and what it comes to. Assumes nothing.
+-- A pass over a whole log that judges it: what every such loop keeps from turn to turn, and what it comes to. Assumes nothing.
 use mathlib.Core.Path.{_≡_, sym, ap, _∙_}
 use mathlib.Core.List.{List, [], _∷_, _++_}
 use Prim.Native.Nat.{ℕ, _-_, _≤_, _<_}

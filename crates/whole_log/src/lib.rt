@@ -1,4 +1,4 @@
-// A pass over records: the one tally that every pass keeps of levels, faults and opened records, and the gate on a whole log.
+// A pass over records: the one tally that every pass keeps that judges them, of levels, faults and opened records, and the gate on a whole log.
 ghost use mathlib.Core.Path.{_≡_};
 ghost use mathlib.Core.List.{List, [], _∷_, _++_};
 ghost use Prim.Native.Nat.{_≤_};
