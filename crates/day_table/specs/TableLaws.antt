@@ -1,17 +1,20 @@
 -- A table and its log belong to each other: both round trips, and which tables are those of well-formed logs. Assumes nothing.
 use mathlib.Core.Path.{_≡_, refl, sym, ap, subst, _∙_}
 use mathlib.Core.Bool.{Bool, true, false, cond, _&&_}
-use mathlib.Core.List.{List, [], _∷_, _++_, append-nil}
+use mathlib.Core.List.{List, [], _∷_, _++_, map, append-nil}
 use Prim.Native.Nat.{ℕ, zero, suc, _+_, _*_, _≤_, _<_}
 use native.Mathlib.Omega.{arith}
 use lib.Dec.{leb, ltb, eqb}
-use lib.ListN.{length}
+use lib.ListN.{length, drop}
 use borrow.Author.Tests.{leb-true, leb-false, le-leb, lt-leb, ltb-true, lt-ltb, eqb-true, eq-eqb}
 use Rattle.record.specs.Laws.{and-left, and-right}
 use Rattle.figure.specs.FourModes.{Amounts}
 use Rattle.hill.specs.Verdict.{pass, joint, count, ends}
 use Rattle.hill.specs.VerdictLaws.{low-fst, low-snd, joint-pass, joint-high, joint-same, count-few, ends-pass, refuse-pass}
 use Rattle.hill.specs.Log.{Record, opening, closing, startLevel, endLevel, endOf, openedOf, joints, faultOf, logFault}
+use Rattle.hill.specs.Closing.{at, OpensAt, Places}
+use Rattle.hill.specs.Places.{places-same, here-at, here-rest, select}
+use Rattle.hill.specs.HeldPlaces.{isOpen, opened-listed}
 use Rattle.hill.specs.Spell.{endFrom, end-from}
 use Rattle.day_table.specs.Table.{TableLine, tableLine, tableOf, closesTo, logFrom, logOf, nestedAfter, nested}
 
@@ -36,6 +39,21 @@ table-from l (x ∷ ls) = closes-no-line (x .depth) l _ ∙ ap (λ (ys : List Ta
 -- READING THE LOG BACK GIVES THE TABLE, whatever the table.
 pub table-log : (ls : List TableLine) → tableOf (logOf ls) ≡ ls
 table-log ls = table-from 0 ls
+
+-- ---- by places: a line for each place where an open stands, in log order
+
+abbrev pub openOf : TableLine → Record Amounts
+openOf x = opening (x .depth) (x .amounts)
+
+lines-at : (log : List (Record Amounts)) (n : ℕ) (xs : List (Record Amounts)) → drop n log ≡ xs → map (at log) (select (λ x _. isOpen x) (λ _. false) n xs) ≡ map openOf (tableOf xs)
+lines-at log n [] e = refl
+lines-at log n (opening d r ∷ xs) e =
+    rw (here-at log n (opening d r) xs e) (ap (λ (ys : List (Record Amounts)). opening d r ∷ ys) (lines-at log (suc n) xs (here-rest log n (opening d r) xs e)))
+lines-at log n (closing d ∷ xs) e = lines-at log (suc n) xs (here-rest log n (closing d) xs e)
+
+-- THE TABLE'S LINES ARE THE OPENED RECORDS, in log order: those that stand at the places of opens.
+pub table-places : (log : List (Record Amounts)) (ps : List ℕ) → Places (λ p. (d : ℕ) × OpensAt log p d) ps → map openOf (tableOf log) ≡ map (at log) ps
+table-places log ps l = sym (lines-at log 0 log refl) ∙ ap (map (at log)) (places-same (opened-listed log) l)
 
 -- ---- levels: each record starts where the one before ended, above level 0
 

@@ -153,7 +153,7 @@ module _ {R : Type 0} (𝒜 : Algebra R) where
           rw (map-members f (figureAt 𝒜 log) qs (λ q m. go n q (suc d) (h .only q m .held) (omega (arith, h .only q m .after)))) (sym (held-figure log p d (o .0) (o .1) qs h))
 
 module _ {R : Type 0} where
-  abbrev isOpen : Record R → Bool
+  abbrev pub isOpen : Record R → Bool
   isOpen (opening d r) = true
   isOpen (closing d) = false
 
