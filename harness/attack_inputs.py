@@ -20,6 +20,10 @@ def short(depth, value):
     return struct.pack("<HHHi", 10, 1, depth, value)
 
 
+def with_batch(depth, value, batch):
+    return struct.pack("<HHHiiiI", 22, 1, depth, value, -GRAMS, GRAMS, batch)
+
+
 def close(depth):
     return struct.pack("<HHH", 6, 2, depth)
 
@@ -161,6 +165,11 @@ INPUTS = {
     "plan/no_line_written": call("plan::plan", HEAD + TAIL),
     "plan/refused_though_written": call("plan::plan", HEAD + TAIL),
     "plan/twelve_for_faults": call("plan::plan", OPEN + OPEN),
+    "record/batch_dropped": call("record::read_first", with_batch(0, 5, 7)),
+    "record/batch_is_ceiling": call("record::read_first", with_batch(0, 5, 7)),
+    "record/batch_is_next": call("record::read_first", with_batch(0, 5, 7)),
+    "record/batch_of_18": call("record::read_first", D),
+    "record/batch_sign_bit": call("record::read_first", with_batch(0, 5, 2**32 - 1)),
     "record/ceiling_unlimited": call("finish::finish", hill(1, 0, 0, 1, 1, [], 0, [(10, 0, GRAMS + 1, 0)])),
     "record/close_of_7": call("record::read_first", close(1)),
     "record/close_of_8": call("record::read_first", close(1)),
@@ -169,6 +178,7 @@ INPUTS = {
     "record/floor_equals_ceiling": call("record::read_first", opening(0, 1, 5, 5)),
     "record/floor_over_ceiling": call("record::read_first", D),
     "record/length_11": call("record::read_first", short(0, -5)),
+    "record/length_26": call("record::read_first", with_batch(0, 5, 7)),
     "row/length_7": call("merge_row::merge_row", 2 * blank(1)),
     "row/length_field_off": call("merge_row::merge_row", blank(1) + HEAD),
     "row_gate/blank_at_ground": call("plan::plan", OPEN + blank(1) + SHUT),
@@ -243,10 +253,11 @@ INPUTS = {
     "tulghimo/merge_swapped": call("tulghimo::tulghimo_merge", HEAD + TAIL, len(HEAD)),
     "tulghimo/plan_always_one_line": call("tulghimo::tulghimo_plan", NESTED),
     "tulghimo/plan_refused": call("tulghimo::tulghimo_plan", HEAD + TAIL),
-    "tulghimo/read_ceiling_for_floor": call("tulghimo::tulghimo_read", D),
+    "tulghimo/read_ceiling_for_floor": call("tulghimo::tulghimo_read_record", D),
+    "tulghimo/read_no_batch": call("tulghimo::tulghimo_read_record", with_batch(0, 5, 7)),
     "tulghimo/read_table_always_one_line": call("tulghimo::tulghimo_read_table", D),
     "tulghimo/read_table_refused": call("tulghimo::tulghimo_read_table", D),
-    "tulghimo/refusal_positive": call("tulghimo::tulghimo_read", b""),
+    "tulghimo/refusal_positive": call("tulghimo::tulghimo_read_record", b""),
     "tulghimo/runs_always_one": call("tulghimo::tulghimo_runs", NESTED),
     "tulghimo/runs_refused": call("tulghimo::tulghimo_runs", HEAD + TAIL),
     "tulghimo/status_always_12": call("tulghimo::tulghimo_merge_row", 65 * blank(1)),
@@ -258,6 +269,7 @@ INPUTS = {
     "tulghimo/work_of_a_part": call("tulghimo::tulghimo_work", HEAD + TAIL),
     "tulghimo/write_log_always_one_line": call("tulghimo::tulghimo_write_log", b"".join(D_LINES)),
     "tulghimo/write_log_refused": call("tulghimo::tulghimo_write_log", b"".join(D_LINES)),
+    "whole_log/batch_counted": summarise(1, with_batch(0, 5, 7)),
     "whole_log/close_stays": call("day::figures", D),
     "whole_log/closes_counted": summarise(1, D),
     "whole_log/end_level": call("day::figures", short(0, 1)),

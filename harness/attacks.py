@@ -32,7 +32,7 @@ from attack_inputs import INPUTS
 WRITTEN = "written({}, &out)"
 ARMS = {
     "record::read_first": """match record::read_first(&input) {
-            record::Read::Record(f) => format!("{} {} {} {} {} {}", f.kind, f.length, f.depth, f.value, f.floor, f.ceiling),
+            record::Read::Record(f) => format!("{} {} {} {} {} {} {}", f.kind, f.length, f.depth, f.value, f.floor, f.ceiling, f.batch),
             record::Read::Refused => "refused".to_string(),
         }""",
     "summarise::summarise": WRITTEN.format("summarise::summarise(&input, number as u32, &mut out)"),
@@ -68,7 +68,7 @@ ARMS = {
 # The C functions: those that write bytes, and those that store numbers, with how many.
 LENGTHS = {"summarise": "&input, number as u32", "merge": "&input[..number], &input[number..]",
            "merge_row": "&input", "plan": "&input", "runs": "&input", "write_log": "&input", "read_table": "&input"}
-NUMBERS = {"read": 6, "finish": 1, "work": 3, "day": 4}
+NUMBERS = {"read_record": 7, "finish": 1, "work": 3, "day": 4}
 ARMS |= {f"tulghimo::tulghimo_{name}": f"""answered(tulghimo::tulghimo_{name}({lent}, &mut out), &out)"""
          for name, lent in LENGTHS.items()}
 ARMS |= {f"tulghimo::tulghimo_{name}": f"""{{

@@ -27,7 +27,7 @@ TIMEOUT_SECONDS = 300
 
 # The tests that take no time; the others follow where these notice nothing.
 QUICK = ["--", "paper::", "gate::", "figures::", "records::", "question_5::", "rows::pieces",
-         "rows::halves", "day_table::"]
+         "rows::halves", "day_table::", "batch::"]
 
 # Records: bytes, reading, ranges.
 RECORDS = [
@@ -40,7 +40,7 @@ RECORDS = [
      "the floor of a short record"),
     ("record.rs", "DEFAULT_CEILING: i64 = 1_000_000_000;", "DEFAULT_CEILING: i64 = 999_999_999;",
      "the ceiling of a short record"),
-    ("record.rs", "length == 18 || length == 10", "length == 18", "an open may have length 10"),
+    ("record.rs", "[10, 18, 22].contains", "[18, 22].contains", "an open may have length 10"),
     ("record.rs", "CLOSE => length == 6,", "CLOSE => length == 6 || length == 10,",
      "a close has length 6"),
     ("record.rs", "|| chunk.len() < length", "|| chunk.len() <= length", "all bytes are there"),
@@ -50,7 +50,7 @@ RECORDS = [
      "a close starts at level d+1"),
     ("record.rs", "Record::Open(open) => open.depth + 1,", "Record::Open(open) => open.depth,",
      "an open ends at level d+1"),
-    ("record.rs", "rest = &rest[length..];", "rest = &rest[rest.len()..];",
+    ("record.rs", "rest = &rest[first.length..];", "rest = &rest[rest.len()..];",
      "the rest is read as a chunk of its own"),
 ]
 
@@ -257,7 +257,7 @@ CALLS = [
      "work puts 7 to 11"),
     ("calls.rs", "    questions_7_to_11_of_row(&summaries)?;\n    question_12(encode_plan",
      "    question_12(encode_plan", "the plan puts 7 to 11"),
-    ("calls.rs", "length, depth, 0, 0, 0]", "length, depth, depth, 0, 0]",
+    ("calls.rs", "(CLOSE as i64, [0, 0, 0])", "(CLOSE as i64, [depth, 0, 0])",
      "the last three are 0 for a close"),
     ("calls.rs", "{net} {heaviest} {eaten} {stamp}\\n", "{net} {heaviest} {stamp} {eaten}\\n",
      "the order of the day's figures"),
@@ -318,7 +318,51 @@ DAY_TABLE = [
      "Ok(encode_table(&table_of(&records)))", "reading back puts 12"),
 ]
 
-TABLE = RECORDS + LOG + MODES + SUMMARIES + MERGING + ACCEPTING + PLANS + CALLS + DAY_TABLE
+# Document 02, L2: the pellet batch in the open record.
+BATCH = [
+    ("record.rs", "[10, 18, 22].contains", "[10, 18].contains", "length 22 now suits kind 1"),
+    ("record.rs", "[10, 18, 22].contains", "[10, 22].contains", "an open may still have length 18"),
+    ("record.rs", "CLOSE => length == 6,", "CLOSE => length == 6 || length == 22,",
+     "length 22 does not suit kind 2"),
+    ("record.rs", "|| chunk.len() < length", "|| chunk.len() < length.min(21)",
+     "a record of length 22 needs all 22 bytes"),
+    ("record.rs", "18 | 22 => Record::Open", "18 => Record::Open", "the 18 bytes, then the batch"),
+    ("record.rs", "in_range(&record).then_some", "(length == 22 || in_range(&record)).then_some",
+     "a record with a batch has the same ranges"),
+    ("record.rs", "unsigned(&record[18..22]) as i64", "signed(&record[18..22])",
+     "the batch is unsigned"),
+    ("record.rs", "unsigned(&record[18..22]) as i64",
+     "record[18..22].iter().fold(0, |number, &byte| number * 256 + i64::from(byte))",
+     "the batch is little-endian"),
+    ("record.rs", "unsigned(&record[18..22]) as i64", "unsigned(&record[18..21]) as i64",
+     "the batch has 32 bits"),
+    ("record.rs", "unsigned(&record[18..22]) as i64", "unsigned(&record[14..18]) as i64",
+     "the batch comes after the 18 bytes"),
+    ("record.rs", "batch: batch(&chunk[..length])", "batch: batch(&chunk[..chunk.len().min(22)])",
+     "a record without a batch has none of the next record's bytes"),
+    ("record.rs", "rest = &rest[first.length..];", "rest = &rest[first.length.min(18)..];",
+     "the batch is not read as the next record"),
+    ("record.rs", "        records.push(first.record);\n",
+     "        records.push(match (first.record, first.batch) {\n"
+     "            (Record::Open(open), Some(batch)) => {\n"
+     "                Record::Open(Open { value: open.value + batch, ..open })\n            }\n"
+     "            (record, _) => record,\n"
+     "        });\n", "figures and summaries ignore the batch: the value"),
+    ("record.rs", "        records.push(first.record);\n",
+     "        if first.batch != Some(0) {\n            records.push(first.record);\n        }\n",
+     "figures and summaries ignore the batch: a batch of 0 is as good as any"),
+    ("calls.rs", "batch.unwrap_or(0)]", "0]", "reading answers the batch"),
+    ("calls.rs", "batch.unwrap_or(0)]", "batch.unwrap_or(-1)]", "0 where the record has none"),
+    ("calls.rs", "let (length, depth) = (length as i64,", "let (length, depth) = (length.min(18) as i64,",
+     "reading answers length 22"),
+    ("calls.rs", "question_12(encode_all(&log_of(&lines)), capacity)",
+     "question_12(log_of(&lines).iter().flat_map(|record| match record {\n"
+     "        Record::Open(open) => crate::record::encode_with_batch(open, 0),\n"
+     "        Record::Close { depth } => crate::record::encode_close(*depth),\n"
+     "    }).collect(), capacity)", "the log of a table has records of length 18, without a batch"),
+]
+
+TABLE = RECORDS + LOG + MODES + SUMMARIES + MERGING + ACCEPTING + PLANS + CALLS + DAY_TABLE + BATCH
 
 
 def cargo(workspace, *arguments):

@@ -61,9 +61,17 @@ enum tulghimo_length {
     TULGHIMO_LONGEST_TABLE_READ = 4096 * TULGHIMO_TABLE_LINE   /* of a log of 65,536 bytes: 4,096 short opens and their closes */
 };
 
-/* The first record of a chunk: 0 and kind (1 open, 2 close), length, depth, value, floor and ceiling (the last three 0 for a
- * close), or -3. Later bytes are not judged. */
-int64_t tulghimo_read(const uint8_t *chunk, size_t n, int64_t fields[6]);
+/* The first record of a chunk: 0 and kind (1 open, 2 close), length, depth, value, floor, ceiling and batch (the last four 0 for a
+ * close), or -3 with the fields as they were. Later bytes are not judged.
+ *
+ * An open has length 18; or 10, without a floor and a ceiling, which are then -1,000,000,000 and 1,000,000,000; or 22: the 18 bytes,
+ * then the batch, the unsigned 32-bit number that the mill prints on the bag. A close has length 6. The batch is answered as 0 to
+ * 4,294,967,295, never negative, and as 0 where the record has none. All other calls drop it: to them a record of length 22 is the
+ * one of length 18 with the same fields.
+ *
+ * The function was tulghimo_read while it had six fields. A buffer that changes its size changes the function's name, so that a
+ * program compiled with the old header does not link, instead of being written past its buffer. */
+int64_t tulghimo_read_record(const uint8_t *chunk, size_t n, int64_t fields[7]);
 
 /* The summary of a chunk, in a mode: its length, or -1, -2, -3 or -12. */
 int64_t tulghimo_summarise(const uint8_t *chunk, size_t n, uint32_t mode, uint8_t *out, size_t cap);
@@ -90,13 +98,13 @@ int64_t tulghimo_work(const uint8_t *row, size_t n, int64_t totals[3]);
  * of this length has enough records for -9.) */
 int64_t tulghimo_day(const uint8_t *log, size_t n, int64_t figures[4]);
 
-/* The log of a day table, which has at most 2,730 lines of 14 bytes, in log order: a full open record for each line, and its close
- * where it belongs. Its length, or -2, -3, -13, -10 or -12. */
+/* The log of a day table, which has at most 2,730 lines of 14 bytes, in log order: a full open record (length 18) for each line, and
+ * its close where it belongs. Its length, or -2, -3, -13, -10 or -12. */
 int64_t tulghimo_write_log(const uint8_t *table, size_t n, uint8_t *out, size_t cap);
 
 /* The day table of a whole log, of the length of a chunk: a line for each opened record, a short one with the floor -1,000,000,000
- * and the ceiling 1,000,000,000. Its length, or -2, -3, -7, -8, -10, -11 or -12. (No log of this length has enough records for
- * -9.) */
+ * and the ceiling 1,000,000,000, one with a batch without it. Its length, or -2, -3, -7, -8, -10, -11 or -12. (No log of this length
+ * has enough records for -9.) */
 int64_t tulghimo_read_table(const uint8_t *log, size_t n, uint8_t *out, size_t cap);
 
 #ifdef __cplusplus

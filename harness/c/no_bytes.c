@@ -37,9 +37,9 @@ static const uint8_t joined[] = {
 
 /* No input. */
 static void nothing_in(void) {
-    int64_t numbers[6] = {-7, -7, -7, -7, -7, -7};
+    int64_t numbers[7] = {-7, -7, -7, -7, -7, -7, -7};
     uint8_t out[6] = {0};
-    is("read", tulghimo_read(NULL, 0, numbers), -3);
+    is("read_record", tulghimo_read_record(NULL, 0, numbers), -3);
     is("summarise, mode 0", tulghimo_summarise(NULL, 0, 0, NULL, 0), -1);
     is("summarise", tulghimo_summarise(NULL, 0, 1, out, sizeof out), 6);
     is("summarise: a blank", memcmp(out, blanks, sizeof out), 0);
@@ -56,7 +56,7 @@ static void nothing_in(void) {
     is("write_log, a buffer", tulghimo_write_log(NULL, 0, out, sizeof out), -10);
     is("read_table", tulghimo_read_table(NULL, 0, NULL, 0), -10);
     is("read_table, a buffer", tulghimo_read_table(NULL, 0, out, sizeof out), -10);
-    untouched("numbers", numbers, 6);
+    untouched("numbers", numbers, 7);
     is("the blank in the buffer", memcmp(out, blanks, sizeof out), 0);
 }
 

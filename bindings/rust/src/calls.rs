@@ -28,15 +28,19 @@ fn numbers<const N: usize>(call: impl FnOnce(&mut [i64; N]) -> i64) -> Result<[i
 /// Reads the first record of a chunk. Later bytes are not judged. Refused: 3.
 ///
 /// ```
-/// use tulghimo::{example, read, Kind, Record, Refusal};
+/// use tulghimo::{example, read_record, Kind, Record, Refusal};
 ///
-/// let open = Record { kind: Kind::Open, length: 18, depth: 0, value: 10, floor: 0, ceiling: 100 };
-/// assert_eq!(read(example::LOG_D), Ok(open));
-/// assert_eq!(read(&[]), Err(Refusal::Unreadable));
+/// let open = Record { kind: Kind::Open, length: 18, depth: 0, value: 10, floor: 0, ceiling: 100, batch: 0 };
+/// assert_eq!(read_record(example::LOG_D), Ok(open));
+///
+/// // The same record of length 22, with the batch 70,000 of its bag.
+/// let with_batch = [&[22, 0], &example::LOG_D[2..18], &70_000u32.to_le_bytes()].concat();
+/// assert_eq!(read_record(&with_batch), Ok(Record { length: 22, batch: 70_000, ..open }));
+/// assert_eq!(read_record(&with_batch[..21]), Err(Refusal::Unreadable));
 /// ```
-pub fn read(chunk: &[u8]) -> Result<Record, Refusal> {
-    let [kind, length, depth, value, floor, ceiling] = numbers(|fields| raw::read(chunk, fields))?;
-    // The call's ranges: length 6, 10 or 18, depth 0 to 63, grams within ±1,000,000,000.
+pub fn read_record(chunk: &[u8]) -> Result<Record, Refusal> {
+    let [kind, length, depth, value, floor, ceiling, batch] = numbers(|fields| raw::read_record(chunk, fields))?;
+    // The call's ranges: length 6, 10, 18 or 22, depth 0 to 63, grams within ±1,000,000,000, batch 0 to 2^32 - 1.
     Ok(Record {
         kind: if kind == 1 { Kind::Open } else { Kind::Close },
         length: length as usize,
@@ -44,6 +48,7 @@ pub fn read(chunk: &[u8]) -> Result<Record, Refusal> {
         value: value as i32,
         floor: floor as i32,
         ceiling: ceiling as i32,
+        batch: batch as u32,
     })
 }
 
@@ -184,8 +189,8 @@ pub fn day(log: &[u8]) -> Result<Figures, Refusal> {
     Ok(Figures { net, heaviest, eaten, stamp: stamp as u32 })
 }
 
-/// The log of a day table of at most 2,730 lines: a full open record for each line, and its close where it belongs. A line that no
-/// readable full open record could hold is refused by 3. Refused: 2, 3, 13, 10.
+/// The log of a day table of at most 2,730 lines: a full open record (length 18) for each line, and its close where it belongs. A
+/// line that no readable full open record could hold is refused by 3. Refused: 2, 3, 13, 10.
 ///
 /// ```
 /// use tulghimo::{example, write_log, Refusal};
@@ -202,7 +207,7 @@ pub fn write_log(lines: &[TableLine]) -> Result<Vec<u8>, Refusal> {
 }
 
 /// The day table of a whole log of at most 65,536 bytes: a line for each opened record, a short one with the default floor and
-/// ceiling. Refused: 2, 3, 7, 8, 10, 11; none has enough records for 9.
+/// ceiling, one with a batch without it. Refused: 2, 3, 7, 8, 10, 11; none has enough records for 9.
 ///
 /// ```
 /// use tulghimo::{example, read_table, Refusal};

@@ -25,7 +25,7 @@ pub const LONGEST_TABLE_READ: usize = 4_096 * crate::TableLine::LENGTH;
 
 mod ffi {
     extern "C" {
-        pub fn tulghimo_read(chunk: *const u8, n: usize, fields: *mut i64) -> i64;
+        pub fn tulghimo_read_record(chunk: *const u8, n: usize, fields: *mut i64) -> i64;
         pub fn tulghimo_summarise(chunk: *const u8, n: usize, mode: u32, out: *mut u8, cap: usize) -> i64;
         pub fn tulghimo_merge(left: *const u8, ln: usize, right: *const u8, rn: usize, out: *mut u8, cap: usize) -> i64;
         pub fn tulghimo_merge_row(row: *const u8, n: usize, out: *mut u8, cap: usize) -> i64;
@@ -39,10 +39,10 @@ mod ffi {
     }
 }
 
-/// Reads the first record of a chunk: 0 and kind, length, depth, value, floor and ceiling, or -3.
-pub fn read(chunk: &[u8], fields: &mut [i64; 6]) -> i64 {
-    // SAFETY: the slice has as many bytes as it is said to have, and the array has the six numbers that the call may store.
-    unsafe { ffi::tulghimo_read(chunk.as_ptr(), chunk.len(), fields.as_mut_ptr()) }
+/// Reads the first record of a chunk: 0 and kind, length, depth, value, floor, ceiling and batch, or -3.
+pub fn read_record(chunk: &[u8], fields: &mut [i64; 7]) -> i64 {
+    // SAFETY: the slice has as many bytes as it is said to have, and the array has the seven numbers that the call may store.
+    unsafe { ffi::tulghimo_read_record(chunk.as_ptr(), chunk.len(), fields.as_mut_ptr()) }
 }
 
 /// Summarises a chunk in a mode into `out`: the length written, or minus the refusal (1, 2, 3 or 12).

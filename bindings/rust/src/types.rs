@@ -46,6 +46,9 @@ pub enum Kind {
 }
 
 /// A record of a log. Value, floor and ceiling, in grams, are 0 for a close.
+///
+/// An open has length 18; or 10, without a floor and a ceiling, which are then -1,000,000,000 and 1,000,000,000; or 22, with a batch.
+/// A close has length 6.
 #[derive(Clone, Copy, Debug, PartialEq, Eq, Hash)]
 #[allow(missing_docs)]
 pub struct Record {
@@ -56,6 +59,8 @@ pub struct Record {
     pub value: i32,
     pub floor: i32,
     pub ceiling: i32,
+    /// The number that the mill prints on the bag; 0 where the record has none, which its length tells. All other calls drop it.
+    pub batch: u32,
 }
 
 /// The 16-bit number at a place.

@@ -1,4 +1,4 @@
--- What the bytes of a chunk say: its records, and whether they are a whole log. Definitions only.
+-- What the bytes of a chunk say: its records, whether they are a whole log, and which chunks differ in batches only. Definitions only.
 use mathlib.Core.Path.{_≡_}
 use mathlib.Core.Bool.{cond}
 use mathlib.Core.List.{List, map}
@@ -13,7 +13,7 @@ use Rattle.hill.specs.Verdict.{pass}
 use Rattle.hill.specs.Log.{Record, opening, closing, logFault}
 use Rattle.hill.specs.Finish.{outcome}
 
--- A record that was read: "kind 1, open", or "kind 2, close".
+-- A record that was read, as all calls but reading take it: "kind 1, open", or "kind 2, close". They "drop" its batch (document 02, L2).
 abbrev pub recordOf : Fields → Record Amounts
 recordOf f = cond (eqb (f .kind) 1) (opening (f .depth) (record { value = f .value; floor = f .floor; ceiling = f .ceiling })) (closing (f .depth))
 
@@ -31,3 +31,25 @@ pub record IsWellFormed (log : List ℕ) (xs : List (Record Amounts)) : Type 0 w
   pub read : recordsOf log ≡ result fields
   pub records-are : chunkOf fields ≡ xs
   pub fine : logFault xs ≡ pass
+
+-- ---- document 02, L2: "figures and summaries ignore" the batch
+
+-- Two chunks of readable records that are the same, as far as `view` shows them.
+pub record SameAs {A : Type 0} (view : Fields → A) (a b : List ℕ) : Type 0 where
+  pub left : List Fields
+  pub right : List Fields
+  pub left-read : recordsOf a ≡ result left
+  pub right-read : recordsOf b ≡ result right
+  pub same : map view left ≡ map view right
+
+-- What all calls but reading take of them is the same.
+abbrev pub SameRecords : (a b : List ℕ) → Type 0
+SameRecords = SameAs recordOf
+
+-- A record as it would be without a batch: one of length 22 has length 18 then.
+abbrev pub withoutBatch : Fields → Fields
+withoutBatch f = record { kind = f .kind; length = cond (eqb (f .length) 22) 18 (f .length); depth = f .depth; value = f .value; floor = f .floor; ceiling = f .ceiling; batch = 0 }
+
+-- "Two logs .. that differ in batches only", whether a record has another batch, or one of them has none.
+abbrev pub SameButBatches : (a b : List ℕ) → Type 0
+SameButBatches = SameAs withoutBatch

@@ -1,7 +1,7 @@
 -- Laws of a chunk's records, and of a call on a whole log, question by question. Assumes nothing.
 use mathlib.Core.Path.{_≡_, refl, sym, ap, _∙_}
 use mathlib.Core.Bool.{Bool, true, false}
-use mathlib.Core.List.{List, [], _∷_, _++_}
+use mathlib.Core.List.{List, [], _∷_, _++_, map}
 use Prim.Native.Nat.{ℕ, _≤_, _<_}
 use lib.Dec.{leb}
 use lib.ListN.{length}
@@ -16,7 +16,7 @@ use Rattle.figure.specs.Stored.{amounts}
 use Rattle.hill.specs.Verdict.{Verdict, pass, refuse}
 use Rattle.hill.specs.Log.{Record, opening, closing, logFault}
 use Rattle.hill.specs.Finish.{outcome}
-use Rattle.chunk.specs.Chunk.{recordOf, chunkOf, wholeLog, IsWellFormed}
+use Rattle.chunk.specs.Chunk.{recordOf, chunkOf, wholeLog, IsWellFormed, SameRecords, withoutBatch, SameButBatches}
 
 -- ---- records that were read
 
@@ -85,3 +85,23 @@ log-is {log} {xs} i = rw (le-leb (length log) 65_536 (i .short), i .formed .read
 -- bytes have the records of one log
 pub one-log : {log : List ℕ} {xs ys : List (Record Amounts)} → IsWellFormed log xs → IsWellFormed log ys → xs ≡ ys
 one-log i j = let same : i .fields ≡ j .fields = cc (i .read, j .read) in sym (i .records-are) ∙ ap chunkOf same ∙ j .records-are
+
+-- ---- what `recordOf` leaves: a record without its batch, ..
+
+without-batches : (fs : List Fields) → chunkOf (map withoutBatch fs) ≡ chunkOf fs
+without-batches [] = refl
+without-batches (f ∷ fs) = ap (λ (xs : List (Record Amounts)). recordOf f ∷ xs) (without-batches fs)
+
+pub batches-aside : {a b : List ℕ} → SameButBatches a b → SameRecords a b
+batches-aside d = record {
+  left = d .left;
+  right = d .right;
+  left-read = d .left-read;
+  right-read = d .right-read;
+  same = sym (without-batches (d .left)) ∙ ap chunkOf (d .same) ∙ without-batches (d .right);
+}
+
+-- .. and the gate on a whole log sees nothing else
+pub same-log : {a b : List ℕ} → SameRecords a b → length a ≤ 65_536 → length b ≤ 65_536 → wholeLog a ≡ wholeLog b
+unfolding wholeLog
+same-log {a} {b} r m n = rw (le-leb (length a) 65_536 m, le-leb (length b) 65_536 n, r .left-read, r .right-read, r .same)

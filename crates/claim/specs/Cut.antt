@@ -5,15 +5,16 @@ use mathlib.Core.Bool.{Bool, true, false, cond}
 use mathlib.Core.List.{List, [], _∷_, _++_, map, append-assoc, append-nil}
 use Prim.Native.Nat.{ℕ, zero, suc, _+_, _≤_, _<_}
 use native.Mathlib.Omega.{arith}
-use lib.Dec.{leb, eqb}
+use lib.Dec.{leb, eqb, lit≤}
 use lib.ListN.{length, take, drop, length-append, length-take, length-drop, take-append-drop}
 use lib.Seq.{slice, length-take-le, take-add, drop-drop, take-at, drop-at}
 use borrow.Author.Tests.{le-leb}
 use Rattle.gate.specs.Outcome.{Outcome, refused, result}
 use Rattle.number.specs.Bytes.{leAt}
 use Rattle.number.specs.Laws.{leAt-append}
-use Rattle.record.specs.Record.{inRange, accepted, whole, byShape, readOf, before, recordsOf, fullOpen, shortOpen, close}
+use Rattle.record.specs.Record.{inRange, accepted, whole, byShape, readOf, before, recordsOf, fullOpen, openWithBatch, shortOpen, close}
 use Rattle.record.specs.Laws.{sound, records-nil, records-next}
+use Rattle.record.specs.Joined.{open-same, short-same, close-same}
 use Rattle.record.specs.Readable.{First, first-read, none-read}
 use Rattle.record.specs.declared.Fields.{Fields}
 use Rattle.figure.specs.FourModes.{Amounts}
@@ -61,10 +62,10 @@ module _ (a b : List ℕ) where
   unfolding byShape
   shape-back kind len =
       either (eqb kind 1) _ _ _ _
-      (either (eqb len 18) _ _ _ _
-      (whole-back fullOpen (λ h. rw (leAt-append 2 a b 4 (omega arith), leAt-append 4 a b 6 (omega arith), leAt-append 4 a b 10 (omega arith), leAt-append 4 a b 14 (omega arith))))
-      (either (eqb len 10) _ _ _ _ (whole-back shortOpen (λ h. rw (leAt-append 2 a b 4 (omega arith), leAt-append 4 a b 6 (omega arith)))) (no-record _)))
-      (either (eqb kind 2) _ _ _ _ (either (eqb len 6) _ _ _ _ (whole-back close (λ h. rw (leAt-append 2 a b 4 (omega arith)))) (no-record _)) (no-record _))
+      (either (eqb len 18) _ _ _ _ (whole-back fullOpen (open-same a b 18 (lit≤ tt)))
+      (either (eqb len 10) _ _ _ _ (whole-back shortOpen (short-same a b))
+      (either (eqb len 22) _ _ _ _ (whole-back openWithBatch (open-same a b 22 (lit≤ tt))) (no-record _))))
+      (either (eqb kind 2) _ _ _ _ (either (eqb len 6) _ _ _ _ (whole-back close (close-same a b)) (no-record _)) (no-record _))
 
   read-front : (f : Fields) → readOf (a ++ b) ≡ result f → f .length ≤ length a → readOf a ≡ result f
   unfolding Back readOf

@@ -1,15 +1,15 @@
 -- The theorem at work: log D cut after record 2, with a blank chunk at both ends and between, into buffers that just fit, and three merges, the second with a
 -- buffer that is one byte short. So what demand 3 asks for can be met. Assumes nothing.
 use mathlib.Core.Path.{_≡_, refl, sym, _∙_}
-use mathlib.Core.List.{List, [], _∷_}
+use mathlib.Core.List.{List, [], _∷_, _++_}
 use Prim.Native.Nat.{ℕ, zero, suc}
-use lib.Dec.{lit≤}
+use lib.Dec.{lit≤, lit<}
 use lib.ListN.{take, drop}
 use lib.IntN.{pos, negsuc}
 use Rattle.gate.specs.Outcome.{refused, result}
 use Rattle.number.specs.Bytes.{leAt, bytesOf}
 use Rattle.row.specs.Row.{firstLength, piecesIn, rowPieces}
-use Rattle.record.specs.Record.{within, inRange, accepted, whole, byShape, readOf, recordsIn, recordsOf}
+use Rattle.record.specs.Record.{within, inRange, accepted, whole, byShape, readOf, recordsIn, recordsOf, batchBytes}
 use Rattle.record.specs.Examples.{logD}
 use Rattle.figure.specs.FourModes.{Amounts, isStamp}
 use Rattle.figure.specs.Mode.{modeOf, modeInUse}
@@ -23,9 +23,12 @@ use Rattle.summary.specs.Judge.{sumTo, nothingIn, counted}
 use Rattle.summary.specs.Decode.{decode}
 use Rattle.summary.specs.Decide.{allTo, layoutFits, spoiltFits, levelsFit, openedFits, middleFits, recordsFit, valuesFit, hillFits, isSummary}
 use Rattle.summary.specs.Outcomes.{summaryBytes, mergeBytes, summariseOutcome, mergeOutcome, logOutcome}
+use Rattle.chunk.specs.Chunk.{SameButBatches}
 use Rattle.outcome.specs.Outcomes.{twoTo64, askRow, mergedBytes, mergeRowOutcome}
 use Rattle.claim.specs.Claim.{fieldsRead, recordsRead, cutAt, stretchBytes, logSays, firstRow, IsCut, Lent, toMerge, toMergeRow, told, onStretches, Recursion, AreMerges, Claimed}
+use Rattle.claim.specs.Batches.{SameAnswers, SameClaim}
 use Rattle.claim.specs.Demand3.{demand3}
+use Rattle.claim.specs.BatchLaws.{batches-ignored, batches-claim, batch-given}
 
 abbrev zeros : ℕ → List ℕ
 zeros zero = []
@@ -101,3 +104,18 @@ D-recursion = record {
       t .only f e ∙ sym (t .only (tree root below nil) D-traversal);
   figure = refl;
 }
+
+-- D with batch 7 in its first record has the answers of D, and demand 3 says the same of both.
+abbrev D-with-7 : List ℕ
+D-with-7 = batchBytes 0 (pos 10) (pos 0) (pos 100) 7 ++ drop 18 logD
+
+D-but-7 : SameButBatches logD D-with-7
+unfolding leAt bytesOf within inRange accepted whole byShape readOf recordsIn recordsOf
+D-but-7 = batch-given [] (drop 18 logD) refl refl 0 (pos 10) (pos 0) (pos 100) refl 7 (lit< tt)
+
+D-answers-7 : SameAnswers logD D-with-7
+unfolding bytesOf
+D-answers-7 = batches-ignored _ _ D-but-7 (lit≤ tt) (lit≤ tt)
+
+D-claim-7 : SameClaim 1 logD D-with-7
+D-claim-7 = batches-claim _ _ D-but-7 1

@@ -1,13 +1,14 @@
 -- What is claimed of the day table and its log, beside what the two calls come to. Definitions only.
 use mathlib.Core.Path.{_≡_}
-use mathlib.Core.Bool.{true}
-use mathlib.Core.Logic.{_⊎_}
-use mathlib.Core.List.{List, [], _∷_}
+use mathlib.Core.Bool.{true, cond}
+use mathlib.Core.Logic.{_⊎_, _↔_}
+use mathlib.Core.List.{List, [], _∷_, map}
 use Prim.Native.Nat.{ℕ, _*_, _≤_}
+use lib.Dec.{eqb}
 use lib.ListN.{length}
 use Rattle.gate.specs.Outcome.{refused, result, written}
 use Rattle.number.specs.Bytes.{AllBytes}
-use Rattle.record.specs.Record.{readOf}
+use Rattle.record.specs.Record.{readOf, recordsOf}
 use Rattle.record.specs.declared.Fields.{Fields}
 use Rattle.figure.specs.FourModes.{Amounts}
 use Rattle.hill.specs.Log.{Record}
@@ -51,9 +52,25 @@ pub record WritesAgain (log : List ℕ) : Type 0 where
   pub given : (room : ℕ) → readTableOutcome log room ≡ written room table
   pub again : (cap : ℕ) → writeLogOutcome table cap ≡ written cap log
 
+-- "All other calls drop it" (document 02, L2): an open record comes back from the day table with length 18 and without a batch; a close as it was.
+abbrev pub comesBackAs : Fields → Fields
+comesBackAs f = cond (eqb (f .kind) 1) (record { kind = 1; length = 18; depth = f .depth; value = f .value; floor = f .floor; ceiling = f .ceiling; batch = 0 }) f
+
+-- ".. so from the day table the same bytes come back only for records of length 18": of a log and its records, the table that it gives, the log that this
+-- writes, each where it fits, and when that is the same.
+pub record ComesBack (log : List ℕ) (fs : List Fields) : Type 0 where
+  pub table : List ℕ
+  pub back : List ℕ
+  pub table-bytes : AllBytes table
+  pub back-bytes : AllBytes back
+  pub given : (room : ℕ) → readTableOutcome log room ≡ written room table
+  pub writes : (cap : ℕ) → writeLogOutcome table cap ≡ written cap back
+  pub records : recordsOf back ≡ result (map comesBackAs fs)
+  pub same : (back ≡ log) ↔ AllFull fs
+
 -- The bytes begin with a readable full open record that has the line's fields.
 abbrev pub HoldsLine : List ℕ → TableLine → Type 0
-HoldsLine b x = readOf b ≡ result (record { kind = 1; length = 18; depth = x .depth; value = x .amounts .value; floor = x .amounts .floor; ceiling = x .amounts .ceiling })
+HoldsLine b x = readOf b ≡ result (record { kind = 1; length = 18; depth = x .depth; value = x .amounts .value; floor = x .amounts .floor; ceiling = x .amounts .ceiling; batch = 0 })
 
 -- Some well-formed log has these lines, in their order.
 pub record SomeLog (ls : List TableLine) : Type 0 where

@@ -1,30 +1,30 @@
 -- The bytes of a log of full records and its records: one is read from the other, both ways; and how long they are. Assumes nothing.
-use mathlib.Core.Path.{_≡_, refl, sym, ap, subst, _∙_}
+use mathlib.Core.Path.{_≡_, refl, sym, ap, ap₂, subst, _∙_}
 use mathlib.Core.Bool.{Bool, true, false, cond}
 use mathlib.Core.Logic.{_⊎_, inl, inr}
-use mathlib.Core.List.{List, [], _∷_, _++_, append-assoc, append-nil}
+use mathlib.Core.List.{List, [], _∷_, _++_, map, append-assoc, append-nil}
 use Prim.Native.Nat.{ℕ, zero, suc, _+_, _*_, _≤_}
 use native.Mathlib.Omega.{arith}
 use lib.Dec.{leb}
 use lib.IntN.{pos}
-use lib.ListN.{length, drop, length-append, length-drop, length-map, drop-of-length-le}
+use lib.ListN.{length, drop, length-append, length-drop, length-map}
 use lib.Seq.{drop-at}
 use borrow.Author.Tests.{leb-true, leb-false}
 use Rattle.gate.specs.Outcome.{result}
 use Rattle.number.specs.Bytes.{AllBytes}
-use Rattle.number.specs.FieldLaws.{bytes-nil, bytes-append, bytes-drop}
-use Rattle.record.specs.Record.{inRange, recordsOf, before, openBytes, closeBytes}
-use Rattle.record.specs.Laws.{and-left, and-right, sound, Shape, full, short, closed, shape, records-nil, records-next}
+use Rattle.number.specs.FieldLaws.{bytes-nil, bytes-append}
+use Rattle.record.specs.Record.{inRange, recordsOf, before, openBytes, closeBytes, fieldsBytes}
+use Rattle.record.specs.Laws.{and-left, and-right, sound, Shape, full, short, batched, closed, shape, records-nil, records-next}
 use Rattle.record.specs.RangeLaws.{range-parts}
-use Rattle.record.specs.Readable.{First, first-read, none-read}
-use Rattle.record.specs.Encoding.{open-length, close-length, open-bytes, close-bytes, read-open, read-close, open-again, close-again}
+use Rattle.record.specs.Readable.{First, first-read}
+use Rattle.record.specs.Encoding.{open-length, close-length, open-bytes, close-bytes, read-open, read-close, chunkBytes, chunk-again}
 use Rattle.record.specs.declared.Fields.{Fields}
 use Rattle.figure.specs.FourModes.{Amounts}
 use Rattle.hill.specs.Log.{Record, opening, closing, opens, openedOf}
 use Rattle.chunk.specs.Chunk.{recordOf, chunkOf, IsWellFormed}
 use Rattle.day_table.specs.Table.{TableLine, closesTo, logFrom}
 use Rattle.day_table.specs.Outcomes.{couldHold, allCouldHold, fullBytes, logBytes}
-use Rattle.day_table.specs.Claims.{Full, AllFull}
+use Rattle.day_table.specs.Claims.{Full, AllFull, comesBackAs}
 use Rattle.day_table.specs.TableLaws.{Under, log-pairs}
 
 pub log-bytes : (xs : List (Record Amounts)) → AllBytes (logBytes xs)
@@ -45,8 +45,8 @@ RecordsInRange (closing d ∷ xs) = (d ≤ 63) × RecordsInRange xs
 
 -- what is read of a full record
 abbrev pub fieldsOf : Record Amounts → Fields
-fieldsOf (opening d r) = record { kind = 1; length = 18; depth = d; value = r .value; floor = r .floor; ceiling = r .ceiling }
-fieldsOf (closing d) = record { kind = 2; length = 6; depth = d; value = pos 0; floor = pos 0; ceiling = pos 0 }
+fieldsOf (opening d r) = record { kind = 1; length = 18; depth = d; value = r .value; floor = r .floor; ceiling = r .ceiling; batch = 0 }
+fieldsOf (closing d) = record { kind = 2; length = 6; depth = d; value = pos 0; floor = pos 0; ceiling = pos 0; batch = 0 }
 
 abbrev pub allFields : List (Record Amounts) → List Fields
 allFields [] = []
@@ -75,21 +75,38 @@ fields-full [] = tt
 fields-full (opening d r ∷ xs) = (inl refl, fields-full xs)
 fields-full (closing d ∷ xs) = (inr refl, fields-full xs)
 
-not-full : {P : Type 0} → _⊎_ (_≡_ {A = ℕ} 10 18) (_≡_ {A = ℕ} 10 6) → P
-not-full (inl e) = absurd (omega arith)
-not-full (inr e) = absurd (omega arith)
+not-full : {P : Type 0} (n : ℕ) → (n ≡ 18 → ⊥) → (n ≡ 6 → ⊥) → _⊎_ (n ≡ 18) (n ≡ 6) → P
+not-full n h k (inl e) = absurd (h e)
+not-full n h k (inr e) = absurd (k e)
 
-record-again : (s : List ℕ) → AllBytes s → (f : Fields) → f .length ≤ length s → Shape s f → Full f → fullBytes (recordOf f) ++ drop (f .length) s ≡ s
-record-again s all f h (full e0 e2) u = open-again s all h e0 e2
-record-again s all f h short u = not-full u
-record-again s all f h (closed e0 e2) u = close-again s all h e0 e2
+full-again : (s : List ℕ) (f : Fields) → Shape s f → Full f → fullBytes (recordOf f) ≡ fieldsBytes f
+full-again s f (full e0 e2) u = refl
+full-again s f (short e0 e2) u = not-full 10 (λ e. omega arith) (λ e. omega arith) u
+full-again s f (batched e0 e2) u = not-full 22 (λ e. omega arith) (λ e. omega arith) u
+full-again s f (closed e0 e2) u = refl
+
+all-again : (fs : List Fields) (b : List ℕ) → recordsOf b ≡ result fs → AllFull fs → logBytes (chunkOf fs) ≡ chunkBytes fs
+all-again [] b e u = refl
+all-again (f ∷ fs) b e u =
+    let w : First b f fs = first-read b f fs e in
+    ap₂ (λ (x y : List ℕ). x ++ y) (full-again b f (shape b f (w .here)) (u .0)) (all-again fs (drop (f .length) b) (w .rest) (u .1))
 
 pub log-again : (fs : List Fields) (b : List ℕ) → AllBytes b → recordsOf b ≡ result fs → AllFull fs → logBytes (chunkOf fs) ≡ b
-log-again [] b all e u = sym (drop-of-length-le b {i = 0} (omega (arith, none-read b e)))
-log-again (f ∷ fs) b all e u =
+log-again fs b all e u = all-again fs b e u ∙ chunk-again fs b all e
+
+-- ---- what is written of any record that was read: one of length 18, or a close
+
+comes-back-as : (s : List ℕ) (f : Fields) → Shape s f → fieldsOf (recordOf f) ≡ comesBackAs f
+comes-back-as s f (full e0 e2) = refl
+comes-back-as s f (short e0 e2) = refl
+comes-back-as s f (batched e0 e2) = refl
+comes-back-as s f (closed e0 e2) = refl
+
+pub all-come-back : (fs : List Fields) (b : List ℕ) → recordsOf b ≡ result fs → allFields (chunkOf fs) ≡ map comesBackAs fs
+all-come-back [] b e = refl
+all-come-back (f ∷ fs) b e =
     let w : First b f fs = first-read b f fs e in
-    ap (λ (t : List ℕ). fullBytes (recordOf f) ++ t) (log-again fs (drop (f .length) b) (bytes-drop (f .length) b all) (w .rest) (u .1))
-    ∙ record-again b all f (sound b f (w .here) .inside) (shape b f (w .here)) (u .0)
+    ap₂ (λ (x : Fields) (xs : List Fields). x ∷ xs) (comes-back-as b f (shape b f (w .here))) (all-come-back fs (drop (f .length) b) (w .rest))
 
 -- ---- the log of a table: its records are in range where the lines are, ..
 
@@ -138,7 +155,8 @@ length-from l (x ∷ ls) u =
 
 shape-long : (s : List ℕ) (f : Fields) → Shape s f → 6 + 4 * opens (recordOf f) ≤ f .length
 shape-long s f (full e0 e2) = omega arith
-shape-long s f short = omega arith
+shape-long s f (short e0 e2) = omega arith
+shape-long s f (batched e0 e2) = omega arith
 shape-long s f (closed e0 e2) = omega arith
 
 pub records-long : (fs : List Fields) (b : List ℕ) → recordsOf b ≡ result fs → 6 * length fs + 4 * openedOf (chunkOf fs) ≤ length b

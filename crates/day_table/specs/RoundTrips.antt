@@ -1,4 +1,5 @@
--- Document 02, L1: what is written from a table, both round trips, a log's faults, buffers that are never too short, which lines 3 lets through, and 13 exactly. Assumes nothing.
+-- Document 02, L1: what is written from a table, both round trips, a log's faults, buffers that are never too short, which lines 3 lets through, and 13 exactly;
+-- and L2: what comes back of any log. Assumes nothing.
 use mathlib.Core.Path.{_≡_, refl, sym, ap, subst, _∙_}
 use mathlib.Core.Bool.{Bool, true, false, cond}
 use mathlib.Core.List.{List, [], _∷_, _++_}
@@ -11,7 +12,7 @@ use Rattle.gate.specs.Outcome.{refused, result, question, written}
 use Rattle.gate.specs.Laws.{fits, not-result}
 use Rattle.number.specs.Bytes.{AllBytes}
 use Rattle.record.specs.Record.{recordsOf, readOf, defaultFloor, defaultCeiling, openBytes}
-use Rattle.record.specs.Laws.{Shape, full, short, closed, shape, sound}
+use Rattle.record.specs.Laws.{Shape, full, short, batched, closed, shape, sound}
 use Rattle.record.specs.Encoding.{read-open}
 use Rattle.record.specs.Ranged.{AllInRange, records-in-range}
 use Rattle.record.specs.declared.Fields.{Fields}
@@ -25,10 +26,10 @@ use Rattle.chunk.specs.Chunk.{recordOf, chunkOf, wholeLog, IsWellFormed}
 use Rattle.chunk.specs.Laws.{IsLog, is-log, log-is}
 use Rattle.day_table.specs.Table.{TableLine, tableLine, tableOf, logOf, nested}
 use Rattle.day_table.specs.Outcomes.{tableLines, tableBytes, couldHold, allCouldHold, logBytes, writeLogOutcome, readTableOutcome}
-use Rattle.day_table.specs.Claims.{IsFullLog, IsLogOfTable, ReadsBack, WritesAgain, HoldsLine, SomeLog, ReadableTable, Exactly13}
+use Rattle.day_table.specs.Claims.{AllFull, IsFullLog, IsLogOfTable, ReadsBack, WritesAgain, ComesBack, HoldsLine, SomeLog, ReadableTable, Exactly13}
 use Rattle.day_table.specs.TableLaws.{table-log, log-table, log-nested, log-some, nested-log, table-opened}
 use Rattle.day_table.specs.LineLaws.{length-lines, length-table, table-bytes, lines-again, lines-back}
-use Rattle.day_table.specs.LogLaws.{allFields, chunk-fields, fields-full, log-bytes, log-read, log-again, ranged-from, log-long}
+use Rattle.day_table.specs.LogLaws.{allFields, chunk-fields, fields-full, log-bytes, log-read, log-again, all-come-back, ranged-from, log-long}
 use Rattle.day_table.specs.CallLaws.{Taken, taken-is, is-taken, not-nested, nested-length}
 
 -- ---- what is written
@@ -41,12 +42,15 @@ some-log [] h n few = absurd (omega arith)
 some-log (x ∷ ls) h n few = nested-log x ls n few
 
 module _ (table : List ℕ) (t : Taken table) where
+  log-back : recordsOf (logBytes (logOf (tableLines table))) ≡ result (allFields (logOf (tableLines table)))
+  log-back = log-read (logOf (tableLines table)) (ranged-from 0 (tableLines table) (omega arith) (t .readable))
+
   the-log : IsFullLog (logBytes (logOf (tableLines table))) (logOf (tableLines table))
   the-log = record {
     bytes = log-bytes (logOf (tableLines table));
     formed = record {
       fields = allFields (logOf (tableLines table));
-      read = log-read (logOf (tableLines table)) (ranged-from 0 (tableLines table) (omega arith) (t .readable));
+      read = log-back;
       records-are = chunk-fields (logOf (tableLines table));
       fine = some-log (tableLines table) (t .some) (t .in-order) (omega (arith, few-lines table t));
     };
@@ -114,21 +118,50 @@ table-taken log xs i few =
       back,
     )
 
+-- what comes back, of a log that is let through
+log-comes-back : (log : List ℕ) (xs : List (Record Amounts)) (i : IsLog log xs) → AllBytes log → openedOf xs ≤ 2_730 → ComesBack log (i .formed .fields)
+unfolding readTableOutcome
+log-comes-back log xs i all few =
+    let f : IsWellFormed log xs = i .formed in
+    let t = table-taken log xs f few in
+    let wrote : logOf (tableLines (tableBytes (tableOf xs))) ≡ xs = ap logOf (t .1) ∙ log-table xs (f .fine) in
+    let read : recordsOf (logBytes xs) ≡ result (allFields xs) =
+    subst (λ (ys : List (Record Amounts)). recordsOf (logBytes ys) ≡ result (allFields ys)) wrote (log-back (tableBytes (tableOf xs)) (t .0)) in
+    record {
+      table = tableBytes (tableOf xs);
+      back = logBytes xs;
+      table-bytes = table-bytes (tableOf xs);
+      back-bytes = log-bytes xs;
+      given = λ room. rw (log-is i);
+      writes = λ cap. taken-is (tableBytes (tableOf xs)) cap (t .0) ∙ ap (λ (ys : List (Record Amounts)). written cap (logBytes ys)) wrote;
+      records = read ∙ ap (λ (ys : List (Record Amounts)). result (allFields ys)) (sym (f .records-are)) ∙ ap result (all-come-back (f .fields) log (f .read));
+      same = (
+        λ e. let k : allFields xs ≡ f .fields = cc (read, ap recordsOf e, f .read) in subst AllFull k (fields-full xs),
+        λ u. ap logBytes (sym (f .records-are)) ∙ log-again (f .fields) log all (f .read) u,
+      );
+    }
+
+-- "ALL OTHER CALLS DROP IT, SO FROM THE DAY TABLE THE SAME BYTES COME BACK ONLY FOR RECORDS OF LENGTH 18." (L2)
+pub comes-back : (log : List ℕ) (fs : List Fields) (xs : List (Record Amounts)) → AllBytes log → recordsOf log ≡ result fs → wholeLog log ≡ result xs → openedOf xs ≤ 2_730 → ComesBack log fs
+comes-back log fs xs all e w few =
+    let i : IsLog log xs = is-log log xs w in
+    let same : i .formed .fields ≡ fs = cc (i .formed .read) in
+    subst (ComesBack log) same (log-comes-back log xs i all few)
+
 -- a well-formed log of full records has 24 bytes for each record that it opens
 full-length : (log : List ℕ) (xs : List (Record Amounts)) → IsFullLog log xs → length log ≡ 24 * openedOf xs
 full-length log xs i = omega (arith, ap length (full-log log xs i), nested-length (tableOf xs) (log-nested xs (i .formed .fine)), table-opened xs)
 
 -- "AND A WELL-FORMED LOG OF FULL RECORDS, OF AT MOST 2,730 LINES, MUST GIVE A TABLE THAT WRITES THE SAME BYTES."
 pub writes-again : (log : List ℕ) (xs : List (Record Amounts)) → IsFullLog log xs → openedOf xs ≤ 2_730 → WritesAgain log
-unfolding readTableOutcome
 writes-again log xs i few =
     let is : IsLog log xs = record { short = omega (arith, full-length log xs i); formed = i .formed } in
-    let t = table-taken log xs (i .formed) few in
+    let c : ComesBack log (i .formed .fields) = log-comes-back log xs is (i .bytes) few in
     record {
-      table = tableBytes (tableOf xs);
-      bytes = table-bytes (tableOf xs);
-      given = λ room. rw (log-is is);
-      again = λ cap. taken-is (tableBytes (tableOf xs)) cap (t .0) ∙ rw (t .1, full-log log xs i);
+      table = c .table;
+      bytes = c .table-bytes;
+      given = c .given;
+      again = λ cap. c .writes cap ∙ ap (written cap) (c .same .1 (i .full));
     }
 
 -- "A SHORT RECORD READ BACK FILLS ITS LINE WITH THE DEFAULT FLOOR AND CEILING."
@@ -137,7 +170,8 @@ short-line s f e = go f (shape s f e)
   where
     go : (f : Fields) → Shape s f → f .length ≡ 10 → tableOf (recordOf f ∷ []) ≡ tableLine (f .depth) (amounts (f .value) defaultFloor defaultCeiling) ∷ []
     go f (full e0 e2) l = absurd (omega arith)
-    go f short l = refl
+    go f (short e0 e2) l = refl
+    go f (batched e0 e2) l = absurd (omega arith)
     go f (closed e0 e2) l = absurd (omega arith)
 
 -- "A LOG WITH A FAULT GETS THE FAULT'S NUMBER": the lowest of questions 7 to 11 that gets a "no", by places.

@@ -19,10 +19,10 @@ logD =
     6 ∷ 0 ∷ 2 ∷ 0 ∷ 0 ∷ 0 ∷ []
 
 opened : ℕ → ℤ → ℤ → ℤ → Fields
-opened depth value floor ceiling = record { kind = 1; length = 18; depth = depth; value = value; floor = floor; ceiling = ceiling }
+opened depth value floor ceiling = record { kind = 1; length = 18; depth = depth; value = value; floor = floor; ceiling = ceiling; batch = 0 }
 
 closed : ℕ → Fields
-closed depth = record { kind = 2; length = 6; depth = depth; value = pos 0; floor = pos 0; ceiling = pos 0 }
+closed depth = record { kind = 2; length = 6; depth = depth; value = pos 0; floor = pos 0; ceiling = pos 0; batch = 0 }
 
 D-records : recordsOf logD ≡
     result (opened 0 (pos 10) (pos 0) (pos 100) ∷ opened 1 (pos 5) (pos 0) (pos 4) ∷ closed 1 ∷ opened 1 (negsuc 2) (pos 0) (pos 100) ∷ closed 1 ∷ closed 0 ∷ [])
@@ -30,7 +30,7 @@ unfolding leAt within inRange accepted whole byShape readOf recordsIn recordsOf 
 D-records = refl
 
 -- A record of length 10 has the widest floor and ceiling; depth 63 is read.
-short-open : readOf (10 ∷ 0 ∷ 1 ∷ 0 ∷ 63 ∷ 0 ∷ 253 ∷ 255 ∷ 255 ∷ 255 ∷ []) ≡ result (record { kind = 1; length = 10; depth = 63; value = negsuc 2; floor = least; ceiling = most })
+short-open : readOf (10 ∷ 0 ∷ 1 ∷ 0 ∷ 63 ∷ 0 ∷ 253 ∷ 255 ∷ 255 ∷ 255 ∷ []) ≡ result (record { kind = 1; length = 10; depth = 63; value = negsuc 2; floor = least; ceiling = most; batch = 0 })
 unfolding leAt within inRange accepted whole byShape readOf
 short-open = refl
 
@@ -46,3 +46,24 @@ cut-short = refl
 no-bytes : readOf [] ≡ refused 3
 unfolding leAt within inRange accepted whole byShape readOf
 no-bytes = refl
+
+-- A batch is unsigned: four bytes 255 are 4,294,967,295.
+with-batch : readOf (22 ∷ 0 ∷ 1 ∷ 0 ∷ 1 ∷ 0 ∷ 5 ∷ 0 ∷ 0 ∷ 0 ∷ 0 ∷ 0 ∷ 0 ∷ 0 ∷ 4 ∷ 0 ∷ 0 ∷ 0 ∷ 255 ∷ 255 ∷ 255 ∷ 255 ∷ []) ≡
+    result (record { kind = 1; length = 22; depth = 1; value = pos 5; floor = pos 0; ceiling = pos 4; batch = 4_294_967_295 })
+unfolding leAt within inRange accepted whole byShape readOf
+with-batch = refl
+
+-- 21 of its 22 bytes; a close of length 22.
+batch-cut : readOf (22 ∷ 0 ∷ 1 ∷ 0 ∷ 1 ∷ 0 ∷ 5 ∷ 0 ∷ 0 ∷ 0 ∷ 0 ∷ 0 ∷ 0 ∷ 0 ∷ 4 ∷ 0 ∷ 0 ∷ 0 ∷ 255 ∷ 255 ∷ 255 ∷ []) ≡ refused 3
+unfolding leAt within inRange accepted whole byShape readOf
+batch-cut = refl
+
+close-of-22 : readOf (22 ∷ 0 ∷ 2 ∷ 0 ∷ 1 ∷ 0 ∷ 5 ∷ 0 ∷ 0 ∷ 0 ∷ 0 ∷ 0 ∷ 0 ∷ 0 ∷ 4 ∷ 0 ∷ 0 ∷ 0 ∷ 255 ∷ 255 ∷ 255 ∷ 255 ∷ []) ≡ refused 3
+unfolding leAt within inRange accepted whole byShape readOf
+close-of-22 = refl
+
+-- A batch whose bytes begin like a close is a batch, and the record after it is the next one.
+batch-like-a-close : recordsOf (22 ∷ 0 ∷ 1 ∷ 0 ∷ 1 ∷ 0 ∷ 5 ∷ 0 ∷ 0 ∷ 0 ∷ 0 ∷ 0 ∷ 0 ∷ 0 ∷ 4 ∷ 0 ∷ 0 ∷ 0 ∷ 6 ∷ 0 ∷ 2 ∷ 0 ∷ 6 ∷ 0 ∷ 2 ∷ 0 ∷ 1 ∷ 0 ∷ []) ≡
+    result (record { kind = 1; length = 22; depth = 1; value = pos 5; floor = pos 0; ceiling = pos 4; batch = 131_078 } ∷ closed 1 ∷ [])
+unfolding leAt within inRange accepted whole byShape readOf recordsIn recordsOf closed
+batch-like-a-close = refl

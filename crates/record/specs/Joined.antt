@@ -7,12 +7,12 @@ use native.Mathlib.Nat.{le-refl}
 use native.Mathlib.Omega.{arith}
 use lib.ListN.{length, drop, length-append, length-drop}
 use lib.Seq.{drop-append-le}
-use lib.Dec.{leb, eqb}
-use borrow.Author.Tests.{le-leb, leb-true}
+use lib.Dec.{leb, eqb, lit≤}
+use borrow.Author.Tests.{le-leb, leb-true, eqb-true}
 use Rattle.gate.specs.Outcome.{Outcome, refused, result}
 use Rattle.number.specs.Bytes.{leAt}
 use Rattle.number.specs.Laws.{leAt-append}
-use Rattle.record.specs.Record.{accepted, whole, byShape, readOf, before, recordsOf, fullOpen, shortOpen, close}
+use Rattle.record.specs.Record.{accepted, whole, byShape, readOf, before, recordsOf, batchOf, openOf, fullOpen, openWithBatch, shortOpen, close}
 use Rattle.record.specs.Laws.{sound, records-nil, records-bad, records-next, onto, onto-nil}
 use Rattle.record.specs.declared.Fields.{Fields}
 
@@ -28,8 +28,28 @@ either : (b : Bool) (x y x′ y′ : Outcome Fields) → Reads x x′ → Reads 
 either true x y x′ y′ p q = p
 either false x y x′ y′ p q = q
 
+-- ---- a layout looks at its own bytes alone
+
 module _ (a b : List ℕ) where
-  -- a layout that looks at its own bytes alone
+  batch-same : (len : ℕ) → len ≤ length a → batchOf len (a ++ b) ≡ batchOf len a
+  batch-same len h = go (eqb len 22) refl
+    where
+      go : (t : Bool) → eqb len 22 ≡ t → cond t (leAt 4 (a ++ b) 18) 0 ≡ cond t (leAt 4 a 18) 0
+      go true e = leAt-append 4 a b 18 (omega (arith, eqb-true len 22 e))
+      go false e = refl
+
+  pub open-same : (len : ℕ) → 18 ≤ len → len ≤ length a → openOf len (a ++ b) ≡ openOf len a
+  open-same len k h =
+      rw (batch-same len h, leAt-append 2 a b 4 (omega arith), leAt-append 4 a b 6 (omega arith), leAt-append 4 a b 10 (omega arith), leAt-append 4 a b 14 (omega arith))
+
+  pub short-same : 10 ≤ length a → shortOpen (a ++ b) ≡ shortOpen a
+  short-same h = rw (leAt-append 2 a b 4 (omega arith), leAt-append 4 a b 6 (omega arith))
+
+  pub close-same : 6 ≤ length a → close (a ++ b) ≡ close a
+  close-same h = rw (leAt-append 2 a b 4 (omega arith))
+
+module _ (a b : List ℕ) where
+  -- so what is read of it is read of it with others behind it
   whole-reads : (F : List ℕ → Fields) → (F a .length ≤ length a → F (a ++ b) ≡ F a) → Reads (whole a (F a)) (whole (a ++ b) (F (a ++ b)))
   unfolding Reads whole
   whole-reads F same = go (leb (F a .length) (length a)) refl
@@ -44,10 +64,10 @@ module _ (a b : List ℕ) where
   unfolding byShape
   shape-reads kind len =
       either (eqb kind 1) _ _ _ _
-      (either (eqb len 18) _ _ _ _
-      (whole-reads fullOpen (λ h. rw (leAt-append 2 a b 4 (omega arith), leAt-append 4 a b 6 (omega arith), leAt-append 4 a b 10 (omega arith), leAt-append 4 a b 14 (omega arith))))
-      (either (eqb len 10) _ _ _ _ (whole-reads shortOpen (λ h. rw (leAt-append 2 a b 4 (omega arith), leAt-append 4 a b 6 (omega arith)))) (no-record _)))
-      (either (eqb kind 2) _ _ _ _ (either (eqb len 6) _ _ _ _ (whole-reads close (λ h. rw (leAt-append 2 a b 4 (omega arith)))) (no-record _)) (no-record _))
+      (either (eqb len 18) _ _ _ _ (whole-reads fullOpen (open-same a b 18 (lit≤ tt)))
+      (either (eqb len 10) _ _ _ _ (whole-reads shortOpen (short-same a b))
+      (either (eqb len 22) _ _ _ _ (whole-reads openWithBatch (open-same a b 22 (lit≤ tt))) (no-record _))))
+      (either (eqb kind 2) _ _ _ _ (either (eqb len 6) _ _ _ _ (whole-reads close (close-same a b)) (no-record _)) (no-record _))
 
   -- later bytes, and how many there are, are not judged
   pub read-append : (f : Fields) → readOf a ≡ result f → readOf (a ++ b) ≡ result f

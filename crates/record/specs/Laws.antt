@@ -11,7 +11,7 @@ use lib.IntN.{ℤ, pos, negsuc, natAbs}
 use borrow.Author.Tests.{lt-leb, leb-true, eqb-true}
 use Rattle.gate.specs.Outcome.{Outcome, refused, result}
 use Rattle.number.specs.Bytes.{leAt}
-use Rattle.record.specs.Record.{within, inRange, accepted, whole, byShape, readOf, before, andThen, recordsIn, recordsOf, fullOpen, shortOpen, close}
+use Rattle.record.specs.Record.{within, inRange, accepted, whole, byShape, readOf, before, andThen, recordsIn, recordsOf, fullOpen, openWithBatch, shortOpen, close}
 use Rattle.record.specs.declared.Fields.{Fields}
 
 cond-same : (b : Bool) (r : Outcome Fields) → cond b r r ≡ r
@@ -22,7 +22,7 @@ cond-same false r = refl
 pub read-short : (s : List ℕ) → length s < 6 → readOf s ≡ refused 3
 unfolding readOf byShape whole
 read-short s h =
-    simp (lt-leb 18 (length s) (omega arith), lt-leb 10 (length s) (omega arith), lt-leb 6 (length s) h, cond-same)
+    simp (lt-leb 22 (length s) (omega arith), lt-leb 18 (length s) (omega arith), lt-leb 10 (length s) (omega arith), lt-leb 6 (length s) h, cond-same)
 
 -- ---- a record that was read
 
@@ -50,7 +50,8 @@ unfolding readOf byShape
 read-sound s =
     either (SoundRead s) (eqb (leAt 2 s 2) 1) _ _
     (λ _. either (SoundRead s) (eqb (leAt 2 s 0) 18) _ _ (λ _. whole-sound s (fullOpen s) (lit≤ tt))
-    (either (SoundRead s) (eqb (leAt 2 s 0) 10) _ _ (λ _. whole-sound s (shortOpen s) (lit≤ tt)) tt))
+    (either (SoundRead s) (eqb (leAt 2 s 0) 10) _ _ (λ _. whole-sound s (shortOpen s) (lit≤ tt))
+    (either (SoundRead s) (eqb (leAt 2 s 0) 22) _ _ (λ _. whole-sound s (openWithBatch s) (lit≤ tt)) tt)))
     (either (SoundRead s) (eqb (leAt 2 s 2) 2) _ _ (λ _. either (SoundRead s) (eqb (leAt 2 s 0) 6) _ _ (λ _. whole-sound s (close s) (lit≤ tt)) tt) tt)
 
 pub sound : (s : List ℕ) (f : Fields) → readOf s ≡ result f → Sound s f
@@ -73,7 +74,8 @@ within-size (negsuc n) e = omega (arith, leb-true n 999_999_999 (and-left (leb n
 
 pub data Shape (s : List ℕ) : Fields → Type 0 where
   full : leAt 2 s 0 ≡ 18 → leAt 2 s 2 ≡ 1 → Shape s (fullOpen s)
-  short : Shape s (shortOpen s)
+  short : leAt 2 s 0 ≡ 10 → leAt 2 s 2 ≡ 1 → Shape s (shortOpen s)
+  batched : leAt 2 s 0 ≡ 22 → leAt 2 s 2 ≡ 1 → Shape s (openWithBatch s)
   closed : leAt 2 s 0 ≡ 6 → leAt 2 s 2 ≡ 2 → Shape s (close s)
 
 abbrev ShapeRead : List ℕ → Outcome Fields → Type 0
@@ -90,7 +92,8 @@ unfolding readOf byShape
 read-shape s =
     either (ShapeRead s) (eqb (leAt 2 s 2) 1) _ _
     (λ k. either (ShapeRead s) (eqb (leAt 2 s 0) 18) _ _ (λ l. whole-shape s (fullOpen s) (full (eqb-true _ _ l) (eqb-true _ _ k)))
-    (either (ShapeRead s) (eqb (leAt 2 s 0) 10) _ _ (λ _. whole-shape s (shortOpen s) short) tt))
+    (either (ShapeRead s) (eqb (leAt 2 s 0) 10) _ _ (λ l. whole-shape s (shortOpen s) (short (eqb-true _ _ l) (eqb-true _ _ k)))
+    (either (ShapeRead s) (eqb (leAt 2 s 0) 22) _ _ (λ l. whole-shape s (openWithBatch s) (batched (eqb-true _ _ l) (eqb-true _ _ k))) tt)))
     (either (ShapeRead s) (eqb (leAt 2 s 2) 2) _ _ (λ k. either (ShapeRead s) (eqb (leAt 2 s 0) 6) _ _ (λ l. whole-shape s (close s) (closed (eqb-true _ _ l) (eqb-true _ _ k))) tt) tt)
 
 pub shape : (s : List ℕ) (f : Fields) → readOf s ≡ result f → Shape s f

@@ -1,4 +1,4 @@
--- Records, as document 01's section "Records" has them.
+-- Records, as document 01's section "Records" has them, with the batch of document 02, L2.
 use Prim.Native.Nat.{ℕ, zero, suc}
 use mathlib.Core.Bool.{Bool, cond, _&&_}
 use mathlib.Core.List.{List, [], _∷_, _++_}
@@ -44,15 +44,26 @@ defaultFloor = negsuc 999_999_999
 abbrev pub defaultCeiling : ℤ
 defaultCeiling = pos 1_000_000_000
 
--- The three layouts: length at 0, kind at 2, depth at 4, then value, floor and ceiling.
+-- "The mill now prints a 32-bit batch number on each bag. An open record may have length 22: the 18 bytes, then the batch, unsigned"; reading answers "0
+-- where the record has none".
+abbrev pub batchOf : (len : ℕ) → List ℕ → ℕ
+batchOf len s = cond (eqb len 22) (leAt 4 s 18) 0
+
+-- The layouts: length at 0, kind at 2, depth at 4, then value, floor and ceiling, and the batch behind them.
+abbrev pub openOf : (len : ℕ) → List ℕ → Fields
+openOf len s = record { kind = 1; length = len; depth = leAt 2 s 4; value = i32At s 6; floor = i32At s 10; ceiling = i32At s 14; batch = batchOf len s }
+
 abbrev pub fullOpen : List ℕ → Fields
-fullOpen s = record { kind = 1; length = 18; depth = leAt 2 s 4; value = i32At s 6; floor = i32At s 10; ceiling = i32At s 14 }
+fullOpen s = openOf 18 s
+
+abbrev pub openWithBatch : List ℕ → Fields
+openWithBatch s = openOf 22 s
 
 abbrev pub shortOpen : List ℕ → Fields
-shortOpen s = record { kind = 1; length = 10; depth = leAt 2 s 4; value = i32At s 6; floor = defaultFloor; ceiling = defaultCeiling }
+shortOpen s = record { kind = 1; length = 10; depth = leAt 2 s 4; value = i32At s 6; floor = defaultFloor; ceiling = defaultCeiling; batch = 0 }
 
 abbrev pub close : List ℕ → Fields
-close s = record { kind = 2; length = 6; depth = leAt 2 s 4; value = pos 0; floor = pos 0; ceiling = pos 0 }
+close s = record { kind = 2; length = 6; depth = leAt 2 s 4; value = pos 0; floor = pos 0; ceiling = pos 0; batch = 0 }
 
 -- The record f, if its fields are in range.
 unfoldable pub accepted : Fields → Outcome Fields
@@ -66,7 +77,7 @@ whole s f = cond (leb (f .length) (length s)) (accepted f) (refused 3)
 unfoldable pub byShape : ℕ → ℕ → List ℕ → Outcome Fields
 byShape kind len s =
     cond (eqb kind 1)
-    (cond (eqb len 18) (whole s (fullOpen s)) (cond (eqb len 10) (whole s (shortOpen s)) (refused 3)))
+    (cond (eqb len 18) (whole s (fullOpen s)) (cond (eqb len 10) (whole s (shortOpen s)) (cond (eqb len 22) (whole s (openWithBatch s)) (refused 3))))
     (cond (eqb kind 2) (cond (eqb len 6) (whole s (close s)) (refused 3)) (refused 3))
 
 -- READING THE FIRST RECORD. A byte past the end counts 0, so a header that is cut short needs no test of its own: fewer bytes than
@@ -95,11 +106,30 @@ recordsIn (suc n) (b ∷ s) = andThen (readOf (b ∷ s)) (λ f. recordsIn n (dro
 unfoldable pub recordsOf : List ℕ → Outcome (List Fields)
 recordsOf s = recordsIn (length s) s
 
--- The bytes of a full open record: kind 1, length 18, depth, value, floor, ceiling. They are read as that record (`read-open`).
-abbrev pub openBytes : ℕ → ℤ → ℤ → ℤ → List ℕ
-openBytes depth value floor ceiling =
-    bytesOf 2 18 ++ (bytesOf 2 1 ++ (bytesOf 2 depth ++ (bytesOf 4 (ofZ w32 value) ++ (bytesOf 4 (ofZ w32 floor) ++ bytesOf 4 (ofZ w32 ceiling)))))
+-- ---- a record's bytes
 
--- The bytes of a close: kind 2, length 6, depth. They are read as that record (`read-close`).
+-- The first 18 bytes of an open record of length 18 or 22: length, kind 1, depth, value, floor, ceiling.
+abbrev pub openFront : (len depth : ℕ) → (value floor ceiling : ℤ) → List ℕ
+openFront len depth value floor ceiling =
+    bytesOf 2 len ++ (bytesOf 2 1 ++ (bytesOf 2 depth ++ (bytesOf 4 (ofZ w32 value) ++ (bytesOf 4 (ofZ w32 floor) ++ bytesOf 4 (ofZ w32 ceiling)))))
+
+-- The bytes of each layout. They are read as that record (`read-open`, `read-with-batch`, `read-short-open`, `read-close`).
+abbrev pub openBytes : ℕ → ℤ → ℤ → ℤ → List ℕ
+openBytes depth value floor ceiling = openFront 18 depth value floor ceiling
+
+abbrev pub batchBytes : ℕ → ℤ → ℤ → ℤ → (batch : ℕ) → List ℕ
+batchBytes depth value floor ceiling batch = openFront 22 depth value floor ceiling ++ bytesOf 4 batch
+
+abbrev pub shortBytes : ℕ → ℤ → List ℕ
+shortBytes depth value = bytesOf 2 10 ++ (bytesOf 2 1 ++ (bytesOf 2 depth ++ bytesOf 4 (ofZ w32 value)))
+
 abbrev pub closeBytes : ℕ → List ℕ
 closeBytes depth = bytesOf 2 6 ++ (bytesOf 2 2 ++ bytesOf 2 depth)
+
+-- The bytes of a record that was read, from its fields. No byte of it is lost (`bytes-again`).
+abbrev pub fieldsBytes : Fields → List ℕ
+fieldsBytes f =
+    cond (eqb (f .kind) 1)
+    (cond (eqb (f .length) 18) (openBytes (f .depth) (f .value) (f .floor) (f .ceiling))
+    (cond (eqb (f .length) 10) (shortBytes (f .depth) (f .value)) (batchBytes (f .depth) (f .value) (f .floor) (f .ceiling) (f .batch))))
+    (closeBytes (f .depth))

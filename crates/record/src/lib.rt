@@ -1,5 +1,7 @@
-// Reading records: document 01, "Records".
+// Reading records: document 01, "Records", with the batch of document 02, L2.
 ghost use mathlib.Core.Path.{_≡_};
+ghost use Prim.Native.Nat.{_≤_};
+ghost use lib.ListN.{length};
 ghost use Rattle.record.specs.Record.{
   answerOf,
   within,
@@ -7,13 +9,14 @@ ghost use Rattle.record.specs.Record.{
   inRange,
   accepted,
   whole,
-  fullOpen,
+  batchOf,
+  openOf,
   shortOpen,
   close,
   readOf,
 };
 
-// A record's fields. The last three are 0 for a close.
+// A record's fields. Value, floor and ceiling are 0 for a close, and the batch is 0 where the record has none.
 pub struct Fields {
     pub kind: u16,
     pub length: u16,
@@ -21,6 +24,7 @@ pub struct Fields {
     pub value: i32,
     pub floor: i32,
     pub ceiling: i32,
+    pub batch: u32,
 }
 
 // What reading the first record of a chunk finds. `answerOf` says what each case means.
@@ -70,19 +74,34 @@ fn accept(f: Fields) -> Read
     }
 }
 
-fn read_full(chunk: &[u8]) -> Read
-    ensures { λ r. ⌜ answerOf r ≡ whole (now (chunk .entry)) (fullOpen (now (chunk .entry))) ⌝ }
+// The batch of an open record, 0 where its length leaves no place for one.
+fn read_batch(chunk: &[u8], len: u16) -> u32
+    requires { ⌜ len ≤ length (now chunk) ⌝ }
+    ensures { λ r. ⌜ r ≡ batchOf len (now (chunk .entry)) ⌝ }
 {
-    if chunk.len() < 18 {
+    if len == 22 {
+        number::read_u32(chunk, 18)
+    } else {
+        0
+    }
+}
+
+// An open record of length 18, or 22 with its batch. One function for both, or reading is too long to be inlined.
+fn read_open(chunk: &[u8], len: u16) -> Read
+    requires { ⌜ 18 ≤ len ⌝ }
+    ensures { λ r. ⌜ answerOf r ≡ whole (now (chunk .entry)) (openOf len (now (chunk .entry))) ⌝ }
+{
+    if chunk.len() < len as usize {
         return Read::Refused;
     }
     accept(Fields {
         kind: 1,
-        length: 18,
+        length: len,
         depth: number::read_u16(chunk, 4),
         value: number::read_i32(chunk, 6),
         floor: number::read_i32(chunk, 10),
         ceiling: number::read_i32(chunk, 14),
+        batch: read_batch(chunk, len),
     })
 }
 
@@ -99,6 +118,7 @@ fn read_short(chunk: &[u8]) -> Read
         value: number::read_i32(chunk, 6),
         floor: DEFAULT_FLOOR,
         ceiling: DEFAULT_CEILING,
+        batch: 0,
     })
 }
 
@@ -115,6 +135,7 @@ fn read_close(chunk: &[u8]) -> Read
         value: 0,
         floor: 0,
         ceiling: 0,
+        batch: 0,
     })
 }
 
@@ -129,7 +150,7 @@ pub fn read_first(chunk: &[u8]) -> Read
     let kind = number::read_u16(chunk, 2);
     match kind {
         1 => match length {
-            18 => read_full(chunk),
+            18 | 22 => read_open(chunk, length),
             10 => read_short(chunk),
             _ => Read::Refused,
         },

@@ -22,10 +22,10 @@ abbrev pub Short : Outcome ℕ → Type 0
 Short (refused n) = Unit {0}
 Short (result n) = n < 2 ^ 63
 
--- The buffer of six: the record's fields in the order of document 01, or as it was.
+-- The buffer of seven: the record's fields in the order of document 01 and then its batch, or as it was.
 abbrev pub fieldsAfter : Outcome Fields → List ℤ → List ℤ
 fieldsAfter (refused n) fields = fields
-fieldsAfter (result f) fields = pos (f .kind) ∷ pos (f .length) ∷ pos (f .depth) ∷ f .value ∷ f .floor ∷ f .ceiling ∷ []
+fieldsAfter (result f) fields = pos (f .kind) ∷ pos (f .length) ∷ pos (f .depth) ∷ f .value ∷ f .floor ∷ f .ceiling ∷ pos (f .batch) ∷ []
 
 -- The buffer of one: the figure, or as it was.
 abbrev pub figureAfter : Outcome ℤ → List ℤ → List ℤ

@@ -65,9 +65,9 @@ fn put_totals(t: Totals, totals: &mut [i64; 3]) -> i64
     0
 }
 
-// Reads the first record of a chunk: 0 and its kind, length, depth, value, floor and ceiling, or -3 and `fields` as it was.
+// Reads the first record of a chunk: 0 and its kind, length, depth, value, floor, ceiling and batch, or -3 and `fields` as it was.
 #[no_mangle]
-pub extern "C" fn tulghimo_read(chunk: &[u8], fields: &mut [i64; 6]) -> i64
+pub extern "C" fn tulghimo_read_record(chunk: &[u8], fields: &mut [i64; 7]) -> i64
     ensures answer { λ r. ⌜ r ≡ statusOf (readOf (now (chunk .entry))) ⌝ }
     ensures buffer { λ _. ⌜ now (fields .exit) ≡ fieldsAfter (readOf (now (chunk .entry))) (now (fields .entry)) ⌝ }
 {
@@ -81,6 +81,7 @@ pub extern "C" fn tulghimo_read(chunk: &[u8], fields: &mut [i64; 6]) -> i64
         number::widen(f.value),
         number::widen(f.floor),
         number::widen(f.ceiling),
+        number::from_u32(f.batch),
     ];
     0
 }

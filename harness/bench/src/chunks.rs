@@ -1,8 +1,8 @@
 //! The logs that are timed: whole ones, each nearly as long as a chunk may be.
 
-use reference::gen::logs::{open, Values};
+use reference::gen::logs::{batch, open, Values};
 use reference::gen::Rng;
-use reference::record::{encode_close, encode_full, encode_short, Open};
+use reference::record::{encode_close, encode_full, encode_short, encode_with_batch, Open};
 
 /// "Is the chunk at most 65,536 bytes?"
 const LONGEST: usize = 65_536;
@@ -10,12 +10,32 @@ const LONGEST: usize = 65_536;
 /// Different ones of a kind.
 pub const COUNT: usize = 48;
 
-/// Which open records a log has: of 10 bytes, of 18, or each by the toss of a coin.
+/// Which open records a log has: of 10 bytes, of 18, each of these by the toss of a coin, or of 22.
 #[derive(Clone, Copy)]
 pub enum Records {
     Short,
     Full,
     Mixed,
+    Batch,
+}
+
+impl Records {
+    /// In bytes.
+    fn longest(self) -> usize {
+        match self {
+            Records::Short | Records::Full | Records::Mixed => 18,
+            Records::Batch => 22,
+        }
+    }
+
+    fn encode(self, rng: &mut Rng, opened: &Open) -> Vec<u8> {
+        match self {
+            Records::Short => encode_short(opened.depth, opened.value),
+            Records::Mixed if rng.one_in(2) => encode_short(opened.depth, opened.value),
+            Records::Full | Records::Mixed => encode_full(opened),
+            Records::Batch => encode_with_batch(opened, batch(rng)),
+        }
+    }
 }
 
 /// Logs of one kind.
@@ -24,11 +44,13 @@ pub struct Case {
     pub logs: Vec<Vec<u8>>,
 }
 
-/// All kinds: by the toss of a coin at three depths and with three kinds of records, and a farm's day.
+/// All kinds: by the toss of a coin at three depths and with four kinds of records, and a farm's day.
 pub fn cases() -> Vec<Case> {
     let mut cases = Vec::new();
     for deepest in [2, 5, 63] {
-        for (name, records) in [("short", Records::Short), ("full", Records::Full), ("mixed", Records::Mixed)] {
+        for (name, records) in
+            [("short", Records::Short), ("full", Records::Full), ("mixed", Records::Mixed), ("batch", Records::Batch)]
+        {
             cases.push(Case { name: format!("depth {deepest}, {name}"), logs: many(|rng| random(rng, deepest, records)) });
         }
     }
@@ -46,11 +68,10 @@ pub fn random(rng: &mut Rng, deepest: usize, records: Records) -> Vec<u8> {
     let mut log = Vec::new();
     let mut level = 0;
     // Room for one more open, and for the closes of all that are then open.
-    while log.len() + 18 + 6 * (level + 1) <= LONGEST {
+    while log.len() + records.longest() + 6 * (level + 1) <= LONGEST {
         if level <= 1 || (level <= deepest && rng.one_in(2)) {
             let opened = open(rng, level, Values::Small);
-            let short = matches!(records, Records::Short) || (matches!(records, Records::Mixed) && rng.one_in(2));
-            log.extend(if short { encode_short(level, opened.value) } else { encode_full(&opened) });
+            log.extend(records.encode(rng, &opened));
             level += 1;
         } else {
             level -= 1;

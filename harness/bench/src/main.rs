@@ -3,8 +3,9 @@
 //! First beside a plain recursion in C (`c/recursion.c`, `cc -O3`), which reads the same bytes with the same checks. Summarise in one mode is
 //! held against the recursion for that one figure, day against the one for all four; both are given a whole log, and their answers are compared
 //! before anything is timed. The logs nearly fill a chunk (65,536 bytes). There are 48 different ones of each kind: an open or a close by the
-//! toss of a coin down to depth 2, 5 or 63, with short, full or mixed open records, and a farm's day, whose pattern is regular. In each of 200
-//! rounds each call is put once to each log, the library first and the recursion first in turns. A time is the sum of each log's best.
+//! toss of a coin down to depth 2, 5 or 63, with open records that are short, full, mixed of both or have a batch, and a farm's day, whose
+//! pattern is regular. In each of 200 rounds each call is put once to each log, the library first and the recursion first in turns. A time is
+//! the sum of each log's best.
 //!
 //! Then merging, the plan, the runs and the work (`rows.rs`), and the day table (`tables.rs`). Buffers are lent once and not cleared between
 //! calls.

@@ -77,7 +77,7 @@ mod tests {
     /// One record of any length and kind, and of a depth that may not meet the ones around it, closed as it is opened.
     #[test]
     fn agrees_with_the_library_on_every_length_kind_and_depth() {
-        for length in 0..=20 {
+        for length in 0..=24 {
             for (kind, depth) in (0..=4).flat_map(|kind| [0, 1, 2, 63, 64].map(|depth| (kind, depth))) {
                 let mut record = words(&[length, kind, depth]);
                 record.resize(usize::from(length.max(6)), 0);

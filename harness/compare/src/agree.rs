@@ -1,9 +1,11 @@
 //! One function a call: the proved library and the reference must agree on the answer and on every lent byte, whatever the length
 //! of the buffer. Each gives the library's answers, one for each time that it was called, and panics on a difference.
 
+use crate::calls as library;
 use crate::{capacities, numbers_outcome, LentBytes, LentNumbers};
 use reference::calls;
-use reference::gate::question_12;
+use reference::gate::{question_12, LONGEST_CHUNK};
+use std::fmt::Debug;
 use tulghimo::raw;
 
 /// As long as the longest result: the log of 2,730 lines.
@@ -25,8 +27,8 @@ fn numbers<const N: usize>(expected: Result<[i64; N], u8>, call: impl Fn(&mut [i
     vec![outcome.0]
 }
 
-pub fn read(chunk: &[u8]) -> Vec<i64> {
-    numbers(calls::read(chunk), |fields| raw::read(chunk, fields))
+pub fn read_record(chunk: &[u8]) -> Vec<i64> {
+    numbers(calls::read_record(chunk), |fields| raw::read_record(chunk, fields))
 }
 
 pub fn summarise(chunk: &[u8], mode: u32) -> Vec<i64> {
@@ -68,4 +70,26 @@ pub fn write_log(table: &[u8]) -> Vec<i64> {
 
 pub fn read_table(log: &[u8]) -> Vec<i64> {
     bytes(calls::read_table(log, AMPLE), |out| raw::read_table(log, out))
+}
+
+/// What the library says of two chunks, which must be the same: 0, or minus its refusal.
+fn same<T: Debug + PartialEq>(call: impl Fn(&[u8]) -> Result<T, u8>, [one, other]: [&[u8]; 2]) -> i64 {
+    let answer = call(one);
+    assert_eq!(answer, call(other), "of two chunks that differ in batches only");
+    answer.map_or_else(|number| -i64::from(number), |_| 0)
+}
+
+/// The library alone, on two chunks that differ in batches only: it reads the same but for length and batch, and where both are short
+/// enough to be taken, every other call answers and writes the same. Gives one answer for each call.
+pub fn batches_only(one: &[u8], other: &[u8], mode: u32) -> Vec<i64> {
+    let both = [one, other];
+    let but_for_batch = |[kind, _, depth, value, floor, ceiling, _]: [i64; 7]| [kind, depth, value, floor, ceiling];
+    let read = same(|chunk| library::read_record(chunk).map(but_for_batch), both);
+    if both.iter().any(|chunk| chunk.len() > LONGEST_CHUNK) {
+        return vec![read];
+    }
+    let summary = same(|chunk| library::summarise(chunk, mode, AMPLE), both);
+    let day = same(library::day, both);
+    let table = same(|chunk| library::read_table(chunk, AMPLE), both);
+    vec![read, summary, day, table]
 }

@@ -17,8 +17,8 @@ fn numbers<const N: usize>(call: impl FnOnce(&mut [i64; N]) -> i64) -> Result<[i
     Err(u8::try_from(-answer).expect("0 or a refusal"))
 }
 
-pub fn read(chunk: &[u8]) -> Result<[i64; 6], u8> {
-    numbers(|fields| raw::read(chunk, fields))
+pub fn read_record(chunk: &[u8]) -> Result<[i64; 7], u8> {
+    numbers(|fields| raw::read_record(chunk, fields))
 }
 
 pub fn summarise(chunk: &[u8], mode: u32, capacity: usize) -> Result<Vec<u8>, u8> {

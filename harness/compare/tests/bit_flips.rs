@@ -37,7 +37,8 @@ fn flips(log: &[u8]) -> (BTreeMap<u8, usize>, usize, usize) {
 #[test]
 fn every_flip_of_the_weekday() {
     // The log has 53 full opens, 119 short ones and 172 closes. By hand: of a record's length, kind and depth no bit may change.
-    // 6 bits lead to another depth, which does not meet its neighbours; the other 42 to what is not readable.
+    // 6 bits lead to another depth, which does not meet its neighbours; the other 42 to what is not readable. One of these makes 22
+    // out of a length of 18: the next record's first four bytes are then a batch, and its depth, 1 to 4, is no length.
     let records = 53 + 119 + 172;
     // A value is far from its limits: bits 30 and 31 lead out of them, and each of the other 30 changes net.
     let values = 53 + 119;

@@ -2,6 +2,10 @@
 
 use compare::calls;
 
+#[path = "../../reference/tests/document_02/batch.rs"]
+mod batch;
+#[path = "../../reference/tests/document_02/batch_laws.rs"]
+mod batch_laws;
 #[path = "../../reference/tests/document_02/day_table.rs"]
 mod day_table;
 #[path = "../../reference/tests/document_02/round_trips.rs"]

@@ -19,11 +19,11 @@ fn by_number<T>(answer: Result<T, Refusal>) -> Result<T, u8> {
 }
 
 fn agree_on_log(log: &[u8]) {
-    let read = by_number(tulghimo::read(log)).map(|r| {
+    let read = by_number(tulghimo::read_record(log)).map(|r| {
         let kind = if r.kind == Kind::Open { 1 } else { 2 };
-        [kind, r.length as i64, r.depth.into(), r.value.into(), r.floor.into(), r.ceiling.into()]
+        [kind, r.length as i64, r.depth.into(), r.value.into(), r.floor.into(), r.ceiling.into(), r.batch.into()]
     });
-    assert_eq!(read, calls::read(log));
+    assert_eq!(read, calls::read_record(log));
     let day = by_number(tulghimo::day(log)).map(|f| [f.net, f.heaviest, f.eaten, f.stamp.into()]);
     assert_eq!(day, calls::day(log));
     let table = by_number(tulghimo::read_table(log)).map(|lines| encode_table(&lines.iter().map(plain).collect::<Vec<_>>()));

@@ -2,7 +2,7 @@
 
 use compare::agree::{read_table as table_agrees, write_log as log_agrees};
 use reference::calls;
-use reference::gen::raw::{line, longest_log};
+use reference::gen::raw::{all_of, line, longest_log};
 use reference::gen::{damage, logs, tables, Rng};
 use reference::record::{encode_all, encode_close, encode_full, encode_short, Open};
 use reference::table::encode_table;
@@ -20,13 +20,6 @@ fn both_agree(table: &[u8]) {
 /// Every answer is this refusal.
 fn assert_refused(answers: &[i64], number: u8) {
     assert!(answers.iter().all(|&answer| answer == -i64::from(number)), "{answers:?}, and {number} is due");
-}
-
-/// All that can be put together of so many of these lines or records.
-fn all_of(parts: &[Vec<u8>], count: usize) -> Vec<Vec<u8>> {
-    (0..count).fold(vec![Vec::new()], |begun, _| {
-        begun.iter().flat_map(|bytes| parts.iter().map(|part| [&bytes[..], part].concat())).collect()
-    })
 }
 
 #[test]

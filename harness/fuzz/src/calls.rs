@@ -16,9 +16,11 @@ pub enum Takes {
     Row,
     /// A day table.
     Table,
+    /// Two chunks that differ in batches only, and a mode.
+    Twins,
 }
 
-/// What a call is given. `second` is the right one of two pieces, and empty elsewhere.
+/// What a call is given. `second` is the right one of two pieces or the other of two chunks, and empty elsewhere.
 #[derive(Clone, Debug, PartialEq, Eq)]
 pub struct Input {
     pub takes: Takes,
@@ -36,9 +38,9 @@ pub struct Call {
     pub compare: fn(&Input) -> Vec<i64>,
 }
 
-/// Every call of the library.
+/// Every call of the library; and last what all that take a chunk must do with batches, which is to ignore them.
 pub const CALLS: &[Call] = &[
-    Call { name: "read", takes: Takes::Chunk, refuses: &[3], compare: |given| agree::read(&given.first) },
+    Call { name: "read_record", takes: Takes::Chunk, refuses: &[3], compare: |given| agree::read_record(&given.first) },
     Call {
         name: "summarise",
         takes: Takes::Chunk,
@@ -58,6 +60,12 @@ pub const CALLS: &[Call] = &[
         takes: Takes::Chunk,
         refuses: &[2, 3, 7, 8, 10, 11, 12],
         compare: |given| agree::read_table(&given.first),
+    },
+    Call {
+        name: "batches",
+        takes: Takes::Twins,
+        refuses: &[1, 3, 7, 8, 10, 11],
+        compare: |given| agree::batches_only(&given.first, &given.second, given.mode),
     },
 ];
 

@@ -32,10 +32,16 @@ fn table(bytes: Vec<u8>) -> Input {
     Input { takes: Takes::Table, mode: 0, first: bytes, second: Vec::new() }
 }
 
+/// A chunk and one that differs from it in batches only.
+fn twins(rng: &mut Rng, mode: u32, bytes: Vec<u8>) -> Input {
+    let second = logs::rebatched(rng, &bytes);
+    Input { takes: Takes::Twins, mode, first: bytes, second }
+}
+
 /// The inputs that a seed gives.
 pub fn inputs(seed: u64) -> Vec<Input> {
     let rng = &mut Rng::new(seed);
-    match rng.below(11) {
+    match rng.below(13) {
         0 => whole_log(rng),
         1 => faulty_log(rng),
         2 | 3 => cut_log(rng),
@@ -44,6 +50,8 @@ pub fn inputs(seed: u64) -> Vec<Input> {
         7 => forged_row(rng),
         8 => day_table(rng),
         9 => refused_table(rng),
+        10 => one_record(rng),
+        11 => other_batches(rng),
         _ => noise(rng),
     }
 }
@@ -207,6 +215,25 @@ fn refused_table(rng: &mut Rng) -> Vec<Input> {
     let refusal = rng.pick(&[2, 3, 10, 13]);
     let input = table(tables::with_refusal(rng, refusal));
     with_damage(rng, input)
+}
+
+/// A record alone, whole or nearly so, and as it would be with another batch.
+fn one_record(rng: &mut Rng) -> Vec<Input> {
+    let bytes = damage::nearly_a_record(rng);
+    let mode = any_mode(rng);
+    vec![twins(rng, mode, bytes.clone()), chunk(mode, bytes)]
+}
+
+/// The chunks of a log, as they are and damaged, each with one that differs in batches only.
+fn other_batches(rng: &mut Rng) -> Vec<Input> {
+    let mut inputs = Vec::new();
+    for records in chunks(rng) {
+        let bytes = logs::encode_mixed(rng, &records);
+        let damaged = damage::damage(rng, &bytes);
+        let mode = any_mode(rng);
+        inputs.extend([bytes, damaged].map(|bytes| twins(rng, mode, bytes)));
+    }
+    inputs
 }
 
 /// Bytes without any order, short and long.

@@ -1,4 +1,5 @@
-//! Random inputs to every call of the proved library, each answer and each lent byte compared with the reference.
+//! Random inputs to every call of the proved library, each answer and each lent byte compared with the reference; and chunks that differ in
+//! batches only, on which its calls must agree among themselves.
 //!
 //!     cargo run --release -p fuzz -- [--seconds N] [--seed S] [--threads T] [--rounds R]
 //!     cargo run --release -p fuzz -- --replay CALL MODE BYTES BYTES
@@ -82,11 +83,11 @@ fn run(settings: &Settings) -> Vec<Answers> {
 }
 
 fn report(answers: &[Answers]) -> u64 {
-    println!("{:<10} {:>12} {:>12}  refused", "call", "calls", "results");
+    println!("{:<11} {:>12} {:>12}  refused", "call", "calls", "results");
     let mut sum = Answers::default();
     for (call, answers) in CALLS.iter().zip(answers) {
         let refused: Vec<String> = call.refuses.iter().map(|&number| format!("{number}: {}", answers.refused[number])).collect();
-        println!("{:<10} {:>12} {:>12}  {}", call.name, answers.calls, answers.results, refused.join(", "));
+        println!("{:<11} {:>12} {:>12}  {}", call.name, answers.calls, answers.results, refused.join(", "));
         sum.add(answers);
     }
     println!("{} calls, {} differences", sum.calls, sum.differences);

@@ -10,7 +10,7 @@ use crate::layout::encode;
 use crate::merge;
 use crate::mode::{stored, Mode};
 use crate::plan::{encode_plan, plan_by_levels};
-use crate::record::{encode_all, read_first, Record, CLOSE, OPEN};
+use crate::record::{encode_all, read_first, First, Record, CLOSE, OPEN};
 use crate::row;
 use crate::run::{encode_run, run_of};
 use crate::summary::{self, summary_of, Summary};
@@ -20,14 +20,16 @@ use crate::work;
 
 /// "read the first record of a chunk (answering kind, length, depth, value, floor
 /// and ceiling, the last three 0 for a close; an empty chunk gets 3; later bytes, and
-/// how many there are, are not judged)". "Reading puts 3".
-pub fn read(chunk: &[u8]) -> Result<[i64; 6], u8> {
-    let (record, length) = read_first(chunk).ok_or(3)?;
+/// how many there are, are not judged)". "Reading puts 3". Document 02, L2: "Reading a
+/// record answers the batch too, 0 where the record has none".
+pub fn read_record(chunk: &[u8]) -> Result<[i64; 7], u8> {
+    let First { record, length, batch } = read_first(chunk).ok_or(3)?;
     let (length, depth) = (length as i64, record.depth() as i64);
-    Ok(match record {
-        Record::Open(open) => [OPEN as i64, length, depth, open.value, open.floor, open.ceiling],
-        Record::Close { .. } => [CLOSE as i64, length, depth, 0, 0, 0],
-    })
+    let (kind, [value, floor, ceiling]) = match record {
+        Record::Open(open) => (OPEN as i64, [open.value, open.floor, open.ceiling]),
+        Record::Close { .. } => (CLOSE as i64, [0, 0, 0]),
+    };
+    Ok([kind, length, depth, value, floor, ceiling, batch.unwrap_or(0)])
 }
 
 /// "summarise a chunk in a mode": "summarise 1, 2, 3 and 12".

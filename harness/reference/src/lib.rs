@@ -18,6 +18,7 @@
 //! | Request of document 02     | Module                                   |
 //! |----------------------------|------------------------------------------|
 //! | L1                         | [`table`], [`calls`]                     |
+//! | L2                         | [`record`], [`calls`]                    |
 //!
 //! [`gen`] makes the inputs that tests try: logs, cuts, merge lists, day tables,
 //! damaged bytes and summaries that no chunk makes.

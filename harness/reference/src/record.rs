@@ -1,4 +1,5 @@
-//! "Records": reading them, their ranges, and writing them.
+//! "Records", with document 02's L2, "Pellet batch in the open record": reading them,
+//! their ranges, and writing them.
 
 use crate::bytes::{put, signed, unsigned};
 
@@ -65,12 +66,21 @@ impl Record {
     }
 }
 
-/// The first record of a chunk and its length, or nothing if it is not readable.
+/// What stands at the front of a chunk. The batch is beside the record and not in it,
+/// since L2 lets reading alone answer it: "all other calls drop it".
+#[derive(Clone, Copy, Debug, PartialEq, Eq)]
+pub struct First {
+    pub record: Record,
+    pub length: usize,
+    pub batch: Option<i64>,
+}
+
+/// The first record of a chunk, or nothing if it is not readable.
 ///
 /// "A record is readable if its length suits its kind, all its bytes are there,
 /// depth is 0 to 63, value, floor and ceiling lie within ±1,000,000,000, and floor
 /// is not above ceiling." Later bytes "are not judged".
-pub fn read_first(chunk: &[u8]) -> Option<(Record, usize)> {
+pub fn read_first(chunk: &[u8]) -> Option<First> {
     if chunk.len() < 4 {
         return None;
     }
@@ -80,24 +90,24 @@ pub fn read_first(chunk: &[u8]) -> Option<(Record, usize)> {
         return None;
     }
     let record = fields(&chunk[..length]);
-    in_range(&record).then_some((record, length))
+    in_range(&record).then_some(First { record, length, batch: batch(&chunk[..length]) })
 }
 
-/// Kind 1 has length 18 or 10, kind 2 has length 6.
+/// Kind 1 has length 18 or 10, and "Length 22 now suits kind 1"; kind 2 has length 6.
 fn length_suits(kind: u64, length: usize) -> bool {
     match kind {
-        OPEN => length == 18 || length == 10,
+        OPEN => [10, 18, 22].contains(&length),
         CLOSE => length == 6,
         _ => false,
     }
 }
 
-/// The fields of a record whose length suits its kind: "depth (16 bits), value,
-/// floor, ceiling (each a signed 32-bit number of grams)".
+/// The fields of a record whose length suits its kind, but for the batch: "depth (16
+/// bits), value, floor, ceiling (each a signed 32-bit number of grams)".
 fn fields(record: &[u8]) -> Record {
     let depth = unsigned(&record[4..6]) as usize;
     match record.len() {
-        18 => Record::Open(Open {
+        18 | 22 => Record::Open(Open {
             depth,
             value: signed(&record[6..10]),
             floor: signed(&record[10..14]),
@@ -106,6 +116,11 @@ fn fields(record: &[u8]) -> Record {
         10 => Record::Open(Open { depth, value: signed(&record[6..10]), floor: DEFAULT_FLOOR, ceiling: DEFAULT_CEILING }),
         _ => Record::Close { depth },
     }
+}
+
+/// "An open record may have length 22: the 18 bytes, then the batch, unsigned."
+fn batch(record: &[u8]) -> Option<i64> {
+    (record.len() == 22).then(|| unsigned(&record[18..22]) as i64)
 }
 
 /// The ranges of a readable record.
@@ -131,45 +146,56 @@ pub fn records_of(chunk: &[u8]) -> Option<Vec<Record>> {
     let mut records = Vec::new();
     let mut rest = chunk;
     while !rest.is_empty() {
-        let (record, length) = read_first(rest)?;
-        records.push(record);
-        rest = &rest[length..];
+        let first = read_first(rest)?;
+        records.push(first.record);
+        rest = &rest[first.length..];
     }
     Some(records)
 }
 
-/// An open record of length 18.
-pub fn encode_full(open: &Open) -> Vec<u8> {
+/// What every record begins with.
+fn head(length: i64, kind: u64, depth: usize) -> Vec<u8> {
     let mut out = Vec::new();
-    put(&mut out, 18, 2);
-    put(&mut out, OPEN as i64, 2);
-    put(&mut out, open.depth as i64, 2);
+    put(&mut out, length, 2);
+    put(&mut out, kind as i64, 2);
+    put(&mut out, depth as i64, 2);
+    out
+}
+
+/// An open record of a length, up to its ceiling.
+fn up_to_ceiling(length: i64, open: &Open) -> Vec<u8> {
+    let mut out = head(length, OPEN, open.depth);
     put(&mut out, open.value, 4);
     put(&mut out, open.floor, 4);
     put(&mut out, open.ceiling, 4);
     out
 }
 
+/// An open record of length 18.
+pub fn encode_full(open: &Open) -> Vec<u8> {
+    up_to_ceiling(18, open)
+}
+
+/// An open record of length 22.
+pub fn encode_with_batch(open: &Open, batch: u32) -> Vec<u8> {
+    let mut out = up_to_ceiling(22, open);
+    put(&mut out, batch.into(), 4);
+    out
+}
+
 /// An open record of length 10: "depth and value only".
 pub fn encode_short(depth: usize, value: i64) -> Vec<u8> {
-    let mut out = Vec::new();
-    put(&mut out, 10, 2);
-    put(&mut out, OPEN as i64, 2);
-    put(&mut out, depth as i64, 2);
+    let mut out = head(10, OPEN, depth);
     put(&mut out, value, 4);
     out
 }
 
 /// A close record, length 6.
 pub fn encode_close(depth: usize) -> Vec<u8> {
-    let mut out = Vec::new();
-    put(&mut out, 6, 2);
-    put(&mut out, CLOSE as i64, 2);
-    put(&mut out, depth as i64, 2);
-    out
+    head(6, CLOSE, depth)
 }
 
-/// The bytes of records, opens in full.
+/// The bytes of records, opens of length 18.
 pub fn encode_all(records: &[Record]) -> Vec<u8> {
     let mut out = Vec::new();
     for record in records {

@@ -1,11 +1,13 @@
 //! Damaged bytes: a record, chunk, summary or row with something wrong in it, or
 //! perhaps not.
 
+use super::logs::{batch, open, VALUES};
 use super::Rng;
 use crate::bytes::put;
+use crate::record::{encode_close, encode_full, encode_short, encode_with_batch};
 
 /// Numbers that are an end of some range, or next to one.
-const EDGES: [i64; 34] = [
+const EDGES: [i64; 37] = [
     0,
     1,
     2,
@@ -21,6 +23,9 @@ const EDGES: [i64; 34] = [
     17,
     18,
     19,
+    21,
+    22,
+    23,
     24,
     63,
     64,
@@ -73,6 +78,28 @@ fn overwrite(rng: &mut Rng, out: &mut [u8], place: usize) {
     for (to, from) in out[place..].iter_mut().zip(number) {
         *to = from;
     }
+}
+
+/// A record alone, or nearly one: of each kind and length; once in four times with another
+/// length in its head, and as often another kind; up to two bytes too short or too long.
+pub fn nearly_a_record(rng: &mut Rng) -> Vec<u8> {
+    let depth = rng.pick(&[0, 1, 62, 63, 64]);
+    let values = rng.pick(&VALUES);
+    let opened = open(rng, depth, values);
+    let mut out = match rng.below(6) {
+        0 => encode_close(depth),
+        1 => encode_short(depth, opened.value),
+        2 => encode_full(&opened),
+        _ => encode_with_batch(&opened, batch(rng)),
+    };
+    if rng.one_in(4) {
+        out[0] = rng.pick(&[6, 10, 18, 21, 22, 23]);
+    }
+    if rng.one_in(4) {
+        out[2] = rng.pick(&[0, 1, 2, 3]);
+    }
+    out.resize(out.len() + rng.below(5) - 2, 0);
+    out
 }
 
 /// Random bytes, up to a length.

@@ -2,7 +2,8 @@
 
 use super::Rng;
 use crate::mode::Mode;
-use crate::record::{encode_close, encode_full, encode_short, Open, Record, DEEPEST, DEFAULT_CEILING, DEFAULT_FLOOR, GRAMS};
+use crate::record::{encode_close, encode_full, encode_short, encode_with_batch, read_first};
+use crate::record::{Open, Record, DEEPEST, DEFAULT_CEILING, DEFAULT_FLOOR, GRAMS};
 use crate::replay::{Call, Step, Stretches};
 
 /// How the tree of a log looks.
@@ -204,8 +205,41 @@ pub fn with_fault(rng: &mut Rng, fault: u8) -> Vec<Record> {
     }
 }
 
+/// A well-formed log as of [`any_log`], or once in four times one with a fault 7, 8, 10 or 11.
+pub fn log_or_faulty(rng: &mut Rng, most_opened: usize) -> Vec<Record> {
+    if rng.one_in(4) {
+        let fault = rng.pick(&[7, 8, 10, 11]);
+        with_fault(rng, fault)
+    } else {
+        any_log(rng, most_opened)
+    }
+}
+
+/// Batches at the ends of their range and of the signed one; and such as begin like a
+/// record: with the length and the kind of a close, and of an open of each length.
+pub const BATCHES: [u32; 9] = [0, 1, 0x7fff_ffff, 0x8000_0000, 0xffff_ffff, 0x0002_0006, 0x0001_000a, 0x0001_0012, 0x0001_0016];
+
+/// A batch: in half of the cases one of those above.
+pub fn batch(rng: &mut Rng) -> u32 {
+    let any = rng.bits() as u32;
+    if rng.one_in(2) {
+        any
+    } else {
+        rng.pick(&BATCHES)
+    }
+}
+
+/// An open record of length 18, or in half of the cases of length 22.
+fn encode_full_or_batched(rng: &mut Rng, open: &Open) -> Vec<u8> {
+    if rng.one_in(2) {
+        encode_full(open)
+    } else {
+        encode_with_batch(open, batch(rng))
+    }
+}
+
 /// The bytes of records; an open with the default floor and ceiling is short in half
-/// of the cases.
+/// of the cases, and any other has a batch in half of them.
 pub fn encode_mixed(rng: &mut Rng, records: &[Record]) -> Vec<u8> {
     let mut out = Vec::new();
     for record in records {
@@ -216,11 +250,28 @@ pub fn encode_mixed(rng: &mut Rng, records: &[Record]) -> Vec<u8> {
                 if is_default && rng.one_in(2) {
                     out.extend(encode_short(open.depth, open.value));
                 } else {
-                    out.extend(encode_full(open));
+                    out.extend(encode_full_or_batched(rng, open));
                 }
             }
         }
     }
+    out
+}
+
+/// A chunk that differs from this one in batches only: each open of length 18 or 22 has
+/// one drawn anew, or none. The bytes from the first unreadable record on stay.
+pub fn rebatched(rng: &mut Rng, chunk: &[u8]) -> Vec<u8> {
+    let mut out = Vec::new();
+    let mut rest = chunk;
+    while let Some(first) = read_first(rest) {
+        let (bytes, later) = rest.split_at(first.length);
+        match first.record {
+            Record::Open(open) if first.length != 10 => out.extend(encode_full_or_batched(rng, &open)),
+            _ => out.extend(bytes),
+        }
+        rest = later;
+    }
+    out.extend(rest);
     out
 }
 

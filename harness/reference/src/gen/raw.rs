@@ -6,6 +6,11 @@ pub fn open(depth: u16, value: i32, floor: i32, ceiling: i32) -> Vec<u8> {
     [words(&[18, 1, depth]), grams(&[value, floor, ceiling])].concat()
 }
 
+/// An open record of length 22.
+pub fn batched(depth: u16, value: i32, floor: i32, ceiling: i32, batch: u32) -> Vec<u8> {
+    [words(&[22, 1, depth]), grams(&[value, floor, ceiling]), batch.to_le_bytes().to_vec()].concat()
+}
+
 /// A line of a day table.
 pub fn line(depth: u16, value: i32, floor: i32, ceiling: i32) -> Vec<u8> {
     [words(&[depth]), grams(&[value, floor, ceiling])].concat()
@@ -31,6 +36,13 @@ pub fn close(depth: u16) -> Vec<u8> {
 /// 16-bit numbers.
 pub fn words(numbers: &[u16]) -> Vec<u8> {
     numbers.iter().flat_map(|number| number.to_le_bytes()).collect()
+}
+
+/// All that can be put together of so many of these lines or records.
+pub fn all_of(parts: &[Vec<u8>], count: usize) -> Vec<Vec<u8>> {
+    (0..count).fold(vec![Vec::new()], |begun, _| {
+        begun.iter().flat_map(|bytes| parts.iter().map(|part| [&bytes[..], part].concat())).collect()
+    })
 }
 
 pub fn blank(mode: u16) -> Vec<u8> {

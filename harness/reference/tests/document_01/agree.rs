@@ -10,12 +10,13 @@ use reference::log::{fault, held, opened};
 use reference::merge::merge;
 use reference::mode::Mode;
 use reference::plan::{joins_by_records, plan_by_levels, plan_by_records};
-use reference::record::{records_of, Record};
+use reference::record::{read_first, records_of, Record};
 use reference::row::{self, merge_row};
 use reference::run::{join_by_records, put_through, run_of};
 use reference::summary::{finish, summary_of, Case, Summary};
 use reference::tree::{figure_by_holding, figures, log_figure, tree_of, write};
 use reference::work::{levels_folded, work};
+use std::collections::BTreeMap;
 
 fn row_of(mode: Mode, chunks: &[Vec<Record>]) -> Vec<Summary> {
     chunks.iter().map(|chunk| summary_of(mode, chunk)).collect()
@@ -34,17 +35,23 @@ fn bytes_read_back() {
 #[test]
 fn the_generated_logs_are_of_all_kinds() {
     let mut rng = Rng::new(102);
-    let (mut deepest, mut widest, mut shorts) = (0, 0, 0);
+    let (mut deepest, mut widest) = (0, 0);
+    let mut lengths = BTreeMap::new();
     for _ in 0..500 {
         let log = any_log(&mut rng, 200);
         assert_eq!(fault(&log), None);
         deepest = deepest.max(log.iter().map(Record::depth).max().unwrap());
         widest = widest.max(held(&log, 0).len());
         let bytes = encode_mixed(&mut rng, &log);
-        shorts += usize::from(bytes.len() < 12 * log.len());
+        let mut rest = &bytes[..];
+        while let Some(first) = read_first(rest) {
+            *lengths.entry(first.length).or_insert(0) += 1;
+            rest = &rest[first.length..];
+        }
     }
     assert_eq!(deepest, 63);
-    assert!(widest > 150 && shorts > 100);
+    assert!(widest > 150);
+    assert!(lengths.keys().eq(&[6, 10, 18, 22]) && lengths.values().all(|&count| count > 2000), "{lengths:?}");
 }
 
 #[test]

@@ -1,7 +1,7 @@
 //! Figures and bytes worked out by hand, in the comments. `crate::calls` are the
 //! reference's here and the library's in `compare`, which has this file too.
 
-use crate::calls::{day, merge, plan, read, runs, summarise, work};
+use crate::calls::{day, merge, plan, read_record, runs, summarise, work};
 use reference::gen::raw::{close, log_d, nothing, open, short, words, Hill};
 
 const MODES: [u16; 4] = [1, 2, 3, 4];
@@ -10,17 +10,17 @@ const AMPLE: usize = 4096;
 #[test]
 fn log_d_record_by_record() {
     let records = [
-        [1, 18, 0, 10, 0, 100],
-        [1, 18, 1, 5, 0, 4],
-        [2, 6, 1, 0, 0, 0],
-        [1, 18, 1, -3, 0, 100],
-        [2, 6, 1, 0, 0, 0],
-        [2, 6, 0, 0, 0, 0],
+        [1, 18, 0, 10, 0, 100, 0],
+        [1, 18, 1, 5, 0, 4, 0],
+        [2, 6, 1, 0, 0, 0, 0],
+        [1, 18, 1, -3, 0, 100, 0],
+        [2, 6, 1, 0, 0, 0, 0],
+        [2, 6, 0, 0, 0, 0, 0],
     ];
     let log = log_d().concat();
     let mut rest = &log[..];
     for expected in records {
-        assert_eq!(read(rest), Ok(expected));
+        assert_eq!(read_record(rest), Ok(expected));
         rest = &rest[expected[1] as usize..];
     }
     assert!(rest.is_empty());

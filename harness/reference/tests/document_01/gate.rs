@@ -1,7 +1,7 @@
 //! "The questions at the gate": which call puts which, and in which order. `compare`
 //! puts them to the library.
 
-use crate::calls::{day, finish, merge, merge_row, plan, read, runs, summarise, work};
+use crate::calls::{day, finish, merge, merge_row, plan, read_record, runs, summarise, work};
 use reference::gen::raw::{blank, close, log_d, nothing, open, short, spoilt, Hill};
 
 /// A hill that begins or ends elsewhere than at level 0: "open 0".
@@ -56,7 +56,7 @@ fn question_3_before_faults_and_12() {
     let chunk = [short(0, 1), short(0, 1), close(64)].concat();
     assert_eq!(summarise(&chunk, 1, 0), Err(3));
     assert_eq!(day(&chunk), Err(3));
-    assert_eq!(read(&chunk), Ok([1, 10, 0, 1, -1_000_000_000, 1_000_000_000]));
+    assert_eq!(read_record(&chunk), Ok([1, 10, 0, 1, -1_000_000_000, 1_000_000_000, 0]));
 }
 
 #[test]

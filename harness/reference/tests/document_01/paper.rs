@@ -2,7 +2,7 @@
 //! on paper. `crate::calls` are the reference's here and the library's in `compare`,
 //! which has this file too.
 
-use crate::calls::{day, day_text, finish, merge, merge_row, plan, read, runs, summarise, work};
+use crate::calls::{day, day_text, finish, merge, merge_row, plan, read_record, runs, summarise, work};
 use reference::gen::raw::{blank, close, log_d, longest_log, nothing, open, short, spoilt, words, Hill};
 
 const MODES: [u16; 4] = [1, 2, 3, 4];
@@ -133,7 +133,7 @@ fn no_bytes() {
     }
     assert_eq!(day(&[]), Err(10));
     assert_eq!(day_text(&[]), b"refused 10\n");
-    assert_eq!(read(&[]), Err(3));
+    assert_eq!(read_record(&[]), Err(3));
 }
 
 /// A log whose lowest fault is the given one, and its start, end and opened.
@@ -176,11 +176,11 @@ fn close_1_alone() {
 
 #[test]
 fn depth_63_and_64() {
-    assert_eq!(read(&open(63, 1, 2, 3)), Ok([1, 18, 63, 1, 2, 3]), "depth 63 read");
-    assert_eq!(read(&close(63)), Ok([2, 6, 63, 0, 0, 0]));
-    assert_eq!(read(&open(64, 1, 2, 3)), Err(3), "64 gives 3");
-    assert_eq!(read(&short(64, 1)), Err(3));
-    assert_eq!(read(&close(64)), Err(3));
+    assert_eq!(read_record(&open(63, 1, 2, 3)), Ok([1, 18, 63, 1, 2, 3, 0]), "depth 63 read");
+    assert_eq!(read_record(&close(63)), Ok([2, 6, 63, 0, 0, 0, 0]));
+    assert_eq!(read_record(&open(64, 1, 2, 3)), Err(3), "64 gives 3");
+    assert_eq!(read_record(&short(64, 1)), Err(3));
+    assert_eq!(read_record(&close(64)), Err(3));
     assert_eq!(summarise(&close(64), 1, AMPLE), Err(3));
 }
 
@@ -293,8 +293,8 @@ fn how_many_pieces() {
 
 #[test]
 fn floor_equal_to_ceiling() {
-    assert_eq!(read(&open(1, 5, 7, 7)), Ok([1, 18, 1, 5, 7, 7]));
-    assert_eq!(read(&open(1, 5, 8, 7)), Err(3));
+    assert_eq!(read_record(&open(1, 5, 7, 7)), Ok([1, 18, 1, 5, 7, 7, 0]));
+    assert_eq!(read_record(&open(1, 5, 8, 7)), Err(3));
 }
 
 // "Slips we have seen drawn on paper".

@@ -1,9 +1,9 @@
 //! "Records": what is readable, levels, faults, who closes and holds whom.
 
-use reference::calls::read;
-use reference::gen::raw::{close, open, short, words};
+use reference::calls::read_record;
+use reference::gen::raw::{batched, close, open, short, words};
 use reference::log::{closer, fault, held};
-use reference::record::{encode_close, encode_full, encode_short, records_of, Open, Record};
+use reference::record::{encode_close, encode_full, encode_short, encode_with_batch, records_of, Open, Record};
 use reference::tree::{figure_by_holding, figures};
 
 const LEAST: i32 = -1_000_000_000;
@@ -11,22 +11,22 @@ const GREATEST: i32 = 1_000_000_000;
 
 #[test]
 fn fields_of_a_first_record() {
-    assert_eq!(read(&open(3, 1, -2, 7)), Ok([1, 18, 3, 1, -2, 7]));
-    assert_eq!(read(&short(3, -1)), Ok([1, 10, 3, -1, -1_000_000_000, 1_000_000_000]));
-    assert_eq!(read(&close(3)), Ok([2, 6, 3, 0, 0, 0]));
+    assert_eq!(read_record(&open(3, 1, -2, 7)), Ok([1, 18, 3, 1, -2, 7, 0]));
+    assert_eq!(read_record(&short(3, -1)), Ok([1, 10, 3, -1, -1_000_000_000, 1_000_000_000, 0]));
+    assert_eq!(read_record(&close(3)), Ok([2, 6, 3, 0, 0, 0, 0]));
 }
 
 #[test]
 fn later_bytes_are_not_judged() {
     for record in [open(3, 1, -2, 7), short(3, -1), close(3)] {
-        let alone = read(&record);
+        let alone = read_record(&record);
         assert!(alone.is_ok());
         let mut long = record.clone();
         long.resize(70_000, 0xff);
-        assert_eq!(read(&long), alone);
+        assert_eq!(read_record(&long), alone);
         // Each byte of the record itself must be there.
         for length in 0..record.len() {
-            assert_eq!(read(&record[..length]), Err(3));
+            assert_eq!(read_record(&record[..length]), Err(3));
         }
     }
 }
@@ -37,14 +37,15 @@ fn lengths_that_suit_a_kind() {
         for length in 0u16..64 {
             let mut bytes = words(&[length, kind]);
             bytes.resize(64, 0);
-            let suits = matches!((kind, length), (1, 18) | (1, 10) | (2, 6));
-            assert_eq!(read(&bytes).is_ok(), suits, "kind {kind} length {length}");
+            // Document 02: "Length 22 now suits kind 1."
+            let suits = matches!((kind, length), (1, 18) | (1, 10) | (1, 22) | (2, 6));
+            assert_eq!(read_record(&bytes).is_ok(), suits, "kind {kind} length {length}");
         }
     }
-    for length in [0x0112u16, 0x8012, 0x010a, 0x0106] {
+    for length in [0x0112u16, 0x8012, 0x010a, 0x0106, 0x0116] {
         let mut bytes = words(&[length, 1]);
         bytes.resize(0x8012, 0);
-        assert_eq!(read(&bytes), Err(3));
+        assert_eq!(read_record(&bytes), Err(3));
     }
 }
 
@@ -54,15 +55,15 @@ fn grams_at_both_ends() {
     let near = [LEAST, LEAST + 1, -1, 0, 1, GREATEST - 1, GREATEST];
     for value in near {
         let as_value = i64::from(value);
-        assert_eq!(read(&open(0, value, LEAST, GREATEST)).map(|fields| fields[3]), Ok(as_value));
-        assert_eq!(read(&short(0, value)).map(|fields| fields[3]), Ok(as_value));
-        assert_eq!(read(&open(0, 0, value, value)).map(|fields| (fields[4], fields[5])), Ok((as_value, as_value)));
+        assert_eq!(read_record(&open(0, value, LEAST, GREATEST)).map(|fields| fields[3]), Ok(as_value));
+        assert_eq!(read_record(&short(0, value)).map(|fields| fields[3]), Ok(as_value));
+        assert_eq!(read_record(&open(0, 0, value, value)).map(|fields| (fields[4], fields[5])), Ok((as_value, as_value)));
     }
     for value in far {
-        assert_eq!(read(&open(0, value, 0, 0)), Err(3));
-        assert_eq!(read(&short(0, value)), Err(3));
-        assert_eq!(read(&open(0, 0, value, GREATEST)), Err(3));
-        assert_eq!(read(&open(0, 0, LEAST, value)), Err(3));
+        assert_eq!(read_record(&open(0, value, 0, 0)), Err(3));
+        assert_eq!(read_record(&short(0, value)), Err(3));
+        assert_eq!(read_record(&open(0, 0, value, GREATEST)), Err(3));
+        assert_eq!(read_record(&open(0, 0, LEAST, value)), Err(3));
     }
 }
 
@@ -70,6 +71,7 @@ fn grams_at_both_ends() {
 fn the_reference_writes_what_the_paper_lays_out() {
     let record = Open { depth: 63, value: -1_000_000_000, floor: -2, ceiling: 70_000 };
     assert_eq!(encode_full(&record), open(63, LEAST, -2, 70_000));
+    assert_eq!(encode_with_batch(&record, 0xfedc_ba98), batched(63, LEAST, -2, 70_000, 0xfedc_ba98));
     assert_eq!(encode_short(5, -7), short(5, -7));
     assert_eq!(encode_close(62), close(62));
 }
