@@ -67,7 +67,7 @@ enum tulghimo_length {
  * An open has length 18; or 10, without a floor and a ceiling, which are then -1,000,000,000 and 1,000,000,000; or 22: the 18 bytes,
  * then the batch, the unsigned 32-bit number that the mill prints on the bag. A close has length 6. The batch is answered as 0 to
  * 4,294,967,295, never negative, and as 0 where the record has none. All other calls drop it: to them a record of length 22 is the
- * one of length 18 with the same fields.
+ * one of length 18 with the same fields, but for its four bytes more, which count in the length of the chunk.
  *
  * The function was tulghimo_read while it had six fields. A buffer that changes its size changes the function's name, so that a
  * program compiled with the old header does not link, instead of being written past its buffer. */

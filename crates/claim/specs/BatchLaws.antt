@@ -1,4 +1,4 @@
--- Document 02, L2: two logs that differ in batches only have the same answers, and the same claim. Assumes nothing.
+-- Document 02, L2: two logs that differ in batches only have the same answers of every call but reading, and demand 3 says the same of both. Assumes nothing.
 use mathlib.Core.Path.{_≡_, refl, sym, ap, _∙_}
 use mathlib.Core.Bool.{true}
 use mathlib.Core.List.{List, [], _∷_, _++_, map, map-append}
@@ -28,7 +28,7 @@ use Rattle.claim.specs.FirstRow.{first-row, only-one}
 use Rattle.claim.specs.Demand3.{demand3}
 use Rattle.claim.specs.Batches.{SameAnswers, SameClaim}
 
--- ---- the row that a cut log starts depends on what is read of the log alone
+-- ---- the row that a cut log starts depends on what `recordOf` leaves of its records alone
 
 stretches : (mode : ℕ) (cs : List (List ℕ)) → map (stretchBytes mode) cs ≡ map (summaryBytes mode) (map recordsRead cs)
 unfolding stretchBytes
@@ -48,7 +48,7 @@ module _ (mode : ℕ) (log places : List ℕ) (buffers : List (List ℕ)) (i : I
       let c : Claimed mode log places buffers merges = demand3 mode log places buffers merges i m in
       only-one (stretchBytes mode) (replay (onStretches mode) merges (cutAt log places)) p (sym (c .pieces) ∙ e) ∙ ap (stretchBytes mode) (c .stretches)
 
--- ---- all that follows is about what is read alone
+-- ---- two logs of which `recordOf` leaves the same
 
 module _ (a b : List ℕ) (r : SameRecords a b) where
   records-same : recordsRead a ≡ recordsRead b
@@ -88,7 +88,7 @@ module _ (a b : List ℕ) (r : SameRecords a b) where
         piece-of mode a places buffers i merges m p e ∙ summaries-same mode ∙ sym (piece-of mode b places′ buffers′ j merges′ n q f);
   }
 
--- "TWO LOGS, BOTH TAKEN, THAT DIFFER IN BATCHES ONLY HAVE EQUAL SUMMARIES", and equal answers of every other call on them.
+-- "TWO LOGS, BOTH TAKEN, THAT DIFFER IN BATCHES ONLY HAVE EQUAL SUMMARIES", and equal answers of every call on them but reading.
 pub batches-ignored : (a b : List ℕ) → SameButBatches a b → length a ≤ 65_536 → length b ≤ 65_536 → SameAnswers a b
 batches-ignored a b d m n = same-answers a b (batches-aside d) m n
 

@@ -1,5 +1,5 @@
 -- The theorem at work: log D cut after record 2, with a blank chunk at both ends and between, into buffers that just fit, and three merges, the second with a
--- buffer that is one byte short. So what demand 3 asks for can be met. Assumes nothing.
+-- buffer that is one byte short. So what demand 3 asks for can be met; and so can what is asked of batches. Assumes nothing.
 use mathlib.Core.Path.{_≡_, refl, sym, _∙_}
 use mathlib.Core.List.{List, [], _∷_, _++_}
 use Prim.Native.Nat.{ℕ, zero, suc}
@@ -105,7 +105,7 @@ D-recursion = record {
   figure = refl;
 }
 
--- D with batch 7 in its first record has the answers of D, and demand 3 says the same of both.
+-- D with batch 7 in its first record has the answers of D, but for reading, and demand 3 says the same of both.
 abbrev D-with-7 : List ℕ
 D-with-7 = batchBytes 0 (pos 10) (pos 0) (pos 100) 7 ++ drop 18 logD
 

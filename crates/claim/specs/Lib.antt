@@ -14,5 +14,5 @@ pub mod LogRow
 pub mod FirstRow
 -- Batches move nothing.
 pub mod BatchLaws
--- The theorem on log D.
+-- The theorems on log D.
 pub mod Examples

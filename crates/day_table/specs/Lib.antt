@@ -6,7 +6,7 @@ pub mod Claims
 pub mod TableLaws
 pub mod LineLaws
 pub mod LogLaws
--- What the calls come to: both round trips, the only log, and when 13 is answered.
+-- What the calls come to: both round trips, the only log, what comes back of any log, and when 13 is answered.
 pub mod CallLaws
 pub mod RoundTrips
 pub mod Examples

@@ -38,7 +38,7 @@ pub struct Call {
     pub compare: fn(&Input) -> Vec<i64>,
 }
 
-/// Every call of the library; and last what all that take a chunk must do with batches, which is to ignore them.
+/// Every call of the library; and last what all that take a chunk, but reading, must do with batches, which is to ignore them.
 pub const CALLS: &[Call] = &[
     Call { name: "read_record", takes: Takes::Chunk, refuses: &[3], compare: |given| agree::read_record(&given.first) },
     Call {

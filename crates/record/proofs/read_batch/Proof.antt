@@ -2,7 +2,6 @@
 -- Assumes nothing.
 use native.Mathlib.Omega.{arith}
 use borrow.Author.Tests.{eq-eqb, ne-eqb}
-use borrow.Author.Needs.{needs}
 use Rattle.record.proofs.read_batch.Statement.{statement}
 use Rattle.record.proofs.read_batch.Tie as tie
 

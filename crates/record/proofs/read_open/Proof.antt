@@ -1,7 +1,6 @@
 -- `record::read_open` meets its contract: the bytes are there or not; each field is what was read, and `accept` says the rest.
 -- Assumes nothing.
 use mathlib.Core.Path.{_∙_}
-use native.Mathlib.Omega.{arith}
 use mir.Syntax.{w32}
 use mir.Facts.{toZ-ofZ}
 use borrow.Author.Tests.{le-leb, lt-leb}
