@@ -253,7 +253,6 @@ INPUTS = {
     "tulghimo/merge_swapped": call("tulghimo::tulghimo_merge", HEAD + TAIL, len(HEAD)),
     "tulghimo/plan_always_one_line": call("tulghimo::tulghimo_plan", NESTED),
     "tulghimo/plan_refused": call("tulghimo::tulghimo_plan", HEAD + TAIL),
-    "tulghimo/read_ceiling_for_floor": call("tulghimo::tulghimo_read_record", D),
     "tulghimo/read_no_batch": call("tulghimo::tulghimo_read_record", with_batch(0, 5, 7)),
     "tulghimo/read_table_always_one_line": call("tulghimo::tulghimo_read_table", D),
     "tulghimo/read_table_refused": call("tulghimo::tulghimo_read_table", D),
