@@ -2,7 +2,7 @@
 
 use reference::calls::day_text;
 use reference::gen::Rng;
-use reference::record::{encode_close, encode_full, encode_short, Open};
+use reference::record::{encode_close, encode_full, encode_short, encode_with_batch, Open};
 
 pub struct Sample {
     pub name: &'static str,
@@ -39,6 +39,7 @@ pub fn all() -> Vec<Sample> {
 fn well_formed() -> Vec<Sample> {
     vec![
         sample("d.log", "log D of document 01", log_d()),
+        sample("d-batches.log", "log D, its first two records with the batch of their bags", log_d_with_batches()),
         sample(
             "weekday.log",
             "a site of four raceways with three tanks each, three meals of three drops, \
@@ -65,6 +66,13 @@ fn refused() -> Vec<Sample> {
 /// 4; close 1; open 1 value -3 floor 0 ceiling 100; close 1; close 0".
 fn log_d() -> Vec<u8> {
     around(0, 10, 0, 100, &[around(1, 5, 0, 4, &[]), around(1, -3, 0, 100, &[])])
+}
+
+/// Document 02, L2: lengths 22 and 18.
+fn log_d_with_batches() -> Vec<u8> {
+    let first = encode_with_batch(&Open { depth: 0, value: 10, floor: 0, ceiling: 100 }, 70_001);
+    let second = encode_with_batch(&Open { depth: 1, value: 5, floor: 0, ceiling: 4 }, 70_002);
+    [first, second, encode_close(1), around(1, -3, 0, 100, &[]), encode_close(0)].concat()
 }
 
 /// Depth 0 the site, 1 raceways, 2 tanks, 3 meals, 4 drops. A tank eats 9,000 grams
