@@ -172,6 +172,6 @@ fn the_old_name_is_gone() {
 
 #[test]
 fn reading_is_inlined_into_every_pass() {
-    // As a function of its own it makes every pass over records take half as many instructions again.
+    // As a function of its own it makes a pass over records take about half as many instructions again, or more.
     assert!(has(ARCHIVE, b"tulghimo_summarise\0") && !has(ARCHIVE, b"record::read_first"));
 }
