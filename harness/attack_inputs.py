@@ -74,8 +74,8 @@ def read_table(log, room=200):
 
 def halves(mode, floor=0):
     """Log D cut after record 2, its first record with this floor."""
-    none = NOTHING if mode == 2 else 0
-    last = {1: -3, 2: -3, 3: 0, 4: 2**32 - 3}[mode]
+    none = NOTHING if mode in (2, 5) else 0
+    last = 2**32 - 3 if mode == 4 else -3
     head = hill(mode, 0, 0, 2, 2, [], none, [(10, floor, 100, none), (5, 0, 4, none)])
     return head, hill(mode, 2, 0, 0, 1, [none, last], none)
 
@@ -95,6 +95,11 @@ TWO_OPEN = hill(1, 0, 0, 2, 2, [], 0, [(10, 0, 100, 0), (1, 0, 100, 0)])
 NESTED = TWO_OPEN + hill(1, 2, 1, 1, 0, [0], 0) + SHUT
 # The same, and the second chunk has 7 g more in the outer one.
 NESTED_AND_7 = TWO_OPEN + hill(1, 2, 1, 1, 1, [0], 7) + SHUT
+# Log D whose first record has ceiling 11.
+AT_MOST_11 = opening(0, 10, 0, 11) + D[18:]
+# In mode 5, log D's first two records, the second of which holds 3 g already, and their closes.
+HOLDS_3 = hill(5, 0, 0, 2, 3, [], NOTHING, [(10, 0, 100, NOTHING), (5, 0, 4, 3)])
+HOLDS_3 += hill(5, 2, 0, 0, 0, [NOTHING, NOTHING], NOTHING)
 NEGATIVE = opening(0, -3) + close(0)
 TEN_OVER_MINUS_3 = opening(0, 10) + opening(1, -3) + close(1) + close(0)
 TEN_OVER_5_AND_1 = short(0, 10) + short(1, 5) + close(1) + short(1, 1) + close(1) + close(0)
@@ -109,6 +114,7 @@ INPUTS = {
     "codec/deeper_dropped": merge(HEAD, TAIL),
     "codec/held_over_ceiling": merge(hill(1, 0, 0, 1, 2, [], 0, [(10, 0, 100, 5)]), SHUT),
     "codec/middle_left_out": merge(HEAD, hill(1, 2, 1, 1, 1, [0], 7)),
+    "day/drop_bound": call("day::figures", D),
     "day/fault_not_told": call("day::figures", short(0, 1)),
     "day/nothing_is_0": call("day::figures", TEN_OVER_MINUS_3),
     "day/rest_unread": call("day::figures", D),
@@ -127,12 +133,19 @@ INPUTS = {
     "fault/ground_not_asked": summarise(1, TWO_DAYS),
     "fault/no_fault_found": summarise(1, short(0, 1) + TWO_DAYS),
     "fault/takes_100001": call("plan::plan", hill(1, 0, 0, 1, 50_001, [], 0, [(10, 0, 100, 0)]) + hill(1, 1, 0, 0, 50_000, [0], 0)),
+    "figure/drop_at_its_floor": call("day::figures", D),
+    "figure/empty_run_bound": runs(5),
+    "figure/empty_run_from_a": call("runs::runs", HOLDS_3),
     "figure/floor_as_ceiling": call("day::figures", D),
-    "figure/floor_once": runs(3, 50),
+    "figure/floor_once": runs(5, 50),
     "figure/last_held": call("day::figures", TEN_OVER_5_AND_1),
-    "figure/nothing_in_mode_3": summarise(2, D[:36]),
+    "figure/mode_3_in_use": merge(blank(3), blank(3)),
+    "figure/none_bound": call("day::figures", AT_MOST_11),
     "figure/nothing_moved": runs(2),
+    "figure/nothing_zero_in_mode_5": summarise(5, D[:36]),
     "figure/other_figure_dropped": runs(2),
+    "figure/second_held_forgotten": call("day::figures", D),
+    "figure/sides_unbound": call("runs::runs", HOLDS_3),
     "figure/stamp_factor": call("day::figures", D),
     "finish/blank_is_11": call("finish::finish", blank(1)),
     "finish/end_level_ignored": call("finish::finish", OPEN),
@@ -143,8 +156,8 @@ INPUTS = {
     "judge/hill_100001": call("finish::finish", hill(1, 0, 0, 0, 100_001, [], 0)),
     "judge/one_gram_more": call("finish::finish", hill(1, 0, 0, 0, 1, [], GRAMS + 1)),
     "merge/hands_back_left": merge(HEAD, TAIL),
-    "merge/modes_not_compared": merge(HEAD, halves(3)[1]),
-    "merge_row/modes_of_row_not_compared": call("merge_row::merge_row", HEAD + halves(3)[1]),
+    "merge/modes_not_compared": merge(HEAD, halves(4)[1]),
+    "merge_row/modes_of_row_not_compared": call("merge_row::merge_row", HEAD + halves(4)[1]),
     "merge_row/takes_65": call("merge_row::merge_row", 65 * blank(1)),
     "merge_row/two_pieces_as_one": call("merge_row::merge_row", 2 * blank(1) + HEAD + TAIL),
     "merging/counts_before_piece": merge(HEAD, TAIL),
@@ -157,6 +170,9 @@ INPUTS = {
     "number/product_not_wrapped": call("day::figures", TEN_OVER_MINUS_3),
     "number/sign_bit_not_written": summarise(1, opening(0, -3)),
     "number/sign_lost": call("record::read_first", NEGATIVE),
+    "outcome/fourth_in_mode_4": runs(5),
+    "outcome/length_of_five": runs(5),
+    "outcome/runs_of_38": runs(1),
     "plan/ends_for_peaks": call("plan::plan", HEAD + TAIL),
     "plan/fit_of_runs": call("plan::plan", HEAD + TAIL, room=12),
     "plan/line_after_the_last": call("plan::plan", HEAD + TAIL),
@@ -183,27 +199,28 @@ INPUTS = {
     "row/length_field_off": call("merge_row::merge_row", blank(1) + HEAD),
     "row_gate/blank_at_ground": call("plan::plan", OPEN + blank(1) + SHUT),
     "row_gate/meets_is_7": call("plan::plan", OPEN + OPEN),
-    "row_gate/modes_not_compared": call("plan::plan", HEAD + halves(3)[1]),
+    "row_gate/modes_not_compared": call("plan::plan", HEAD + halves(4)[1]),
     "row_gate/peaks_for_ends": call("plan::plan", HEAD + TAIL),
     "row_plan/levels_invented": call("work::work", HEAD + TAIL),
     "row_plan/no_shared_record": call("plan::plan", OPEN + INSIDE + SHUT),
-    "run_level/floor_is_ceiling": runs(3),
+    "run_level/floor_is_ceiling": runs(5),
     "run_level/piece_begins_at_its_number": runs(1),
     "run_level/start_for_peak": call("runs::runs", HEAD + hill(1, 2, 1, 2, 1, [0], 0, [(7, 0, 100, 0)]) + TAIL),
     "runs/ends_for_peaks": runs(1),
-    "runs/fit_of_lines": runs(1),
-    "runs/floor_as_ceiling": runs(3),
+    "runs/fit_of_30": runs(5),
+    "runs/floor_as_ceiling": runs(5),
     "runs/hills_swapped": runs(1),
-    "runs/inside_out": runs(3),
+    "runs/inside_out": runs(5),
     "runs/kind_of_run": runs(1),
     "runs/levels_left_out": runs(1),
+    "runs/low_for_high": runs(5),
     "runs/no_run_written": runs(1),
     "runs/peaks_for_starts": runs(1),
     "runs/refused_though_written": runs(1),
     "runs/run_after_the_last": runs(1),
     "runs/twelve_for_faults": call("runs::runs", OPEN + OPEN),
     "slopes/add_drops_what_was_held": summarise(1, opening(1, 5) + close(1) + opening(1, 7) + close(1)),
-    "slopes/close_ceiling_as_floor": summarise(3, D),
+    "slopes/close_ceiling_as_floor": summarise(5, D),
     "slopes/left_level_twice": summarise(1, close(3)),
     "slopes/push_at_the_first": summarise(1, opening(0, 10) + opening(1, 5) + close(1) + opening(1, 7)),
     "summarise/always_blank": summarise(1, D),

@@ -1,5 +1,5 @@
 -- The theorem at work: log D cut after record 2, with a blank chunk at both ends and between, into buffers that just fit, and three merges, the second with a
--- buffer that is one byte short. So what demand 3 asks for can be met; and so can what is asked of batches. Assumes nothing.
+-- buffer that is one byte short. So what demand 3 asks for can be met, in mode 1 and in mode 5; and so can what is asked of batches. Assumes nothing.
 use mathlib.Core.Path.{_≡_, refl, sym, _∙_}
 use mathlib.Core.List.{List, [], _∷_, _++_}
 use Prim.Native.Nat.{ℕ, zero, suc}
@@ -8,13 +8,15 @@ use lib.ListN.{take, drop}
 use lib.IntN.{pos, negsuc}
 use Rattle.gate.specs.Outcome.{refused, result}
 use Rattle.number.specs.Bytes.{leAt, bytesOf}
+use Rattle.number.specs.Integer.{minZ, maxZ, clamp}
 use Rattle.row.specs.Row.{firstLength, piecesIn, rowPieces}
 use Rattle.record.specs.Record.{within, inRange, accepted, whole, byShape, readOf, recordsIn, recordsOf, batchBytes}
 use Rattle.record.specs.Examples.{logD}
-use Rattle.figure.specs.FourModes.{Amounts, isStamp}
+use Rattle.figure.specs.FourModes.{Amounts, lift, eatenOf, storeHeld, readHeld, isStamp}
 use Rattle.figure.specs.Mode.{modeOf, modeInUse}
 use Rattle.hill.specs.Verdict.{pass, joint, count, cut, ends}
 use Rattle.hill.specs.Log.{logFault}
+use Rattle.hill.specs.Faults.{lowest-log}
 use Rattle.hill.specs.Tree.{Forest, nil, tree, write}
 use Rattle.hill.specs.FigureLaws.{log-tree}
 use Rattle.hill.specs.Row.{Call, answers}
@@ -25,10 +27,12 @@ use Rattle.summary.specs.Decide.{allTo, layoutFits, spoiltFits, levelsFit, open
 use Rattle.summary.specs.Outcomes.{summaryBytes, mergeBytes, summariseOutcome, mergeOutcome, logOutcome}
 use Rattle.chunk.specs.Chunk.{SameButBatches}
 use Rattle.outcome.specs.Outcomes.{twoTo64, askRow, mergedBytes, mergeRowOutcome}
-use Rattle.claim.specs.Claim.{fieldsRead, recordsRead, cutAt, stretchBytes, logSays, firstRow, IsCut, Lent, toMerge, toMergeRow, told, onStretches, Recursion, AreMerges, Claimed}
+use Rattle.claim.specs.Claim.{fieldsRead, recordsRead, cutAt, stretchBytes, logSays, firstRow, AllChunks, IsCut, Lent, toMerge, toMergeRow, told, onStretches, Recursion, AreMerges, Claimed}
 use Rattle.claim.specs.Batches.{SameAnswers, SameClaim}
+use Rattle.claim.specs.Drops.{eatenTrees, LeadsToRecursion}
 use Rattle.claim.specs.Demand3.{demand3}
 use Rattle.claim.specs.BatchLaws.{batches-ignored, batches-claim, batch-given}
+use Rattle.claim.specs.DropLaws.{leads-to-recursion}
 
 abbrev zeros : ℕ → List ℕ
 zeros zero = []
@@ -119,3 +123,22 @@ D-answers-7 = batches-ignored _ _ D-but-7 (lit≤ tt) (lit≤ tt)
 
 D-claim-7 : SameClaim 1 logD D-with-7
 D-claim-7 = batches-claim _ _ D-but-7 1
+
+-- In mode 5 the same cut and the same list lead to 12: D's second and third record hold nothing, and its first alone is bound.
+is-cut-5 : IsCut 5 logD places buffers
+unfolding leAt bytesOf within inRange accepted whole byShape readOf recordsIn recordsOf modeInUse modeOf joint count cut encode summaryBytes fieldsRead recordsRead cutAt stretchBytes
+is-cut-5 = record { mode-in-use = refl; readable = is-cut .readable; between = is-cut .between; each = fits }
+  where
+    fits : AllChunks 5 (cutAt logD places) buffers
+    fits = (record { short = lit≤ tt; long-enough = lit≤ tt }, (record { short = lit≤ tt; long-enough = lit≤ tt }, (record { short = lit≤ tt; long-enough = lit≤ tt }, (record { short = lit≤ tt; long-enough = lit≤ tt }, (record { short = lit≤ tt; long-enough = lit≤ tt }, tt)))))
+
+are-merges-5 : AreMerges 5 logD places buffers merges
+unfolding leAt bytesOf lift eatenOf storeHeld readHeld within inRange accepted whole byShape readOf recordsIn recordsOf modeInUse modeOf joint count cut encode decode sumTo nothingIn counted isStamp allTo layoutFits spoiltFits levelsFit openedFits middleFits recordsFit valuesFit hillFits isSummary summaryBytes mergeBytes summariseOutcome mergeOutcome fieldsRead cutAt
+are-merges-5 = (record { takes = refl; inside = lit≤ tt }, (record { takes = refl; inside = lit≤ tt }, (record { takes = (lit≤ tt, lit≤ tt); inside = lit≤ tt }, tt)))
+
+D-leads : LeadsToRecursion logD places buffers merges
+D-leads = leads-to-recursion logD places buffers merges is-cut-5 are-merges-5 (lowest-log (recordsRead logD) .none D-fault)
+
+D-eaten : eatenTrees (tree root below nil) ≡ pos 12
+unfolding clamp minZ maxZ
+D-eaten = refl

@@ -1,7 +1,8 @@
--- Definitions that a reader must believe: Claim, what demand 3 says, and Batches, what is claimed of logs that differ in batches only. Demand3 has the
--- theorem, Table the proved cases of document 01.
+-- Definitions that a reader must believe: Claim, what demand 3 says, Batches, what is claimed of logs that differ in batches only, and Drops, what is
+-- claimed of mode 5, in plain numbers, and of mode 3. Demand3 has the theorem, Table the proved cases of the papers.
 pub mod Claim
 pub mod Batches
+pub mod Drops
 pub mod Demand3
 pub mod Table
 -- The proof: stretches; the cut, and that every list of readable chunks is one; the lines of the plan; one merge and the whole list; what is left says what
@@ -14,5 +15,7 @@ pub mod LogRow
 pub mod FirstRow
 -- Batches move nothing.
 pub mod BatchLaws
+-- A drop is taken at its value.
+pub mod DropLaws
 -- The theorems on log D.
 pub mod Examples

@@ -1,7 +1,7 @@
--- Document 01's proved cases, "(P)", as a table on bytes, and one theorem: each row holds, by computation. Assumes nothing.
+-- Document 01's proved cases, "(P)", those of mode 5 as document 02 has them, as a table on bytes, and one theorem: each row holds, by computation. Assumes nothing.
 use mathlib.Core.Path.{_≡_, refl}
 use mathlib.Core.List.{List, [], _∷_, _++_, map, flatMap}
-use Prim.Native.Nat.{ℕ, _+_, _*_}
+use Prim.Native.Nat.{ℕ, _+_, _-_, _*_, _/_}
 use lib.ListN.{length, take, drop}
 use lib.IntN.{ℤ, pos, negsuc}
 use Rattle.algebra.specs.Run.{runOn}
@@ -11,8 +11,8 @@ use Rattle.number.specs.Integer.{minZ, maxZ, clamp, wrap}
 use Rattle.row.specs.Row.{firstLength, piecesIn, rowPieces, endToEnd}
 use Rattle.record.specs.Record.{within, inRange, accepted, whole, byShape, readOf, recordsIn, recordsOf, openBytes, closeBytes}
 use Rattle.record.specs.Examples.{logD}
-use Rattle.figure.specs.FourModes.{lift, lineOf, storeHeld, readHeld, isStamp}
-use Rattle.figure.specs.Run.{atLeast}
+use Rattle.figure.specs.FourModes.{lift, lineOf, eatenOf, storeHeld, readHeld, isStamp}
+use Rattle.figure.specs.Run.{atLeast, eatenAlong}
 use Rattle.figure.specs.Runs.{moved}
 use Rattle.figure.specs.Mode.{modeOf, modeInUse}
 use Rattle.hill.specs.Verdict.{joint, count, cut, ends}
@@ -59,11 +59,11 @@ summary mode c = onResult words (summariseOutcome c mode 1788)
 abbrev plan : (mode : ℕ) → List (List ℕ) → Outcome (List ℤ)
 plan mode cs = onward (summaries mode cs) (λ ps. onResult words (planOutcome (endToEnd ps) 12))
 
--- One run: its length, kind and mode, and its three numbers.
+-- One run: its length, kind and mode, and its numbers.
 abbrev run : (mode : ℕ) → List (List ℕ) → Outcome (List ℤ)
 run mode cs =
     onward (summaries mode cs)
-    (λ ps. onResult (λ w. words (take 6 w) ++ (i64At w 6 ∷ i64At w 14 ∷ i64At w 22 ∷ [])) (runsOutcome (endToEnd ps) runLength))
+    (λ ps. onResult (λ w. words (take 6 w) ++ map (λ i. i64At w (6 + 8 * i)) (upTo ((length w - 6) / 8))) (runsOutcome (endToEnd ps) 38))
 
 -- What finish answers of a log's summary.
 abbrev finish : (mode : ℕ) → List ℕ → Outcome (List ℤ)
@@ -92,17 +92,17 @@ says g p = record { gives = g; paper = p }
 
 abbrev pub table : List Case
 table =
-    -- "For D `12 15 14 72`", with a newline
-    says (printed logD) (result (map pos (ascii "12 15 14 72\n"))) ∷
+    -- "Log D gives `12 15 12 72`", with a newline
+    says (printed logD) (result (map pos (ascii "12 15 12 72\n"))) ∷
     -- "D cut after record 2, mode 1: lengths 64 and 40; left values 0, -3; plan 0,1,0,1"
     says (lengths 1 cutD) (result (pos 64 ∷ pos 40 ∷ [])) ∷
     says (leftValues 1 (drop 36 logD)) (result (pos 0 ∷ negsuc 2 ∷ [])) ∷
     says (plan 1 cutD) (result (pos 12 ∷ pos 19 ∷ pos 0 ∷ pos 1 ∷ pos 0 ∷ pos 1 ∷ [])) ∷
-    -- "Runs: (12,0,0); (15,7,15); (15,10,14); (961,72,0)"
+    -- "Runs: (12,0,0); (15,7,15); ..; (961,72,0)", and in mode 5 "it is (12,12,7,11)"
     says (run 1 cutD) (result (pos 30 ∷ pos 20 ∷ pos 1 ∷ pos 12 ∷ pos 0 ∷ pos 0 ∷ [])) ∷
     says (run 2 cutD) (result (pos 30 ∷ pos 20 ∷ pos 2 ∷ pos 15 ∷ pos 7 ∷ pos 15 ∷ [])) ∷
-    says (run 3 cutD) (result (pos 30 ∷ pos 20 ∷ pos 3 ∷ pos 15 ∷ pos 10 ∷ pos 14 ∷ [])) ∷
     says (run 4 cutD) (result (pos 30 ∷ pos 20 ∷ pos 4 ∷ pos 961 ∷ pos 72 ∷ pos 0 ∷ [])) ∷
+    says (run 5 cutD) (result (pos 38 ∷ pos 20 ∷ pos 5 ∷ pos 12 ∷ pos 12 ∷ pos 7 ∷ pos 11 ∷ [])) ∷
     -- "No bytes: blank, finish 10. \"close 1\" alone: 11. open 0, close 0 twice over: 8. open 0, open 0: 7."
     says (summary 1 []) (result (pos 6 ∷ pos 16 ∷ pos 1 ∷ [])) ∷
     says (finish 1 []) (refused 10) ∷
@@ -116,5 +116,5 @@ AllHold [] = Unit {0}
 AllHold (r ∷ rs) = (r .gives ≡ r .paper) × AllHold rs
 
 pub proved-cases : AllHold table
-unfolding leAt bytesOf minZ maxZ clamp wrap lift lineOf storeHeld readHeld atLeast moved runOn firstLength piecesIn rowPieces within inRange accepted whole byShape readOf recordsIn recordsOf modeInUse modeOf joint count cut ends encode decode sumTo nothingIn counted isStamp allTo layoutFits spoiltFits levelsFit openedFits middleFits recordsFit valuesFit hillFits isSummary summaryBytes summariseOutcome finishOutcome leftOpen upTo downFrom select depthsJoined lineFor planOf flatMap levelsDown runLevels runsAlong twoTo64 askRow askLog lineBytes planBytes runBytes runsBytes planOutcome runsOutcome digitsIn digitsOf decimalOf ascii lineText dayLine wholeLog figureIn figuresOf dayOutcome
+unfolding leAt bytesOf minZ maxZ clamp wrap lift lineOf eatenOf storeHeld readHeld atLeast eatenAlong moved runOn firstLength piecesIn rowPieces within inRange accepted whole byShape readOf recordsIn recordsOf modeInUse modeOf joint count cut ends encode decode sumTo nothingIn counted isStamp allTo layoutFits spoiltFits levelsFit openedFits middleFits recordsFit valuesFit hillFits isSummary summaryBytes summariseOutcome finishOutcome leftOpen upTo downFrom select depthsJoined lineFor planOf flatMap levelsDown runLevels runsAlong twoTo64 askRow askLog lineBytes planBytes runLength runBytes runsBytes planOutcome runsOutcome digitsIn digitsOf decimalOf ascii lineText dayLine wholeLog figureIn figuresOf dayOutcome
 proved-cases = (refl, (refl, (refl, (refl, (refl, (refl, (refl, (refl, (refl, (refl, (refl, (refl, (refl, tt)))))))))))))

@@ -51,7 +51,7 @@ figure-is m xs v s =
 all-figures : (xs : List (Record Amounts)) {mid : Figures} {vs fs cs ns hs es ss : List ℤ} → logFault xs ≡ pass → Standing xs 0 mid vs fs cs ns hs es ss → mid ≡ figuresOf xs
 unfolding figuresOf
 all-figures xs {mid} v s =
-    four (figure-is 1 xs v (s .net)) (figure-is 2 xs v (s .heaviest)) (figure-is 3 xs v (s .eaten)) (figure-is 4 xs v (s .stamp))
+    four (figure-is 1 xs v (s .net)) (figure-is 2 xs v (s .heaviest)) (figure-is 5 xs v (s .eaten)) (figure-is 4 xs v (s .stamp))
   where
     four : {n h e s : ℤ} → mid .net ≡ n → mid .heaviest ≡ h → mid .eaten ≡ e → mid .stamp ≡ s → mid ≡ record { net = n; heaviest = h; eaten = e; stamp = s }
     four a b c d = rw (sym a, sym b, sym c, sym d)
@@ -86,7 +86,7 @@ begin {mid} {vs} {fs} {cs} {ns} {hs} {es} {ss} short u e = record {
   standing = λ _ _. subst (λ (l : ℕ). Standing [] l mid vs fs cs ns hs es ss) (sym (u .level)) record {
     net = stands-none 1 (e .values) (e .floors) (e .ceilings) (e .held-net) (ap (λ (x : Figures). x .net) (e .figures));
     heaviest = stands-none 2 (e .values) (e .floors) (e .ceilings) (e .held-heaviest) (ap (λ (x : Figures). x .heaviest) (e .figures));
-    eaten = stands-none 3 (e .values) (e .floors) (e .ceilings) (e .held-eaten) (ap (λ (x : Figures). x .eaten) (e .figures));
+    eaten = stands-none 5 (e .values) (e .floors) (e .ceilings) (e .held-eaten) (ap (λ (x : Figures). x .eaten) (e .figures));
     stamp = stands-none 4 (e .values) (e .floors) (e .ceilings) (e .held-stamp) (ap (λ (x : Figures). x .stamp) (e .figures));
   };
 }

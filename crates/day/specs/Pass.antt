@@ -25,7 +25,7 @@ use Rattle.outcome.specs.declared.Figures.{Figures}
 
 -- Nothing held, in each mode.
 abbrev pub noFigures : Figures
-noFigures = record { net = none (modeOf 1); heaviest = none (modeOf 2); eaten = none (modeOf 3); stamp = none (modeOf 4) }
+noFigures = record { net = none (modeOf 1); heaviest = none (modeOf 2); eaten = none (modeOf 5); stamp = none (modeOf 4) }
 
 -- A log starts at level 0, so there are no left values: any list can stand in their place. The record of depth d is at index d.
 abbrev pub rising : (vs fs cs hs : List ℤ) → Arrays
@@ -38,14 +38,14 @@ Stands xs level vs fs cs m hs mid = StandsFor (modeOf m) (rising vs fs cs hs) (c
 pub record Standing (xs : List (Record Amounts)) (level : ℕ) (mid : Figures) (vs fs cs ns hs es ss : List ℤ) : Type 0 where
   pub net : Stands xs level vs fs cs 1 ns (mid .net)
   pub heaviest : Stands xs level vs fs cs 2 hs (mid .heaviest)
-  pub eaten : Stands xs level vs fs cs 3 es (mid .eaten)
+  pub eaten : Stands xs level vs fs cs 5 es (mid .eaten)
   pub stamp : Stands xs level vs fs cs 4 ss (mid .stamp)
 
 -- What `open_at` leaves.
 pub record Opened (d : ℕ) (v f c : ℤ) (vs fs cs ns hs es ss vs′ fs′ cs′ ns′ hs′ es′ ss′ : List ℤ) : Type 0 where
   pub net : Pushed d v f c (none (modeOf 1)) vs fs cs ns vs′ fs′ cs′ ns′
   pub heaviest : Pushed d v f c (none (modeOf 2)) vs fs cs hs vs′ fs′ cs′ hs′
-  pub eaten : Pushed d v f c (none (modeOf 3)) vs fs cs es vs′ fs′ cs′ es′
+  pub eaten : Pushed d v f c (none (modeOf 5)) vs fs cs es vs′ fs′ cs′ es′
   pub stamp : Pushed d v f c (none (modeOf 4)) vs fs cs ss vs′ fs′ cs′ ss′
 
 -- What `apply` asks, and what it leaves, where there is no fault.
@@ -118,7 +118,7 @@ module _ {mid : Figures} {vs fs cs ns hs es ss : List ℤ} where
         (record {
           net = stands-open 1 xs d a lt (r .in-range) (stands-able 1 (r .records) (r .few) (g .net)) (o .net) (t .net);
           heaviest = stands-open 2 xs d a lt (r .in-range) (stands-able 2 (r .records) (r .few) (g .heaviest)) (o .heaviest) (t .heaviest);
-          eaten = stands-open 3 xs d a lt (r .in-range) (stands-able 3 (r .records) (r .few) (g .eaten)) (o .eaten) (t .eaten);
+          eaten = stands-open 5 xs d a lt (r .in-range) (stands-able 5 (r .records) (r .few) (g .eaten)) (o .eaten) (t .eaten);
           stamp = stands-open 4 xs d a lt (r .in-range) (stands-able 4 (r .records) (r .few) (g .stamp)) (o .stamp) (t .stamp);
         })
 
@@ -136,8 +136,8 @@ module _ {mid : Figures} {vs fs cs ns hs es ss : List ℤ} where
       pub asks-heaviest : {m : ℤ} → m ≡ mid .heaviest → Top (modeOf 2) vs fs cs hs (f .depth) m
       asks-heaviest = asks 2 (top .heaviest)
 
-      pub asks-eaten : {m : ℤ} → m ≡ mid .eaten → Top (modeOf 3) vs fs cs es (f .depth) m
-      asks-eaten = asks 3 (top .eaten)
+      pub asks-eaten : {m : ℤ} → m ≡ mid .eaten → Top (modeOf 5) vs fs cs es (f .depth) m
+      asks-eaten = asks 5 (top .eaten)
 
       pub asks-stamp : {m : ℤ} → m ≡ mid .stamp → Top (modeOf 4) vs fs cs ss (f .depth) m
       asks-stamp = asks 4 (top .stamp)
@@ -150,7 +150,7 @@ module _ {mid : Figures} {vs fs cs ns hs es ss : List ℤ} where
       pub applied-close : {mid′ : Figures} {ns′ hs′ es′ ss′ : List ℤ} {mn mh me ms n h e s : ℤ}
           → mn ≡ mid .net → mid′ .net ≡ n → ClosedTop (modeOf 1) vs fs cs ns (f .depth) mn ns′ n
           → mh ≡ mid .heaviest → mid′ .heaviest ≡ h → ClosedTop (modeOf 2) vs fs cs hs (f .depth) mh hs′ h
-          → me ≡ mid .eaten → mid′ .eaten ≡ e → ClosedTop (modeOf 3) vs fs cs es (f .depth) me es′ e
+          → me ≡ mid .eaten → mid′ .eaten ≡ e → ClosedTop (modeOf 5) vs fs cs es (f .depth) me es′ e
           → ms ≡ mid .stamp → mid′ .stamp ≡ s → ClosedTop (modeOf 4) vs fs cs ss (f .depth) ms ss′ s
           → Applied fault f mid vs fs cs ns hs es ss mid′ vs fs cs ns′ hs′ es′ ss′
       applied-close {mid′} {ns′} {hs′} {es′} {ss′} p p′ n q q′ h u u′ e v v′ s _ xs st =
@@ -159,6 +159,6 @@ module _ {mid : Figures} {vs fs cs ns hs es ss : List ℤ} where
           (record {
             net = closed 1 xs (top .net) (t .net) p p′ n;
             heaviest = closed 2 xs (top .heaviest) (t .heaviest) q q′ h;
-            eaten = closed 3 xs (top .eaten) (t .eaten) u u′ e;
+            eaten = closed 5 xs (top .eaten) (t .eaten) u u′ e;
             stamp = closed 4 xs (top .stamp) (t .stamp) v v′ s;
           })

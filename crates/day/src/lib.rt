@@ -24,7 +24,7 @@ fn no_figures() -> Figures
     Figures {
         net: figure::nothing(1),
         heaviest: figure::nothing(2),
-        eaten: figure::nothing(3),
+        eaten: figure::nothing(5),
         stamp: figure::nothing(4),
     }
 }
@@ -53,7 +53,7 @@ fn open_at(
     ceilings[depth] = ceiling;
     net[depth] = figure::nothing(1);
     heaviest[depth] = figure::nothing(2);
-    eaten[depth] = figure::nothing(3);
+    eaten[depth] = figure::nothing(5);
     stamp[depth] = figure::nothing(4);
 }
 
@@ -105,7 +105,7 @@ fn apply(
         heaviest,
         mid.heaviest,
     );
-    let e = slopes::close_top(3, depth, &*values, &*floors, &*ceilings, eaten, mid.eaten);
+    let e = slopes::close_top(5, depth, &*values, &*floors, &*ceilings, eaten, mid.eaten);
     let s = slopes::close_top(4, depth, &*values, &*floors, &*ceilings, stamp, mid.stamp);
     Figures {
         net: n,

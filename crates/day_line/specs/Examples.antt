@@ -13,8 +13,8 @@ use Rattle.chunk.specs.Chunk.{wholeLog}
 use Rattle.outcome.specs.Day.{dayOutcome}
 use Rattle.outcome.specs.Line.{ascii, lineText, dayLine}
 
--- "for D `12 15 14 72`"
-D-line : dayLine (result (record { net = pos 12; heaviest = pos 15; eaten = pos 14; stamp = pos 72 })) ≡ ascii "12 15 14 72\n"
+-- "log D gives `12 15 12 72`"
+D-line : dayLine (result (record { net = pos 12; heaviest = pos 15; eaten = pos 12; stamp = pos 72 })) ≡ ascii "12 15 12 72\n"
 unfolding digitsIn digitsOf decimalOf ascii lineText dayLine
 D-line = refl
 

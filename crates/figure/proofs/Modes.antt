@@ -18,34 +18,26 @@ pub stamp-number : (z : ℤ) → IsStored (modeOf 4) z → up z ≡ up z % 2 ^ 3
 unfolding IsStored modeOf
 stamp-number z e = sym (ap up e)
 
--- a number other than 2, 3 and 4 stands for mode 1
-pub other-mode : (m : ℕ) → (m ≡ 2 → ⊥) → (m ≡ 3 → ⊥) → (m ≡ 4 → ⊥) → modeOf m ≡ modeOf 1
+-- a number other than 2, 4 and 5 stands for mode 1
+pub other-mode : (m : ℕ) → (m ≡ 2 → ⊥) → (m ≡ 4 → ⊥) → (m ≡ 5 → ⊥) → modeOf m ≡ modeOf 1
 unfolding modeOf
-other-mode zero n2 n3 n4 = refl
-other-mode (suc zero) n2 n3 n4 = refl
-other-mode (suc (suc zero)) n2 n3 n4 = absurd (n2 refl)
-other-mode (suc (suc (suc zero))) n2 n3 n4 = absurd (n3 refl)
-other-mode (suc (suc (suc (suc zero)))) n2 n3 n4 = absurd (n4 refl)
-other-mode (suc (suc (suc (suc (suc n))))) n2 n3 n4 = refl
+other-mode zero n2 n4 n5 = refl
+other-mode (suc zero) n2 n4 n5 = refl
+other-mode (suc (suc zero)) n2 n4 n5 = absurd (n2 refl)
+other-mode (suc (suc (suc zero))) n2 n4 n5 = refl
+other-mode (suc (suc (suc (suc zero)))) n2 n4 n5 = absurd (n4 refl)
+other-mode (suc (suc (suc (suc (suc zero))))) n2 n4 n5 = absurd (n5 refl)
+other-mode (suc (suc (suc (suc (suc (suc n)))))) n2 n4 n5 = refl
 
--- a mode other than 2 and 4 is mode 1 or 3, whose figures are plain numbers
-plain : (P : Mode → Type 0) (m : ℕ) → (m ≡ 2 → ⊥) → (m ≡ 4 → ⊥) → P (modeOf 1) → P (modeOf 3) → P (modeOf m)
-unfolding modeOf
-plain P zero n2 n4 p q = p
-plain P (suc zero) n2 n4 p q = p
-plain P (suc (suc zero)) n2 n4 p q = absurd (n2 refl)
-plain P (suc (suc (suc zero))) n2 n4 p q = q
-plain P (suc (suc (suc (suc zero)))) n2 n4 p q = absurd (n4 refl)
-plain P (suc (suc (suc (suc (suc n))))) n2 n4 p q = p
-
-module _ (m : ℕ) (not-2 : m ≡ 2 → ⊥) (not-4 : m ≡ 4 → ⊥) where
+-- whose figures are plain numbers
+module _ (m : ℕ) (not-2 : m ≡ 2 → ⊥) (not-4 : m ≡ 4 → ⊥) (not-5 : m ≡ 5 → ⊥) where
   pub plain-size : (z : ℤ) → sizeOf (modeOf m) z ≡ natAbs z
   unfolding sizeOf modeOf
-  plain-size z = plain (λ M. M .sizes .size (M .read z) ≡ natAbs z) m not-2 not-4 refl refl
+  plain-size z = ap (λ (M : Mode). M .sizes .size (M .read z)) (other-mode m not-2 not-4 not-5)
 
   pub plain-combined : (a b : ℤ) → combined (modeOf m) a b ≡ a +ℤ b
   unfolding combined modeOf
-  plain-combined a b = plain (λ M. combined M a b ≡ a +ℤ b) m not-2 not-4 refl refl
+  plain-combined a b = ap (λ (M : Mode). combined M a b) (other-mode m not-2 not-4 not-5)
 
 -- every number stands for a figure, but in mode 4
 pub any-figure : (m : ℕ) → (m ≡ 4 → ⊥) → (z : ℤ) → modeOf m .isFigure z ≡ true
@@ -55,4 +47,5 @@ any-figure (suc zero) n4 z = refl
 any-figure (suc (suc zero)) n4 z = refl
 any-figure (suc (suc (suc zero))) n4 z = refl
 any-figure (suc (suc (suc (suc zero)))) n4 z = absurd (n4 refl)
-any-figure (suc (suc (suc (suc (suc n))))) n4 z = refl
+any-figure (suc (suc (suc (suc (suc zero))))) n4 z = refl
+any-figure (suc (suc (suc (suc (suc (suc n)))))) n4 z = refl

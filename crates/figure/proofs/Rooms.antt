@@ -28,11 +28,12 @@ module _ (f g : Run) where
   heaviest-room c = omega (arith, c .outer-within, c .inner-within, c .room)
 
   pub record EatenRoom : Type 0 where
-    pub add : natAbs (g .first) + natAbs (f .first) < 2 ^ 63
-    pub low : natAbs (g .second) + natAbs (f .first) < 2 ^ 63
-    pub high : natAbs (g .third) + natAbs (f .first) < 2 ^ 63
+    pub empty : natAbs (g .first) + natAbs (f .second) < 2 ^ 63
+    pub add : natAbs (g .second) + natAbs (f .second) < 2 ^ 63
+    pub low : natAbs (g .third) + natAbs (f .second) < 2 ^ 63
+    pub high : natAbs (g .fourth) + natAbs (f .second) < 2 ^ 63
 
-  pub eaten-room : Composes (modeOf 3) f g → EatenRoom
+  pub eaten-room : Composes (modeOf 5) f g → EatenRoom
   unfolding RunWithin modeOf
   eaten-room c = omega (arith, c .outer-within, c .inner-within, c .room)
 
@@ -41,9 +42,10 @@ pub record Back (k : Run) : Type 0 where
   pub first-back : toZ w64 (ofZ w64 (k .first)) ≡ k .first
   pub second-back : toZ w64 (ofZ w64 (k .second)) ≡ k .second
   pub third-back : toZ w64 (ofZ w64 (k .third)) ≡ k .third
+  pub fourth-back : toZ w64 (ofZ w64 (k .fourth)) ≡ k .fourth
 
-pub fields-back : (k : Run) → mag (k .first) < 2 ^ 63 → mag (k .second) < 2 ^ 63 → mag (k .third) < 2 ^ 63 → Back k
-fields-back k p q r = record { first-back = back w64 (k .first) p; second-back = back w64 (k .second) q; third-back = back w64 (k .third) r }
+pub fields-back : (k : Run) → mag (k .first) < 2 ^ 63 → mag (k .second) < 2 ^ 63 → mag (k .third) < 2 ^ 63 → mag (k .fourth) < 2 ^ 63 → Back k
+fields-back k p q r s = record { first-back = back w64 (k .first) p; second-back = back w64 (k .second) q; third-back = back w64 (k .third) r; fourth-back = back w64 (k .fourth) s }
 
 -- both numbers of a run of mode 4 are stored stamps
 pub stamp-first : (k : Run) → IsRun (modeOf 4) k → IsStored (modeOf 4) (k .first)

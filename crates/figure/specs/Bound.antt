@@ -1,6 +1,6 @@
 -- How large the figures and the numbers of a run get: a record adds at most 10^9 to what the values weigh. Assumes nothing.
--- Document 01's bound is one formula: unit × unclosed + the sizes of the values ≤ unit × opened. In modes 1 to 3 the unit is 10^9 and a size
--- is an absolute value, "-2^63 in mode 2 counts 0"; in mode 4 the unit is 1 and every size 0: "opened is at least the unclosed records".
+-- Document 01's bound is one formula: unit × unclosed + the sizes of the values ≤ unit × opened. In modes 1, 2 and 5 the unit is 10^9 and a size
+-- is an absolute value, -2^63 counting 0 in modes 2 and 5; in mode 4 the unit is 1 and every size 0: "opened is at least the unclosed records".
 use mathlib.Core.Path.{_≡_, refl}
 use Prim.Native.Nat.{ℕ, _+_, _*_, _≤_, max}
 use native.Mathlib.Nat.{mul-le-mul}
@@ -9,11 +9,11 @@ use lib.Dec.{lit<}
 use lib.IntN.{ℤ, _+ℤ_, natAbs}
 use Rattle.algebra.specs.Run.{Level}
 use Rattle.algebra.specs.Sizes.{Sizes, cost, RunSizes}
-use Rattle.number.specs.Integer.{maxZ, clamp}
+use Rattle.number.specs.Integer.{maxZ}
 use Rattle.number.specs.IntegerLaws.{abs-+, abs-max, abs-clamp}
-use Rattle.figure.specs.FourModes.{Amounts, limit, InRange, net, heaviest, eaten, stamp, lift, lineOf, Stamp}
-use Rattle.figure.specs.Run.{HeaviestNumbers, atLeast, Between, between}
-use Rattle.figure.specs.Runs.{netContext, heaviestContext, eatenContext, stampContext, moved, lineAfter, betweenAfter}
+use Rattle.figure.specs.FourModes.{Amounts, limit, InRange, net, heaviest, eaten, stamp, lift, lineOf, eatenOf, Stamp}
+use Rattle.figure.specs.Run.{HeaviestNumbers, atLeast, Between, between, EatenNumbers, addend}
+use Rattle.figure.specs.Runs.{netContext, heaviestContext, eatenContext, stampContext, moved, lineAfter, betweenAfter, eatenAfter}
 use Rattle.figure.specs.declared.Held.{Held}
 use Rattle.figure.specs.declared.Held.the-variants.{Nothing, Figure}
 
@@ -106,32 +106,6 @@ line-after-in f g m n p q =
 abbrev pub heaviestRunSizes : RunSizes heaviestContext heaviestSizes
 heaviestRunSizes = record { Within = LineIn; within-level = line-size; within-compose = line-after-in }
 
--- ---- mode 3
-
-pub eaten-node : (r : Amounts) (h : ℤ) → InRange r → natAbs (clamp (r .value +ℤ h) (r .floor) (r .ceiling)) ≤ limit + natAbs h
-eaten-node r h i = omega (arith, abs-clamp (r .value +ℤ h) (r .floor) (r .ceiling), net-node r h i)
-
-abbrev pub eatenSizes : Sizes eaten InRange
-eatenSizes = record { unit = limit; size = natAbs; unit-pos = lit< tt; size-ι = refl; size-⊗ = abs-+; size-node = eaten-node }
-
-pub record BetweenIn (k : Between) (n : ℕ) : Type 0 where
-  pub add-in : natAbs (k .add) ≤ n
-  pub low-in : natAbs (k .low) ≤ n
-  pub high-in : natAbs (k .high) ≤ n
-
--- a number put through f
-pub between-in : (f : Between) (x : ℤ) (m n : ℕ) → BetweenIn f m → natAbs x ≤ n → natAbs (between f x) ≤ m + n
-between-in f x m n p q = omega (arith, abs-clamp (x +ℤ f .add) (f .low) (f .high), abs-+ x (f .add))
-
-pub between-after-in : (f g : Between) (m n : ℕ) → BetweenIn f m → BetweenIn g n → BetweenIn (betweenAfter f g) (m + n)
-between-after-in f g m n p q = omega (arith, abs-+ (g .add) (f .add), between-in f (g .low) m n p (q .low-in), between-in f (g .high) m n p (q .high-in))
-
-pub eaten-size : (l : Level eaten) → InRange (l .carried) → BetweenIn (eatenContext .level l) (cost eatenSizes l)
-eaten-size l i = omega (arith, net-node (l .carried) (l .before +ℤ l .after) i, abs-+ (l .before) (l .after))
-
-abbrev pub eatenRunSizes : RunSizes eatenContext eatenSizes
-eatenRunSizes = record { Within = BetweenIn; within-level = eaten-size; within-compose = between-after-in }
-
 -- ---- mode 4: a stamp has no size, since its sums wrap
 
 pub no-size : (a b : Stamp) → 0 ≤ 0 + 0
@@ -145,6 +119,53 @@ stampSizes = record { unit = 1; size = λ _. 0; unit-pos = lit< tt; size-ι = re
 
 abbrev pub stampRunSizes : RunSizes stampContext stampSizes
 stampRunSizes = record { Within = λ _ _. Unit {0}; within-level = λ _ _. tt; within-compose = λ _ _ _ _ _ _. tt }
+
+-- ---- mode 5
+
+pub eaten-of : (r : Amounts) (h : Held) → InRange r → natAbs (eatenOf r h) ≤ limit + sizeHeld h
+unfolding sizeHeld eatenOf
+eaten-of r Nothing i = omega arith
+eaten-of r (Figure s) i = omega (arith, abs-clamp (r .value +ℤ s) (r .floor) (r .ceiling), net-node r s i)
+
+pub eaten-node : (r : Amounts) (h : Held) → InRange r → sizeHeld (Figure (eatenOf r h)) ≤ limit + sizeHeld h
+unfolding sizeHeld
+eaten-node r h i = eaten-of r h i
+
+abbrev pub eatenSizes : Sizes eaten InRange
+eatenSizes = record { unit = limit; size = sizeHeld; unit-pos = lit< tt; size-ι = size-nothing; size-⊗ = size-lift _+ℤ_ abs-+; size-node = eaten-node }
+
+pub record BetweenIn (k : Between) (n : ℕ) : Type 0 where
+  pub add-in : natAbs (k .add) ≤ n
+  pub low-in : natAbs (k .low) ≤ n
+  pub high-in : natAbs (k .high) ≤ n
+
+pub record EatenIn (k : EatenNumbers) (n : ℕ) : Type 0 where
+  pub empty-in : natAbs (k .empty) ≤ n
+  pub some-in : BetweenIn (k .some) n
+
+-- a number put through f
+pub between-in : (f : Between) (x : ℤ) (m n : ℕ) → BetweenIn f m → natAbs x ≤ n → natAbs (between f x) ≤ m + n
+between-in f x m n p q = omega (arith, abs-clamp (x +ℤ f .add) (f .low) (f .high), abs-+ x (f .add))
+
+pub between-after-in : (f g : Between) (m n : ℕ) → BetweenIn f m → BetweenIn g n → BetweenIn (betweenAfter f g) (m + n)
+between-after-in f g m n p q = omega (arith, abs-+ (g .add) (f .add), between-in f (g .low) m n p (q .low-in), between-in f (g .high) m n p (q .high-in))
+
+pub eaten-after-in : (f g : EatenNumbers) (m n : ℕ) → EatenIn f m → EatenIn g n → EatenIn (eatenAfter f g) (m + n)
+eaten-after-in f g m n p q = record { empty-in = between-in (f .some) (g .empty) m n (p .some-in) (q .empty-in); some-in = between-after-in (f .some) (g .some) m n (p .some-in) (q .some-in) }
+
+pub addend-size : (h : Held) → natAbs (addend h) ≡ sizeHeld h
+unfolding sizeHeld
+addend-size Nothing = refl
+addend-size (Figure z) = refl
+
+pub eaten-size : (l : Level eaten) → InRange (l .carried) → EatenIn (eatenContext .level l) (cost eatenSizes l)
+eaten-size l i = record {
+  empty-in = omega (arith, eaten-of (l .carried) (lift _+ℤ_ (l .before) (l .after)) i, size-lift _+ℤ_ abs-+ (l .before) (l .after));
+  some-in = omega (arith, net-node (l .carried) (addend (l .before) +ℤ addend (l .after)) i, abs-+ (addend (l .before)) (addend (l .after)), addend-size (l .before), addend-size (l .after));
+}
+
+abbrev pub eatenRunSizes : RunSizes eatenContext eatenSizes
+eatenRunSizes = record { Within = EatenIn; within-level = eaten-size; within-compose = eaten-after-in }
 
 -- ---- what the bound leaves fits 64 bits
 

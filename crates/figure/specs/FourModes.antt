@@ -1,4 +1,4 @@
--- The four modes of document 01, "Four modes", and how their figures are stored in 64 bits.
+-- The four modes in use: 1, 2 and 4 of document 01, "Four modes", and 5 of request L3; and how their figures are stored in 64 bits.
 use mathlib.Core.Bool.{Bool, true, false, _&&_}
 use Prim.Native.Nat.{ℕ, _+_, _*_, _%_, _^_, _≤_, _<_}
 use native.Mathlib.Nat.{mod-lt}
@@ -47,10 +47,6 @@ lineOf v (Figure s) = v +ℤ s
 abbrev pub heaviest : Algebra Amounts
 heaviest = record { Fig = Held; ι = Nothing; _⊗_ = lift maxZ; node = λ r h. Figure (lineOf (r .value) h) }
 
--- 3. Eaten: "v + the sum of the held figures, raised to the floor if below, lowered to the ceiling if above".
-abbrev pub eaten : Algebra Amounts
-eaten = record { Fig = ℤ; ι = pos 0; _⊗_ = _+ℤ_; node = λ r h. clamp (r .value +ℤ h) (r .floor) (r .ceiling) }
-
 -- 4. Stamp: "(v + 31 × the sum of the held stamps) modulo 2^32. Its sums wrap on purpose."
 pub record Stamp : Type 0 where
   pub num : ℕ
@@ -69,7 +65,16 @@ stamp =
       node = λ r h. record { num = wrap (r .value +ℤ pos (31 * h .num)); small = wrap-small (r .value +ℤ pos (31 * h .num)) };
     }
 
--- "In mode 2 it is no number, and is stored as -2^63." `negsuc n` is -1 - n. A figure is stored as it is.
+-- 5. Eaten, a drop at its value: "v + the sum of the held figures, raised to the floor if below, lowered to the ceiling if above", where
+-- "floor and ceiling bind only a record that holds others"; v alone if it holds none. Nothing held is no number, as in mode 2.
+unfoldable pub eatenOf : Amounts → Held → ℤ
+eatenOf r Nothing = r .value
+eatenOf r (Figure s) = clamp (r .value +ℤ s) (r .floor) (r .ceiling)
+
+abbrev pub eaten : Algebra Amounts
+eaten = record { Fig = Held; ι = Nothing; _⊗_ = lift _+ℤ_; node = λ r h. Figure (eatenOf r h) }
+
+-- "In mode 2 it is no number, and is stored as -2^63", and in mode 5. `negsuc n` is -1 - n. A figure is stored as it is.
 abbrev pub nothing : ℤ
 nothing = negsuc 9223372036854775807
 

@@ -1,9 +1,9 @@
 -- A mode with all that belongs to it, and the modes by their numbers. Each later theorem takes a `Mode`.
 use mathlib.Core.Path.{_≡_, refl}
-use mathlib.Core.Bool.{Bool, true, _&&_}
+use mathlib.Core.Bool.{Bool, true, _||_}
 use mathlib.Core.List.{List}
 use Prim.Native.Nat.{ℕ, zero, suc, _^_, _≤_, _<_}
-use lib.Dec.{leb, eqb, lit≤}
+use lib.Dec.{eqb, lit≤}
 use lib.IntN.{ℤ, +ℤ-comm}
 use mir.Syntax.{w64}
 use mir.Val.{SFits}
@@ -12,12 +12,12 @@ use Rattle.algebra.specs.Run.{Level, Context}
 use Rattle.algebra.specs.Sizes.{Sizes, RunSizes}
 use Rattle.number.specs.IntegerLaws.{sfits-abs}
 use Rattle.figure.specs.FourModes.{Amounts, limit, InRange, net, heaviest, eaten, stamp, storeHeld, readHeld, storeStamp, readStamp, isStamp}
-use Rattle.figure.specs.ModeLaws.{netLaws, eatenLaws, heaviestLaws, heaviest-comm, stampLaws, stamp-comm}
+use Rattle.figure.specs.ModeLaws.{netLaws, eatenLaws, eaten-comm, heaviestLaws, heaviest-comm, stampLaws, stamp-comm}
 use Rattle.figure.specs.Run.{netRun, IsNetRun, heaviestRun, IsHeaviestRun, eatenRun, IsEatenRun, stampRun, IsStampRun}
 use Rattle.figure.specs.Runs.{netContext, heaviestContext, eatenContext, stampContext}
 use Rattle.figure.specs.RunUnique.{Pinned, netPinned, heaviestPinned, eatenPinned, stampPinned}
 use Rattle.figure.specs.Bound.{netSizes, netRunSizes, heaviestSizes, heaviestRunSizes, eatenSizes, eatenRunSizes, stampSizes, stampRunSizes}
-use Rattle.figure.specs.StoreLaws.{held-stored, is-stamp, stamp-is, held-back, held-fits, stamp-back, stamp-fits, readNetRun, readHeaviestRun, readEatenRun, readStampRun, RunFits, net-run-fits, line-back, line-run-fits, between-run-fits, affine-back, affine-run-fits}
+use Rattle.figure.specs.StoreLaws.{held-stored, is-stamp, stamp-is, held-back, held-fits, stamp-back, stamp-fits, readNetRun, readHeaviestRun, readEatenRun, readStampRun, RunFits, net-run-fits, line-back, line-run-fits, eaten-run-fits, affine-back, affine-run-fits}
 use Rattle.figure.specs.declared.Run.{Run}
 
 pub record Mode : Type 1 where
@@ -94,30 +94,6 @@ mode2 = record {
   run-fits = line-run-fits;
 }
 
-abbrev pub mode3 : Mode
-mode3 = record {
-  algebra = eaten;
-  laws = eatenLaws;
-  commutative = +ℤ-comm;
-  sizes = eatenSizes;
-  unit-small = lit≤ tt;
-  store = λ z. z;
-  read = λ z. z;
-  read-back = λ _ _. refl;
-  isFigure = λ _. true;
-  is-figure = λ _ _. refl;
-  figure-is = λ _ _. refl;
-  store-fits = sfits-abs w64;
-  context = eatenContext;
-  IsRun = IsEatenRun;
-  pinned = eatenPinned;
-  runSizes = eatenRunSizes;
-  storeRun = eatenRun;
-  readRun = readEatenRun;
-  run-back = λ _ _ _ _. refl;
-  run-fits = between-run-fits;
-}
-
 abbrev pub mode4 : Mode
 mode4 = record {
   algebra = stamp;
@@ -142,19 +118,44 @@ mode4 = record {
   run-fits = λ k _ _ _. affine-run-fits k;
 }
 
--- "Is the mode 1 to 4?"
-unfoldable pub modeInUse : ℕ → Bool
-modeInUse m = leb 1 m && leb m 4
+abbrev pub mode5 : Mode
+mode5 = record {
+  algebra = eaten;
+  laws = eatenLaws;
+  commutative = eaten-comm;
+  sizes = eatenSizes;
+  unit-small = lit≤ tt;
+  store = storeHeld;
+  read = readHeld;
+  read-back = held-back;
+  isFigure = λ _. true;
+  is-figure = λ z _. held-stored z;
+  figure-is = λ _ _. refl;
+  store-fits = held-fits;
+  context = eatenContext;
+  IsRun = IsEatenRun;
+  pinned = eatenPinned;
+  runSizes = eatenRunSizes;
+  storeRun = eatenRun;
+  readRun = readEatenRun;
+  run-back = λ _ _ _ _. refl;
+  run-fits = eaten-run-fits;
+}
 
--- "'Nothing held' counts as 0 in modes 1, 3 and 4. In mode 2 it is no number, and is stored as -2^63."
+-- "Is the mode 1 to 4?", of which request L3 takes 3 out of use and adds 5.
+unfoldable pub modeInUse : ℕ → Bool
+modeInUse m = eqb m 1 || eqb m 2 || eqb m 4 || eqb m 5
+
+-- "'Nothing held' counts as 0 in modes 1 .. and 4. In mode 2 it is no number, and is stored as -2^63"; in mode 5 it "is -2^63, as in mode 2".
 abbrev pub storesNothing : ℕ → Bool
-storesNothing m = eqb m 2
+storesNothing m = eqb m 2 || eqb m 5
 
 -- by its number; a number that is no mode stands for mode 1, and no call gets so far with it
 unfoldable pub modeOf : ℕ → Mode
 modeOf zero = mode1
 modeOf (suc zero) = mode1
 modeOf (suc (suc zero)) = mode2
-modeOf (suc (suc (suc zero))) = mode3
+modeOf (suc (suc (suc zero))) = mode1
 modeOf (suc (suc (suc (suc zero)))) = mode4
-modeOf (suc (suc (suc (suc (suc n))))) = mode1
+modeOf (suc (suc (suc (suc (suc zero))))) = mode5
+modeOf (suc (suc (suc (suc (suc (suc n)))))) = mode1

@@ -5,7 +5,7 @@ use Prim.Native.Nat.{_+_, _*_, _^_, _<_}
 use native.Mathlib.Nat.{add-mod-mod}
 use native.Mathlib.Omega.{arith}
 use native.Mathlib.Bridge.{le-prop}
-use lib.IntN.{ℤ, pos, +ℤ-assoc, +ℤ-idl, +ℤ-idr}
+use lib.IntN.{ℤ, pos, _+ℤ_, +ℤ-assoc, +ℤ-comm, +ℤ-idl, +ℤ-idr}
 use Rattle.algebra.specs.Algebra.{Laws, Commutative}
 use Rattle.number.specs.Integer.{maxZ, wrap}
 use Rattle.number.specs.IntegerLaws.{max-comm, max-assoc}
@@ -16,9 +16,6 @@ use Rattle.figure.specs.declared.Held.the-variants.{Nothing, Figure}
 
 abbrev pub netLaws : Laws net
 netLaws = record { assoc = +ℤ-assoc; unit-l = +ℤ-idl; unit-r = +ℤ-idr }
-
-abbrev pub eatenLaws : Laws eaten
-eatenLaws = record { assoc = +ℤ-assoc; unit-l = +ℤ-idl; unit-r = +ℤ-idr }
 
 -- ---- an operation with nothing for its unit
 
@@ -50,6 +47,12 @@ heaviestLaws = record { assoc = lift-assoc maxZ max-assoc; unit-l = lift-l maxZ;
 
 pub heaviest-comm : Commutative heaviest
 heaviest-comm = lift-comm maxZ max-comm
+
+abbrev pub eatenLaws : Laws eaten
+eatenLaws = record { assoc = lift-assoc _+ℤ_ +ℤ-assoc; unit-l = lift-l _+ℤ_; unit-r = lift-r _+ℤ_ }
+
+pub eaten-comm : Commutative eaten
+eaten-comm = lift-comm _+ℤ_ +ℤ-comm
 
 -- ---- stamps
 

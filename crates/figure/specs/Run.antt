@@ -16,7 +16,7 @@ use Rattle.figure.specs.declared.Run.{Run}
 
 -- "Mode 1: (a,0,0), x + a."
 abbrev pub netRun : ℤ → Run
-netRun a = record { first = a; second = pos 0; third = pos 0 }
+netRun a = record { first = a; second = pos 0; third = pos 0; fourth = pos 0 }
 
 abbrev pub IsNetRun : List (Level net) → ℤ → Type 0
 IsNetRun ls a = (x : ℤ) → x +ℤ a ≡ through net ls x
@@ -36,35 +36,10 @@ along k Nothing = k .empty
 along k (Figure x) = atLeast (k .other) (x +ℤ k .add)
 
 abbrev pub heaviestRun : HeaviestNumbers → Run
-heaviestRun k = record { first = k .empty; second = storeHeld (k .other); third = k .add }
+heaviestRun k = record { first = k .empty; second = storeHeld (k .other); third = k .add; fourth = pos 0 }
 
 abbrev pub IsHeaviestRun : List (Level heaviest) → HeaviestNumbers → Type 0
 IsHeaviestRun ls k = (x : Held) → Figure (along k x) ≡ through heaviest ls x
-
--- "Mode 3: (a,l,h), x + a held between l and h, where a adds all values and combined figures on the way and l, h are the ends of what it
--- can give."
-pub record Between : Type 0 where
-  pub add : ℤ
-  pub low : ℤ
-  pub high : ℤ
-
-abbrev pub between : Between → ℤ → ℤ
-between k x = clamp (x +ℤ k .add) (k .low) (k .high)
-
-abbrev pub eatenRun : Between → Run
-eatenRun k = record { first = k .add; second = k .low; third = k .high }
-
-unfoldable pub total : List (Level eaten) → ℤ
-total [] = pos 0
-total (l ∷ ls) = (l .carried .value +ℤ (l .before +ℤ l .after)) +ℤ total ls
-
-pub record IsEatenRun (ls : List (Level eaten)) (k : Between) : Type 0 where
-  pub gives : (x : ℤ) → between k x ≡ through eaten ls x
-  pub adds : k .add ≡ total ls
-  pub not-below : (x : ℤ) → k .low ≤ℤ through eaten ls x
-  pub gives-low : (x : ℤ) × (through eaten ls x ≡ k .low)
-  pub not-above : (x : ℤ) → through eaten ls x ≤ℤ k .high
-  pub gives-high : (x : ℤ) × (through eaten ls x ≡ k .high)
 
 -- "Mode 4: (m,q,0), m·x + q modulo 2^32, m and q from 0 to 2^32 - 1."
 pub record Affine : Type 0 where
@@ -75,7 +50,45 @@ abbrev pub affine : Affine → Stamp → Stamp
 affine k x = stampOf (k .times .num * x .num + k .plus .num)
 
 abbrev pub stampRun : Affine → Run
-stampRun k = record { first = storeStamp (k .times); second = storeStamp (k .plus); third = pos 0 }
+stampRun k = record { first = storeStamp (k .times); second = storeStamp (k .plus); third = pos 0; fourth = pos 0 }
 
 abbrev pub IsStampRun : List (Level stamp) → Affine → Type 0
 IsStampRun ls k = (x : Stamp) → affine k x ≡ through stamp ls x
+
+-- Mode 5: "four numbers: z for nothing inside, then a, l, h": x + a held between l and h, where a adds all values and combined figures on
+-- the way and l, h are the ends of what it can give where something is inside.
+pub record Between : Type 0 where
+  pub add : ℤ
+  pub low : ℤ
+  pub high : ℤ
+
+abbrev pub between : Between → ℤ → ℤ
+between k x = clamp (x +ℤ k .add) (k .low) (k .high)
+
+pub record EatenNumbers : Type 0 where
+  pub empty : ℤ
+  pub some : Between
+
+unfoldable pub eatenAlong : EatenNumbers → Held → ℤ
+eatenAlong k Nothing = k .empty
+eatenAlong k (Figure x) = between (k .some) x
+
+abbrev pub eatenRun : EatenNumbers → Run
+eatenRun k = record { first = k .empty; second = k .some .add; third = k .some .low; fourth = k .some .high }
+
+-- What a figure adds to a sum: nothing held adds nothing.
+abbrev pub addend : Held → ℤ
+addend Nothing = pos 0
+addend (Figure z) = z
+
+unfoldable pub total : List (Level eaten) → ℤ
+total [] = pos 0
+total (l ∷ ls) = (l .carried .value +ℤ (addend (l .before) +ℤ addend (l .after))) +ℤ total ls
+
+pub record IsEatenRun (ls : List (Level eaten)) (k : EatenNumbers) : Type 0 where
+  pub gives : (x : Held) → Figure (eatenAlong k x) ≡ through eaten ls x
+  pub adds : k .some .add ≡ total ls
+  pub not-below : (x y : ℤ) → through eaten ls (Figure x) ≡ Figure y → k .some .low ≤ℤ y
+  pub gives-low : (x : ℤ) × (through eaten ls (Figure x) ≡ Figure (k .some .low))
+  pub not-above : (x y : ℤ) → through eaten ls (Figure x) ≡ Figure y → y ≤ℤ k .some .high
+  pub gives-high : (x : ℤ) × (through eaten ls (Figure x) ≡ Figure (k .some .high))

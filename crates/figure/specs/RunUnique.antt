@@ -11,8 +11,8 @@ use Rattle.number.specs.Integer.{maxZ}
 use Rattle.number.specs.IntegerLaws.{zed, add-law, neg-law, abs-law, max-law, ≤-antisym}
 use Rattle.figure.specs.FourModes.{Amounts, InRange, net, heaviest, eaten, stamp, lift, Stamp, stampOf}
 use Rattle.figure.specs.ModeLaws.{stamp-≡}
-use Rattle.figure.specs.Run.{IsNetRun, HeaviestNumbers, atLeast, along, IsHeaviestRun, Between, between, total, IsEatenRun, Affine, affine, IsStampRun}
-use Rattle.figure.specs.Runs.{netContext, heaviestContext, eatenContext, stampContext, moved, lineLevel, lineAfter, betweenLevel, betweenAfter, between-ends, between-low, between-high}
+use Rattle.figure.specs.Run.{IsNetRun, HeaviestNumbers, atLeast, along, IsHeaviestRun, EatenNumbers, eatenAlong, addend, total, IsEatenRun, Affine, affine, IsStampRun}
+use Rattle.figure.specs.Runs.{netContext, heaviestContext, eatenContext, stampContext, moved, lineLevel, lineAfter, eatenLevel, eatenAfter, between-ends, between-low, between-high}
 use Rattle.figure.specs.declared.Held.{Held}
 use Rattle.figure.specs.declared.Held.the-variants.{Nothing, Figure}
 
@@ -20,6 +20,9 @@ use Rattle.figure.specs.declared.Held.the-variants.{Nothing, Figure}
 pub record Pinned {𝒜 : Algebra Amounts} (C : Context 𝒜 InRange) (IsRun : List (Level 𝒜) → C .K → Type 0) : Type 0 where
   pub is : (l : Level 𝒜) (ls : List (Level 𝒜)) → AllSound InRange (l ∷ ls) → IsRun (l ∷ ls) (run C l ls)
   pub only : (ls : List (Level 𝒜)) (j k : C .K) → IsRun ls j → IsRun ls k → j ≡ k
+
+figure-same : {y z : ℤ} → Figure y ≡ Figure z → y ≡ z
+figure-same e = ap addend e
 
 -- ---- mode 1: x + a for one x determines a
 
@@ -69,12 +72,8 @@ line-≡ j k e =
     let r = shown (j .other) (k .other) (j .add) (k .add) (λ x. e (Figure x)) in
     λ i. record { empty = e Nothing i; other = r .0 i; add = r .1 i }
 
-abbrev numberOf : Held → ℤ
-numberOf Nothing = pos 0
-numberOf (Figure z) = z
-
 pub heaviest-only : (ls : List (Level heaviest)) (j k : HeaviestNumbers) → IsHeaviestRun ls j → IsHeaviestRun ls k → j ≡ k
-heaviest-only ls j k p q = line-≡ j k (λ x. ap numberOf (p x ∙ sym (q x)))
+heaviest-only ls j k p q = line-≡ j k (λ x. figure-same (p x ∙ sym (q x)))
 
 abbrev pub heaviestPinned : Pinned heaviestContext IsHeaviestRun
 heaviestPinned = record { is = run-is heaviestContext; only = heaviest-only }
@@ -125,42 +124,6 @@ other-exactly l ls = (
   λ n. other-none (lineLevel l) ls (none-moved (l .carried .value) (n .0 .0) (n .0 .1)) (n .1),
 )
 
--- ---- mode 3: the ends are the least and the greatest outcome, and a is the sum on the way
-
-total-run : (k : Between) (ls : List (Level eaten)) → runOn eatenContext k ls .add ≡ k .add +ℤ total ls
-unfolding runOn total
-total-run k [] = sym (+ℤ-idr (k .add))
-total-run k (l ∷ ls) =
-    total-run (betweenAfter (betweenLevel (l .carried) (l .before) (l .after)) k) ls
-    ∙ +ℤ-assoc (k .add) (l .carried .value +ℤ (l .before +ℤ l .after)) (total ls)
-
-pub eaten-is : (l : Level eaten) (ls : List (Level eaten)) → AllSound InRange (l ∷ ls) → IsEatenRun (l ∷ ls) (run eatenContext l ls)
-unfolding total
-eaten-is l ls s =
-    let k : Between = run eatenContext l ls in
-    let e : (x : ℤ) → between k x ≡ through eaten (l ∷ ls) x = run-is eatenContext l ls s in
-    let f : k .low ≤ℤ k .high = run-fine eatenContext (betweenLevel (l .carried) (l .before) (l .after)) ls (s .0 .ordered) (s .1) in
-    record {
-      gives = e;
-      adds = total-run (betweenLevel (l .carried) (l .before) (l .after)) ls;
-      not-below = λ x. subst (λ y. k .low ≤ℤ y) (e x) (between-ends k f x .0);
-      gives-low = (k .low -ℤ k .add, sym (e (k .low -ℤ k .add)) ∙ between-low k f);
-      not-above = λ x. subst (λ y. y ≤ℤ k .high) (e x) (between-ends k f x .1);
-      gives-high = (k .high -ℤ k .add, sym (e (k .high -ℤ k .add)) ∙ between-high k f);
-    }
-
-pub eaten-only : (ls : List (Level eaten)) (j k : Between) → IsEatenRun ls j → IsEatenRun ls k → j ≡ k
-eaten-only ls j k p q =
-    let a : j .add ≡ k .add = p .adds ∙ sym (q .adds) in
-    let l : j .low ≡ k .low =
-    ≤-antisym (subst (λ y. j .low ≤ℤ y) (q .gives-low .1) (p .not-below (q .gives-low .0))) (subst (λ y. k .low ≤ℤ y) (p .gives-low .1) (q .not-below (p .gives-low .0))) in
-    let h : j .high ≡ k .high =
-    ≤-antisym (subst (λ y. y ≤ℤ k .high) (p .gives-high .1) (q .not-above (p .gives-high .0))) (subst (λ y. y ≤ℤ j .high) (q .gives-high .1) (p .not-above (q .gives-high .0))) in
-    λ i. record { add = a i; low = l i; high = h i }
-
-abbrev pub eatenPinned : Pinned eatenContext IsEatenRun
-eatenPinned = record { is = eaten-is; only = eaten-only }
-
 -- ---- mode 4: 0 gives q, and 1 gives m + q
 
 affine-zero : (k : Affine) → affine k (stampOf 0) ≡ k .plus
@@ -185,3 +148,39 @@ stamp-only ls j k p q = affine-≡ j k (λ x. p x ∙ sym (q x))
 
 abbrev pub stampPinned : Pinned stampContext IsStampRun
 stampPinned = record { is = run-is stampContext; only = stamp-only }
+
+-- ---- mode 5: nothing shows z, the ends are the least and the greatest outcome for numbers, and a is the sum on the way
+
+total-run : (k : EatenNumbers) (ls : List (Level eaten)) → runOn eatenContext k ls .some .add ≡ k .some .add +ℤ total ls
+unfolding runOn total
+total-run k [] = sym (+ℤ-idr (k .some .add))
+total-run k (l ∷ ls) =
+    total-run (eatenAfter (eatenLevel l) k) ls
+    ∙ +ℤ-assoc (k .some .add) (l .carried .value +ℤ (addend (l .before) +ℤ addend (l .after))) (total ls)
+
+pub eaten-is : (l : Level eaten) (ls : List (Level eaten)) → AllSound InRange (l ∷ ls) → IsEatenRun (l ∷ ls) (run eatenContext l ls)
+unfolding total eatenAlong
+eaten-is l ls s =
+    let k : EatenNumbers = run eatenContext l ls in
+    let e : (x : Held) → Figure (eatenAlong k x) ≡ through eaten (l ∷ ls) x = run-is eatenContext l ls s in
+    let f : k .some .low ≤ℤ k .some .high = run-fine eatenContext (eatenLevel l) ls (s .0 .ordered) (s .1) in
+    record {
+      gives = e;
+      adds = total-run (eatenLevel l) ls;
+      not-below = λ x y h. subst (λ z. k .some .low ≤ℤ z) (figure-same (e (Figure x) ∙ h)) (between-ends (k .some) f x .0);
+      gives-low = (k .some .low -ℤ k .some .add, sym (e (Figure (k .some .low -ℤ k .some .add))) ∙ ap Figure (between-low (k .some) f));
+      not-above = λ x y h. subst (λ z. z ≤ℤ k .some .high) (figure-same (e (Figure x) ∙ h)) (between-ends (k .some) f x .1);
+      gives-high = (k .some .high -ℤ k .some .add, sym (e (Figure (k .some .high -ℤ k .some .add))) ∙ ap Figure (between-high (k .some) f));
+    }
+
+pub eaten-only : (ls : List (Level eaten)) (j k : EatenNumbers) → IsEatenRun ls j → IsEatenRun ls k → j ≡ k
+unfolding eatenAlong
+eaten-only ls j k p q =
+    let z : j .empty ≡ k .empty = figure-same (p .gives Nothing ∙ sym (q .gives Nothing)) in
+    let a : j .some .add ≡ k .some .add = p .adds ∙ sym (q .adds) in
+    let l : j .some .low ≡ k .some .low = ≤-antisym (p .not-below (q .gives-low .0) (k .some .low) (q .gives-low .1)) (q .not-below (p .gives-low .0) (j .some .low) (p .gives-low .1)) in
+    let h : j .some .high ≡ k .some .high = ≤-antisym (q .not-above (p .gives-high .0) (j .some .high) (p .gives-high .1)) (p .not-above (q .gives-high .0) (k .some .high) (q .gives-high .1)) in
+    λ i. record { empty = z i; some = record { add = a i; low = l i; high = h i } }
+
+abbrev pub eatenPinned : Pinned eatenContext IsEatenRun
+eatenPinned = record { is = eaten-is; only = eaten-only }

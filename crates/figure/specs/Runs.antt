@@ -2,15 +2,15 @@
 use mathlib.Core.Path.{_≡_, refl, sym, ap, _∙_}
 use Prim.Native.Nat.{ℕ, _+_, _*_, _%_, _^_}
 use native.Mathlib.Omega.{arith}
-use lib.IntN.{ℤ, _+ℤ_, _-ℤ_, -ℤ-+ℤ-cancel, +ℤ-assoc, +ℤ-comm}
+use lib.IntN.{ℤ, pos, _+ℤ_, _-ℤ_, -ℤ-+ℤ-cancel, +ℤ-assoc, +ℤ-comm, +ℤ-idl, +ℤ-idr}
 use lib.Signed.{_≤ℤ_, ≤ℤ-refl}
 use Rattle.algebra.specs.Run.{Level, step, Context}
 use Rattle.number.specs.Integer.{maxZ, clamp}
 use Rattle.number.specs.IntegerLaws.{zed, add-law, view, diffs, diff-≡, +-mono, max-comm, max-assoc, max-+, clamp-+, clamp-clamp, clamp-mono, clamp-low, clamp-high, clamp-in}
 use Rattle.number.specs.Modulo.{mods}
-use Rattle.figure.specs.FourModes.{Amounts, InRange, net, heaviest, eaten, stamp, lift, lineOf, Stamp, stampOf}
-use Rattle.figure.specs.ModeLaws.{stamp-≡, stamp-node}
-use Rattle.figure.specs.Run.{HeaviestNumbers, atLeast, along, Between, between, Affine, affine}
+use Rattle.figure.specs.FourModes.{Amounts, InRange, net, heaviest, eaten, stamp, lift, lineOf, eatenOf, Stamp, stampOf}
+use Rattle.figure.specs.ModeLaws.{lift-r, stamp-≡, stamp-node}
+use Rattle.figure.specs.Run.{HeaviestNumbers, atLeast, along, Between, between, EatenNumbers, eatenAlong, addend, Affine, affine}
 use Rattle.figure.specs.declared.Held.{Held}
 use Rattle.figure.specs.declared.Held.the-variants.{Nothing, Figure}
 
@@ -107,50 +107,6 @@ heaviestContext = record {
   apply-compose = line-after;
 }
 
--- ---- mode 3: x + a held between l and h
-
-abbrev pub betweenAfter : Between → Between → Between
-betweenAfter f g = record { add = g .add +ℤ f .add; low = between f (g .low); high = between f (g .high) }
-
-pub between-after : (f g : Between) → g .low ≤ℤ g .high → (x : ℤ) → between (betweenAfter f g) x ≡ between f (between g x)
-between-after f g p x = sym
-    (ap (λ (y : ℤ). clamp y (f .low) (f .high)) (clamp-+ (x +ℤ g .add) (g .low) (g .high) (f .add))
-    ∙ clamp-clamp ((x +ℤ g .add) +ℤ f .add) (g .low +ℤ f .add) (g .high +ℤ f .add) (f .low) (f .high) (+-mono p (omega zed))
-    ∙ ap (λ (y : ℤ). clamp y (between f (g .low)) (between f (g .high))) (+ℤ-assoc x (g .add) (f .add)))
-
-pub between-fine : (f g : Between) → f .low ≤ℤ f .high → g .low ≤ℤ g .high → between f (g .low) ≤ℤ between f (g .high)
-between-fine f g _ p = clamp-mono _ _ _ _ (+-mono p (omega zed))
-
-pub eaten-app : (l : Level eaten) (x : ℤ) → clamp (x +ℤ (l .carried .value +ℤ (l .before +ℤ l .after))) (l .carried .floor) (l .carried .ceiling) ≡ step eaten l x
-unfolding step
-eaten-app l x = ap (λ (y : ℤ). clamp y (l .carried .floor) (l .carried .ceiling)) (net-level (l .carried .value) (l .before) (l .after) x)
-
--- low and high are the ends of what a run of mode 3 can give: it gives nothing beyond them, and it gives both
-pub between-ends : (k : Between) → k .low ≤ℤ k .high → (x : ℤ) → (k .low ≤ℤ between k x) × (between k x ≤ℤ k .high)
-between-ends k p x = (clamp-low (x +ℤ k .add) (k .low) (k .high) p, clamp-high (x +ℤ k .add) (k .low) (k .high))
-
-pub between-low : (k : Between) → k .low ≤ℤ k .high → between k (k .low -ℤ k .add) ≡ k .low
-between-low k p = ap (λ (y : ℤ). clamp y (k .low) (k .high)) (-ℤ-+ℤ-cancel (k .low) (k .add)) ∙ clamp-in (k .low) (k .low) (k .high) (≤ℤ-refl (k .low)) p
-
-pub between-high : (k : Between) → k .low ≤ℤ k .high → between k (k .high -ℤ k .add) ≡ k .high
-between-high k p = ap (λ (y : ℤ). clamp y (k .low) (k .high)) (-ℤ-+ℤ-cancel (k .high) (k .add)) ∙ clamp-in (k .high) (k .low) (k .high) p (≤ℤ-refl (k .high))
-
-abbrev pub betweenLevel : Amounts → ℤ → ℤ → Between
-betweenLevel r b c = record { add = r .value +ℤ (b +ℤ c); low = r .floor; high = r .ceiling }
-
-abbrev pub eatenContext : Context eaten InRange
-eatenContext = record {
-  K = Between;
-  apply = between;
-  level = λ l. betweenLevel (l .carried) (l .before) (l .after);
-  compose = betweenAfter;
-  Fine = λ k. k .low ≤ℤ k .high;
-  level-fine = λ l s. s .ordered;
-  compose-fine = between-fine;
-  apply-level = eaten-app;
-  apply-compose = between-after;
-}
-
 -- ---- mode 4: m x + q modulo 2^32
 
 abbrev pub affineLevel : Level stamp → Affine
@@ -184,4 +140,88 @@ stampContext = record {
   compose-fine = λ _ _ _ _. tt;
   apply-level = affine-app;
   apply-compose = affine-after;
+}
+
+-- ---- mode 5: z for nothing, else x + a held between l and h
+
+abbrev pub betweenAfter : Between → Between → Between
+betweenAfter f g = record { add = g .add +ℤ f .add; low = between f (g .low); high = between f (g .high) }
+
+pub between-after : (f g : Between) → g .low ≤ℤ g .high → (x : ℤ) → between (betweenAfter f g) x ≡ between f (between g x)
+between-after f g p x = sym
+    (ap (λ (y : ℤ). clamp y (f .low) (f .high)) (clamp-+ (x +ℤ g .add) (g .low) (g .high) (f .add))
+    ∙ clamp-clamp ((x +ℤ g .add) +ℤ f .add) (g .low +ℤ f .add) (g .high +ℤ f .add) (f .low) (f .high) (+-mono p (omega zed))
+    ∙ ap (λ (y : ℤ). clamp y (between f (g .low)) (between f (g .high))) (+ℤ-assoc x (g .add) (f .add)))
+
+pub between-fine : (f g : Between) → f .low ≤ℤ f .high → g .low ≤ℤ g .high → between f (g .low) ≤ℤ between f (g .high)
+between-fine f g _ p = clamp-mono _ _ _ _ (+-mono p (omega zed))
+
+-- low and high are the ends of what it can give: it gives nothing beyond them, and it gives both
+pub between-ends : (k : Between) → k .low ≤ℤ k .high → (x : ℤ) → (k .low ≤ℤ between k x) × (between k x ≤ℤ k .high)
+between-ends k p x = (clamp-low (x +ℤ k .add) (k .low) (k .high) p, clamp-high (x +ℤ k .add) (k .low) (k .high))
+
+pub between-low : (k : Between) → k .low ≤ℤ k .high → between k (k .low -ℤ k .add) ≡ k .low
+between-low k p = ap (λ (y : ℤ). clamp y (k .low) (k .high)) (-ℤ-+ℤ-cancel (k .low) (k .add)) ∙ clamp-in (k .low) (k .low) (k .high) (≤ℤ-refl (k .low)) p
+
+pub between-high : (k : Between) → k .low ≤ℤ k .high → between k (k .high -ℤ k .add) ≡ k .high
+between-high k p = ap (λ (y : ℤ). clamp y (k .low) (k .high)) (-ℤ-+ℤ-cancel (k .high) (k .add)) ∙ clamp-in (k .high) (k .low) (k .high) p (≤ℤ-refl (k .high))
+
+abbrev pub betweenLevel : Amounts → ℤ → ℤ → Between
+betweenLevel r b c = record { add = r .value +ℤ (b +ℤ c); low = r .floor; high = r .ceiling }
+
+-- the numbers of one level, and of one run after another
+abbrev pub eatenLevel : Level eaten → EatenNumbers
+eatenLevel l = record { empty = eatenOf (l .carried) (lift _+ℤ_ (l .before) (l .after)); some = betweenLevel (l .carried) (addend (l .before)) (addend (l .after)) }
+
+abbrev pub eatenAfter : EatenNumbers → EatenNumbers → EatenNumbers
+eatenAfter f g = record { empty = between (f .some) (g .empty); some = betweenAfter (f .some) (g .some) }
+
+pub eaten-after : (f g : EatenNumbers) → g .some .low ≤ℤ g .some .high → (x : Held) → Figure (eatenAlong (eatenAfter f g) x) ≡ Figure (eatenAlong f (Figure (eatenAlong g x)))
+unfolding eatenAlong
+eaten-after f g p Nothing = refl
+eaten-after f g p (Figure x) = ap Figure (between-after (f .some) (g .some) p x)
+
+pub eaten-fine : (f g : EatenNumbers) → f .some .low ≤ℤ f .some .high → g .some .low ≤ℤ g .some .high → between (f .some) (g .some .low) ≤ℤ between (f .some) (g .some .high)
+eaten-fine f g p q = between-fine (f .some) (g .some) p q
+
+-- what a record holds beside x, and x: something
+inner-sum : (b c : Held) (x : ℤ) → lift _+ℤ_ (lift _+ℤ_ b (Figure x)) c ≡ Figure ((addend b +ℤ x) +ℤ addend c)
+unfolding lift
+inner-sum Nothing Nothing x = ap Figure (sym (+ℤ-idr (pos 0 +ℤ x) ∙ +ℤ-idl x))
+inner-sum Nothing (Figure c) x = ap Figure (sym (ap (λ (y : ℤ). y +ℤ c) (+ℤ-idl x)))
+inner-sum (Figure b) Nothing x = ap Figure (sym (+ℤ-idr (b +ℤ x)))
+inner-sum (Figure b) (Figure c) x = refl
+
+-- what a record holds beside the inner part, added up
+pub addend-sum : (b c : Held) → addend (lift _+ℤ_ b c) ≡ addend b +ℤ addend c
+unfolding lift
+addend-sum Nothing Nothing = refl
+addend-sum Nothing (Figure c) = sym (+ℤ-idl c)
+addend-sum (Figure b) Nothing = sym (+ℤ-idr b)
+addend-sum (Figure b) (Figure c) = refl
+
+eaten-figure : (r : Amounts) (s : ℤ) → clamp (r .value +ℤ s) (r .floor) (r .ceiling) ≡ eatenOf r (Figure s)
+unfolding eatenOf
+eaten-figure r s = refl
+
+eaten-at : (b c x : Held) (r : Amounts) → eatenAlong (record { empty = eatenOf r (lift _+ℤ_ b c); some = betweenLevel r (addend b) (addend c) }) x ≡ eatenOf r (lift _+ℤ_ (lift _+ℤ_ b x) c)
+unfolding eatenAlong
+eaten-at b c Nothing r = ap (λ (h : Held). eatenOf r (lift _+ℤ_ h c)) (sym (lift-r _+ℤ_ b))
+eaten-at b c (Figure x) r = ap (λ (y : ℤ). clamp y (r .floor) (r .ceiling)) (net-level (r .value) (addend b) (addend c) x) ∙ eaten-figure r _ ∙ ap (eatenOf r) (sym (inner-sum b c x))
+
+pub eaten-app : (l : Level eaten) (x : Held) → Figure (eatenAlong (eatenLevel l) x) ≡ step eaten l x
+unfolding step
+eaten-app l x = ap Figure (eaten-at (l .before) (l .after) x (l .carried))
+
+abbrev pub eatenContext : Context eaten InRange
+eatenContext = record {
+  K = EatenNumbers;
+  apply = λ k x. Figure (eatenAlong k x);
+  level = eatenLevel;
+  compose = eatenAfter;
+  Fine = λ k. k .some .low ≤ℤ k .some .high;
+  level-fine = λ l s. s .ordered;
+  compose-fine = eaten-fine;
+  apply-level = eaten-app;
+  apply-compose = eaten-after;
 }

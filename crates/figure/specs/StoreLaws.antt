@@ -14,8 +14,8 @@ use Rattle.number.specs.Integer.{maxZ}
 use Rattle.number.specs.IntegerLaws.{zed, max-law, max-comm, sfits-abs}
 use Rattle.figure.specs.FourModes.{Stamp, lift, nothing, storeHeld, readHeld, heldIf, storeStamp, readStamp, isStamp}
 use Rattle.figure.specs.ModeLaws.{stamp-≡}
-use Rattle.figure.specs.Run.{netRun, HeaviestNumbers, atLeast, heaviestRun, Between, eatenRun, Affine, stampRun}
-use Rattle.figure.specs.Bound.{sizeHeld, LineIn, BetweenIn}
+use Rattle.figure.specs.Run.{netRun, HeaviestNumbers, atLeast, heaviestRun, EatenNumbers, eatenRun, Affine, stampRun}
+use Rattle.figure.specs.Bound.{sizeHeld, LineIn, EatenIn}
 use Rattle.figure.specs.declared.Held.{Held}
 use Rattle.figure.specs.declared.Held.the-variants.{Nothing, Figure}
 use Rattle.figure.specs.declared.Run.{Run}
@@ -99,8 +99,8 @@ readNetRun k = k .first
 abbrev pub readHeaviestRun : Run → HeaviestNumbers
 readHeaviestRun k = record { empty = k .first; other = readHeld (k .second); add = k .third }
 
-abbrev pub readEatenRun : Run → Between
-readEatenRun k = record { add = k .first; low = k .second; high = k .third }
+abbrev pub readEatenRun : Run → EatenNumbers
+readEatenRun k = record { empty = k .first; some = record { add = k .second; low = k .third; high = k .fourth } }
 
 abbrev pub readStampRun : Run → Affine
 readStampRun k = record { times = readStamp (k .first); plus = readStamp (k .second) }
@@ -109,24 +109,25 @@ pub record RunFits (k : Run) : Type 0 where
   pub first-fits : SFits w64 (k .first)
   pub second-fits : SFits w64 (k .second)
   pub third-fits : SFits w64 (k .third)
+  pub fourth-fits : SFits w64 (k .fourth)
 
 zero-fits : SFits w64 (pos 0)
 zero-fits = record { sfits = lit< tt }
 
 pub net-run-fits : (a : ℤ) (n : ℕ) → natAbs a ≤ n → n < 2 ^ 63 → RunFits (netRun a)
-net-run-fits a n h l = record { first-fits = sfits-abs w64 a (omega arith); second-fits = zero-fits; third-fits = zero-fits }
+net-run-fits a n h l = record { first-fits = sfits-abs w64 a (omega arith); second-fits = zero-fits; third-fits = zero-fits; fourth-fits = zero-fits }
 
 pub line-back : (k : HeaviestNumbers) (n : ℕ) → LineIn k n → n < 2 ^ 63 → readHeaviestRun (heaviestRun k) ≡ k
 line-back k n h l = λ i. record { empty = k .empty; other = held-back (k .other) (omega arith) i; add = k .add }
 
 pub line-run-fits : (k : HeaviestNumbers) (n : ℕ) → LineIn k n → n < 2 ^ 63 → RunFits (heaviestRun k)
-line-run-fits k n h l = record { first-fits = sfits-abs w64 (k .empty) (omega arith); second-fits = held-fits (k .other) (omega arith); third-fits = sfits-abs w64 (k .add) (omega arith) }
+line-run-fits k n h l = record { first-fits = sfits-abs w64 (k .empty) (omega arith); second-fits = held-fits (k .other) (omega arith); third-fits = sfits-abs w64 (k .add) (omega arith); fourth-fits = zero-fits }
 
-pub between-run-fits : (k : Between) (n : ℕ) → BetweenIn k n → n < 2 ^ 63 → RunFits (eatenRun k)
-between-run-fits k n h l = record { first-fits = sfits-abs w64 (k .add) (omega arith); second-fits = sfits-abs w64 (k .low) (omega arith); third-fits = sfits-abs w64 (k .high) (omega arith) }
+pub eaten-run-fits : (k : EatenNumbers) (n : ℕ) → EatenIn k n → n < 2 ^ 63 → RunFits (eatenRun k)
+eaten-run-fits k n h l = record { first-fits = sfits-abs w64 (k .empty) (omega arith); second-fits = sfits-abs w64 (k .some .add) (omega arith); third-fits = sfits-abs w64 (k .some .low) (omega arith); fourth-fits = sfits-abs w64 (k .some .high) (omega arith) }
 
 pub affine-back : (k : Affine) → readStampRun (stampRun k) ≡ k
 affine-back k = λ i. record { times = stamp-back (k .times) i; plus = stamp-back (k .plus) i }
 
 pub affine-run-fits : (k : Affine) → RunFits (stampRun k)
-affine-run-fits k = record { first-fits = stamp-fits (k .times); second-fits = stamp-fits (k .plus); third-fits = zero-fits }
+affine-run-fits k = record { first-fits = stamp-fits (k .times); second-fits = stamp-fits (k .plus); third-fits = zero-fits; fourth-fits = zero-fits }

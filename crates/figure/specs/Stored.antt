@@ -1,11 +1,11 @@
 -- The operations on stored numbers, and their laws, the same for each mode. Assumes nothing.
 use mathlib.Core.Path.{_≡_, refl, sym, ap, _∙_, subst}
-use mathlib.Core.Bool.{Bool, true, false, cond, _&&_}
+use mathlib.Core.Bool.{Bool, true, false, cond}
 use Prim.Native.Nat.{ℕ, zero, suc, _+_, _^_, _≤_, _<_}
 use native.Mathlib.Omega.{arith}
-use lib.Dec.{T, leb}
+use lib.Dec.{T, eqb, lit≤}
 use lib.IntN.{ℤ, pos, natAbs}
-use borrow.Author.Tests.{leb-true, ne-eqb}
+use borrow.Author.Tests.{ne-eqb}
 use Rattle.algebra.specs.Run.{Level}
 use Rattle.algebra.specs.Sizes.{cost}
 use Rattle.figure.specs.FourModes.{Amounts, limit, InRange, nothing, storeHeld, readHeld}
@@ -15,7 +15,7 @@ use Rattle.figure.specs.declared.Run.{Run}
 
 -- ---- definitions
 
--- a number that stands for a figure: any in modes 1 to 3, 0 to 2^32 - 1 in mode 4
+-- a number that stands for a figure: 0 to 2^32 - 1 in mode 4, any in the others
 unfoldable pub IsStored : Mode → ℤ → Type 0
 IsStored M z = M .store (M .read z) ≡ z
 
@@ -81,14 +81,25 @@ pub record Composes (M : Mode) (f g : Run) : Type 0 where
 
 -- ---- the modes by their numbers
 
--- a mode in use is small
-pub mode-small : (m : ℕ) → modeInUse m ≡ true → m ≤ 4
+-- no mode in use has a number above 5
+above : (k m : ℕ) → k ≤ 5 → eqb (suc (suc (suc (suc (suc (suc m)))))) k ≡ false
+above k m h = ne-eqb (suc (suc (suc (suc (suc (suc m)))))) k (λ e. omega (arith, h, e))
+
+above-out : (m : ℕ) → modeInUse (suc (suc (suc (suc (suc (suc m)))))) ≡ false
 unfolding modeInUse
-mode-small m u = leb-true m 4 (right (leb 1 m) (leb m 4) u)
-  where
-    right : (a b : Bool) → a && b ≡ true → b ≡ true
-    right true b e = e
-    right false b e = absurd (subst T (sym e) tt)
+above-out m = rw (above 1 m (lit≤ tt), above 2 m (lit≤ tt), above 4 m (lit≤ tt), above 5 m (lit≤ tt))
+
+above-plain : (m : ℕ) → storesNothing (suc (suc (suc (suc (suc (suc m)))))) ≡ false
+above-plain m = rw (above 2 m (lit≤ tt), above 5 m (lit≤ tt))
+
+pub mode-small : (m : ℕ) → modeInUse m ≡ true → m ≤ 5
+mode-small zero u = omega arith
+mode-small (suc zero) u = omega arith
+mode-small (suc (suc zero)) u = omega arith
+mode-small (suc (suc (suc zero))) u = omega arith
+mode-small (suc (suc (suc (suc zero)))) u = omega arith
+mode-small (suc (suc (suc (suc (suc zero))))) u = omega arith
+mode-small (suc (suc (suc (suc (suc (suc m)))))) u = absurd (subst T (sym u ∙ above-out m) tt)
 
 -- nothing held, and what a number counts, by whether nothing held is no number; in mode 4 a number counts 0
 pub none-is : (m : ℕ) → none (modeOf m) ≡ cond (storesNothing m) nothing (pos 0)
@@ -98,7 +109,8 @@ none-is (suc zero) = refl
 none-is (suc (suc zero)) = refl
 none-is (suc (suc (suc zero))) = refl
 none-is (suc (suc (suc (suc zero)))) = refl
-none-is (suc (suc (suc (suc (suc m))))) = sym (ap (λ (t : Bool). cond t nothing (pos 0)) (ne-eqb (suc (suc (suc (suc (suc m))))) 2 (λ e. omega arith)))
+none-is (suc (suc (suc (suc (suc zero))))) = refl
+none-is (suc (suc (suc (suc (suc (suc m)))))) = sym (ap (λ (t : Bool). cond t nothing (pos 0)) (above-plain m))
 
 pub size-is : (m : ℕ) → (m ≡ 4 → ⊥) → (z : ℤ) → sizeOf (modeOf m) z ≡ cond (storesNothing m) (sizeHeld (readHeld z)) (natAbs z)
 unfolding sizeOf modeOf
@@ -107,7 +119,8 @@ size-is (suc zero) n z = refl
 size-is (suc (suc zero)) n z = refl
 size-is (suc (suc (suc zero))) n z = refl
 size-is (suc (suc (suc (suc zero)))) n z = absurd (n refl)
-size-is (suc (suc (suc (suc (suc m))))) n z = sym (ap (λ (t : Bool). cond t (sizeHeld (readHeld z)) (natAbs z)) (ne-eqb (suc (suc (suc (suc (suc m))))) 2 (λ e. omega arith)))
+size-is (suc (suc (suc (suc (suc zero))))) n z = refl
+size-is (suc (suc (suc (suc (suc (suc m)))))) n z = sym (ap (λ (t : Bool). cond t (sizeHeld (readHeld z)) (natAbs z)) (above-plain m))
 
 -- ---- nothing held
 

@@ -3,7 +3,8 @@ ghost use mathlib.Core.Path.{_≡_};
 ghost use Prim.Native.Nat.{_+_, _*_, _^_, _<_};
 ghost use lib.IntN.{pos, _+ℤ_, natAbs};
 ghost use Rattle.number.specs.Integer.{clamp, wrap};
-ghost use Rattle.figure.specs.FourModes.{lineOf, readHeld, storeHeld};
+ghost use Rattle.figure.specs.FourModes.{lift, lineOf, eatenOf, readHeld, storeHeld};
+ghost use Rattle.figure.specs.Run.{addend};
 ghost use Rattle.figure.specs.Runs.{moved};
 ghost use Rattle.figure.specs.Bound.{sizeHeld};
 ghost use Rattle.figure.specs.Mode.{modeInUse, storesNothing, modeOf};
@@ -17,11 +18,12 @@ pub enum Held {
     Figure(i64),
 }
 
-// The three numbers of a run, as they are stored.
+// The numbers of a run, as they are stored; the fourth is 0 but in mode 5.
 pub struct Run {
     pub first: i64,
     pub second: i64,
     pub third: i64,
+    pub fourth: i64,
 }
 
 // ---- what a record holds
@@ -44,6 +46,29 @@ pub fn store_held(h: Held) -> i64
 {
     match h {
         Held::Nothing => NOTHING,
+        Held::Figure(x) => x,
+    }
+}
+
+fn sum_held(a: Held, b: Held) -> Held
+    requires { ⌜ sizeHeld a + sizeHeld b < 2 ^ 63 ⌝ }
+    ensures { λ r. ⌜ r ≡ lift _+ℤ_ a b ⌝ }
+{
+    match a {
+        Held::Nothing => b,
+        Held::Figure(x) => match b {
+            Held::Nothing => Held::Figure(x),
+            Held::Figure(y) => Held::Figure(number::sum(x, y)),
+        },
+    }
+}
+
+// What a figure adds to a sum.
+fn addend_of(h: Held) -> i64
+    ensures { λ r. ⌜ r ≡ addend h ⌝ }
+{
+    match h {
+        Held::Nothing => 0,
         Held::Figure(x) => x,
     }
 }
@@ -73,14 +98,14 @@ fn moved_by(h: Held, v: i64) -> Held
 pub fn in_use(mode: u32) -> bool
     ensures { λ r. ⌜ r ≡ modeInUse mode ⌝ }
 {
-    (1 <= mode) & (mode <= 4)
+    (mode == 1) | (mode == 2) | (mode == 4) | (mode == 5)
 }
 
 // Whether "nothing held" is no number in the mode.
 pub fn stores_nothing(mode: u16) -> bool
     ensures { λ r. ⌜ r ≡ storesNothing mode ⌝ }
 {
-    mode == 2
+    (mode == 2) | (mode == 5)
 }
 
 // Whether x stands for a figure.
@@ -138,6 +163,13 @@ fn combine_stamps(a: i64, b: i64) -> i64
     number::from_u32(std::num::wrapping_add_u32(number::to_u32(a), number::to_u32(b)))
 }
 
+fn combine_eaten(a: i64, b: i64) -> i64
+    requires { ⌜ Combines (modeOf 5) a b ⌝ }
+    ensures { λ r. ⌜ r ≡ combined (modeOf 5) a b ⌝ }
+{
+    store_held(sum_held(read_held(a), read_held(b)))
+}
+
 pub fn combine(mode: u16, a: i64, b: i64) -> i64
     requires { ⌜ Combines (modeOf mode) a b ⌝ }
     ensures { λ r. ⌜ r ≡ combined (modeOf mode) a b ⌝ }
@@ -145,6 +177,7 @@ pub fn combine(mode: u16, a: i64, b: i64) -> i64
     match mode {
         2 => combine_heaviest(a, b),
         4 => combine_stamps(a, b),
+        5 => combine_eaten(a, b),
         _ => number::sum(a, b),
     }
 }
@@ -178,23 +211,34 @@ fn through_heaviest(value: i32, held: i64) -> i64
     line(number::widen(value), read_held(held))
 }
 
-fn through_eaten(value: i32, floor: i32, ceiling: i32, held: i64) -> i64
-    requires { ⌜ Passes (modeOf 3) value held ⌝ }
-    ensures { λ r. ⌜ r ≡ clamp (value +ℤ held) floor ceiling ⌝ }
-{
-    clamped_sum(
-        number::widen(value),
-        held,
-        number::widen(floor),
-        number::widen(ceiling),
-    )
-}
-
 fn through_stamp(value: i32, floor: i32, ceiling: i32, held: i64) -> i64
     requires { ⌜ Passes (modeOf 4) value held ⌝ }
     ensures { λ r. ⌜ r ≡ passed (modeOf 4) (amounts value floor ceiling) held ⌝ }
 {
     number::from_u32(stamp(value, number::to_u32(held)))
+}
+
+// Floor and ceiling bind only a record that holds others.
+fn eaten(v: i64, floor: i64, ceiling: i64, h: Held) -> i64
+    requires { ⌜ natAbs v + sizeHeld h < 2 ^ 63 ⌝ }
+    ensures { λ r. ⌜ r ≡ eatenOf (amounts v floor ceiling) h ⌝ }
+{
+    match h {
+        Held::Nothing => v,
+        Held::Figure(x) => clamped_sum(v, x, floor, ceiling),
+    }
+}
+
+fn through_eaten(value: i32, floor: i32, ceiling: i32, held: i64) -> i64
+    requires { ⌜ Passes (modeOf 5) value held ⌝ }
+    ensures { λ r. ⌜ r ≡ eatenOf (amounts value floor ceiling) (readHeld held) ⌝ }
+{
+    eaten(
+        number::widen(value),
+        number::widen(floor),
+        number::widen(ceiling),
+        read_held(held),
+    )
 }
 
 // The figure of a record that holds `held`.
@@ -204,8 +248,8 @@ pub fn through(mode: u16, value: i32, floor: i32, ceiling: i32, held: i64) -> i6
 {
     match mode {
         2 => through_heaviest(value, held),
-        3 => through_eaten(value, floor, ceiling, held),
         4 => through_stamp(value, floor, ceiling, held),
+        5 => through_eaten(value, floor, ceiling, held),
         _ => through_net(value, held),
     }
 }

@@ -1,36 +1,30 @@
 // The runs of a join: the run of one level, and one run around another.
 ghost use mathlib.Core.Path.{_≡_};
-ghost use Prim.Native.Nat.{_+_, _^_, _<_};
-ghost use lib.IntN.{_+ℤ_, natAbs};
 ghost use Rattle.figure.specs.Mode.{modeOf};
 ghost use Rattle.figure.specs.Stored.{amounts, levelRun, runAfter, Levels, Composes};
 use super::Run;
+use super::addend_of;
 use super::clamped_sum;
 use super::combine_heaviest;
 use super::combine_stamps;
+use super::eaten;
 use super::line;
 use super::moved_by;
 use super::read_held;
 use super::store_held;
+use super::sum_held;
 use super::through_stamp;
-
-// A record's value and all that it holds beside the inner part.
-fn level_sum(value: i32, before: i64, behind: i64) -> i64
-    requires { ⌜ natAbs value + (natAbs before + natAbs behind) < 2 ^ 63 ⌝ }
-    ensures { λ r. ⌜ r ≡ value +ℤ (before +ℤ behind) ⌝ }
-{
-    number::sum(number::widen(value), number::sum(before, behind))
-}
 
 fn level_net(value: i32, floor: i32, ceiling: i32, before: i64, behind: i64) -> Run
     requires { ⌜ Levels (modeOf 1) value before behind ⌝ }
     ensures { λ r. ⌜ r ≡ levelRun (modeOf 1) (amounts value floor ceiling) before behind ⌝ }
 {
-    let a = level_sum(value, before, behind);
+    let a = number::sum(number::widen(value), number::sum(before, behind));
     Run {
         first: a,
         second: 0,
         third: 0,
+        fourth: 0,
     }
 }
 
@@ -46,20 +40,7 @@ fn level_heaviest(value: i32, floor: i32, ceiling: i32, before: i64, behind: i64
         first: z,
         second: a,
         third: v,
-    }
-}
-
-fn level_eaten(value: i32, floor: i32, ceiling: i32, before: i64, behind: i64) -> Run
-    requires { ⌜ Levels (modeOf 3) value before behind ⌝ }
-    ensures { λ r. ⌜ r ≡ levelRun (modeOf 3) (amounts value floor ceiling) before behind ⌝ }
-{
-    let a = level_sum(value, before, behind);
-    let low = number::widen(floor);
-    let high = number::widen(ceiling);
-    Run {
-        first: a,
-        second: low,
-        third: high,
+        fourth: 0,
     }
 }
 
@@ -72,6 +53,27 @@ fn level_stamp(value: i32, floor: i32, ceiling: i32, before: i64, behind: i64) -
         first: 31,
         second: q,
         third: 0,
+        fourth: 0,
+    }
+}
+
+fn level_eaten(value: i32, floor: i32, ceiling: i32, before: i64, behind: i64) -> Run
+    requires { ⌜ Levels (modeOf 5) value before behind ⌝ }
+    ensures { λ r. ⌜ r ≡ levelRun (modeOf 5) (amounts value floor ceiling) before behind ⌝ }
+{
+    let v = number::widen(value);
+    let low = number::widen(floor);
+    let high = number::widen(ceiling);
+    let sides = sum_held(read_held(before), read_held(behind));
+    let added = addend_of(sides);
+    // Nothing inside: a record with nothing at its sides holds none, and is not bound.
+    let z = eaten(v, low, high, sides);
+    let a = number::sum(v, added);
+    Run {
+        first: z,
+        second: a,
+        third: low,
+        fourth: high,
     }
 }
 
@@ -82,8 +84,8 @@ pub fn level(mode: u16, value: i32, floor: i32, ceiling: i32, before: i64, behin
 {
     match mode {
         2 => level_heaviest(value, floor, ceiling, before, behind),
-        3 => level_eaten(value, floor, ceiling, before, behind),
         4 => level_stamp(value, floor, ceiling, before, behind),
+        5 => level_eaten(value, floor, ceiling, before, behind),
         _ => level_net(value, floor, ceiling, before, behind),
     }
 }
@@ -99,6 +101,7 @@ fn compose_net(outer: Run, inner: Run) -> Run
         first: c,
         second: 0,
         third: 0,
+        fourth: 0,
     }
 }
 
@@ -119,26 +122,7 @@ fn compose_heaviest(outer: Run, inner: Run) -> Run
         first,
         second,
         third,
-    }
-}
-
-fn compose_eaten(outer: Run, inner: Run) -> Run
-    requires { ⌜ Composes (modeOf 3) outer inner ⌝ }
-    ensures { λ r. ⌜ r ≡ runAfter (modeOf 3) outer inner ⌝ }
-{
-    let a = outer.first;
-    let low = outer.second;
-    let high = outer.third;
-    let b = inner.first;
-    let l = inner.second;
-    let h = inner.third;
-    let first = number::sum(b, a);
-    let second = clamped_sum(l, a, low, high);
-    let third = clamped_sum(h, a, low, high);
-    Run {
-        first,
-        second,
-        third,
+        fourth: 0,
     }
 }
 
@@ -160,6 +144,30 @@ fn compose_stamp(outer: Run, inner: Run) -> Run
         first,
         second,
         third: 0,
+        fourth: 0,
+    }
+}
+
+fn compose_eaten(outer: Run, inner: Run) -> Run
+    requires { ⌜ Composes (modeOf 5) outer inner ⌝ }
+    ensures { λ r. ⌜ r ≡ runAfter (modeOf 5) outer inner ⌝ }
+{
+    let a = outer.second;
+    let low = outer.third;
+    let high = outer.fourth;
+    let empty = inner.first;
+    let add = inner.second;
+    let l = inner.third;
+    let h = inner.fourth;
+    let first = clamped_sum(empty, a, low, high);
+    let second = number::sum(add, a);
+    let third = clamped_sum(l, a, low, high);
+    let fourth = clamped_sum(h, a, low, high);
+    Run {
+        first,
+        second,
+        third,
+        fourth,
     }
 }
 
@@ -170,8 +178,8 @@ pub fn compose(mode: u16, outer: Run, inner: Run) -> Run
 {
     match mode {
         2 => compose_heaviest(outer, inner),
-        3 => compose_eaten(outer, inner),
         4 => compose_stamp(outer, inner),
+        5 => compose_eaten(outer, inner),
         _ => compose_net(outer, inner),
     }
 }

@@ -32,7 +32,7 @@ module _ {R : Type 0} (𝒜 : Algebra R) where
         rw (eq-eqb d d refl, append-assoc (write (suc d) k) (closing d ∷ write d f) ys, held-deeper d (suc d) k (closing d ∷ (write d f ++ ys)) (omega arith), ne-eqb (suc d) d (omega arith))
         (rw (held-write (suc d) k (closing d ∷ (write d f ++ ys)), eq-eqb (suc d) (suc d) refl, unit-r (value 𝒜 k), held-write d f ys) (sym (assoc (node r (value 𝒜 k)) (value 𝒜 f) (held 𝒜 d ys))))
 
-    figure-write : (r : R) (k : Forest R) → figureOf 𝒜 (write 0 (tree r k nil)) ≡ value 𝒜 (tree r k nil)
+    pub figure-write : (r : R) (k : Forest R) → figureOf 𝒜 (write 0 (tree r k nil)) ≡ value 𝒜 (tree r k nil)
     figure-write r k = rw (held-write 1 k (closing 0 ∷ []), unit-r (value 𝒜 k)) (sym (unit-r (node r (value 𝒜 k))))
 
 -- The one tree of a log, and the log's figure.

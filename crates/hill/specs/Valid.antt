@@ -16,8 +16,8 @@ pub record ValidSpoilt (f s e o : ℕ) : Type 0 where
   pub few : o ≤ 100001
   pub many : f ≡ 9 → o ≡ 100001
 
--- `Sizes` says how large a figure is and what a record can add, `unit`. In modes 1 to 3: the absolute value, and 10^9 for a record whose numbers are in
--- range (`Fine`). In mode 4: 0, and 1.
+-- `Sizes` says how large a figure is and what a record can add, `unit`. In modes 1, 2 and 5: the absolute value (nothing held, where it is no number: 0), and
+-- 10^9 for a record whose numbers are in range (`Fine`). In mode 4: 0, and 1.
 module _ {R : Type 0} (𝒜 : Algebra R) {Fine : R → Type 0} (𝒮 : Sizes 𝒜 Fine) where
   open Algebra 𝒜 using (Fig, ι)
   open Sizes 𝒮 using (unit, size)

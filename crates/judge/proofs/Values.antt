@@ -67,7 +67,7 @@ module _ (b : List ℕ) where
       q ∙ ap₂ (λ (n k : ℕ). allTo k (λ j. modeOf 4 .isFigure (valueIn b (36 + 8 * n) 20 j))) x y ∙ all-same _ _ (λ j. stamp-is (valueIn b (36 + 8 * riseAt b) 20 j) ∙ ap isStamp (held-at j)) (fallAt b) in
       ap₂ _&&_ (ap₂ _&&_ lefts rights) (ap₂ leb y o)
 
-  -- ---- modes 1 to 3
+  -- ---- modes 1, 2 and 5
 
   pub sizes-fit : (m left right opened cap lefts helds : ℕ) → left ≡ riseAt b → right ≡ fallAt b → opened ≡ openedAt b
       → cap ≡ limit * opened + 1

@@ -24,7 +24,7 @@ abbrev pub judgedAnswer : Judged → Outcome Piece
 judgedAnswer (Summary p) = result p
 judgedAnswer NotOne = refused 5
 
--- "'Nothing held' counts as 0 in modes 1, 3 and 4. In mode 2 it is no number, and is stored as -2^63."
+-- "In mode 2 it is no number, and is stored as -2^63", and so it is in mode 5.
 unfoldable pub heldIn : ℕ → ℤ → Held
 heldIn m z = cond (storesNothing m) (readHeld z) (Figure z)
 

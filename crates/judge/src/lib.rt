@@ -246,7 +246,7 @@ fn stamps_fit(b: &[u8]) -> bool
         & (right <= (number::read_u32(b, 12) as usize))
 }
 
-// In modes 1 to 3 the values and the unclosed records are bounded by the opened ones.
+// In modes 1, 2 and 5 the values and the unclosed records are bounded by the opened ones.
 fn sizes_fit(b: &[u8], mode: u16) -> bool
     requires { ⌜ Few (now b) ⌝ }
     ensures { λ r. ⌜ r ≡ sizesFit mode (now (b .entry)) ⌝ }

@@ -14,9 +14,9 @@ use Rattle.outcome.specs.declared.Figures.{Figures}
 unfoldable pub figureIn : ℕ → List (Record Amounts) → ℤ
 figureIn m log = modeOf m .store (figureOf (modeOf m .algebra) log)
 
--- "net, heaviest, eaten and stamp": the modes 1 to 4.
+-- "net, heaviest, eaten and stamp", of which mode 5 is eaten: "the day program prints it third".
 unfoldable pub figuresOf : List (Record Amounts) → Figures
-figuresOf log = record { net = figureIn 1 log; heaviest = figureIn 2 log; eaten = figureIn 3 log; stamp = figureIn 4 log }
+figuresOf log = record { net = figureIn 1 log; heaviest = figureIn 2 log; eaten = figureIn 5 log; stamp = figureIn 4 log }
 
 -- THE DAY'S FIGURES of a log's bytes, or the refusal.
 unfoldable pub dayOutcome : List ℕ → Outcome Figures

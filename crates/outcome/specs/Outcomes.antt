@@ -1,5 +1,5 @@
 -- What merging a row, the plan, the runs and the work along the plan come to, as functions of a row's bytes. Definitions only.
-use mathlib.Core.Bool.{Bool, true, _&&_}
+use mathlib.Core.Bool.{Bool, true, _&&_, cond}
 use mathlib.Core.List.{List, [], _∷_, _++_, map}
 use Prim.Native.Nat.{ℕ}
 use lib.Dec.{leb, eqb}
@@ -75,12 +75,20 @@ linesBytes (l ∷ ls) = lineBytes l ++ linesBytes ls
 unfoldable pub planBytes : Summaries → List ℕ
 planBytes s = linesBytes (planOfRow (s .row))
 
--- A run: "length 30, kind 20, mode, three signed 64-bit numbers".
-abbrev pub runLength : ℕ
-runLength = 30
+-- A run: "length 30, kind 20, mode, three signed 64-bit numbers"; in mode 5 it has "length 38 and four numbers".
+abbrev pub hasFourth : (mode : ℕ) → Bool
+hasFourth mode = eqb mode 5
 
+unfoldable pub runLength : (mode : ℕ) → ℕ
+runLength mode = cond (hasFourth mode) 38 30
+
+-- Its front, as far as the third number, ..
+abbrev pub runFront : (mode : ℕ) → Run → List ℕ
+runFront mode k = bytesOf 2 (runLength mode) ++ (bytesOf 2 20 ++ (bytesOf 2 mode ++ (i64Bytes (k .first) ++ (i64Bytes (k .second) ++ i64Bytes (k .third)))))
+
+-- .. and the fourth.
 unfoldable pub runBytes : (mode : ℕ) → Run → List ℕ
-runBytes mode k = bytesOf 2 runLength ++ (bytesOf 2 20 ++ (bytesOf 2 mode ++ (i64Bytes (k .first) ++ (i64Bytes (k .second) ++ i64Bytes (k .third)))))
+runBytes mode k = runFront mode k ++ cond (hasFourth mode) (i64Bytes (k .fourth)) []
 
 -- In mode m, with the run's numbers as they are stored.
 abbrev pub eachRun : (m : ℕ) → List (modeOf m .context .K) → List ℕ

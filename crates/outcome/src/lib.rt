@@ -1,8 +1,7 @@
 // What each call on a row, and the day's figures and its line, come to, as definitions over bytes: theory. It all stands in specs/, but for what more than one crate
 // gives or asks.
-
-// How many bytes a run has: `runLength` is its definition.
-pub const RUN_LENGTH: usize = 30;
+ghost use mathlib.Core.Path.{_≡_};
+ghost use Rattle.outcome.specs.Outcomes.{hasFourth, runLength};
 
 // The mode that all pieces of a row are of, or the refusal. `modeAnswer` says what each case means.
 pub enum OneMode {
@@ -16,4 +15,18 @@ pub struct Figures {
     pub heaviest: i64,
     pub eaten: i64,
     pub stamp: i64,
+}
+
+// Whether a run has a fourth number.
+pub fn has_fourth(mode: u16) -> bool
+    ensures { λ r. ⌜ r ≡ hasFourth mode ⌝ }
+{
+    mode == 5
+}
+
+// How many bytes a run has.
+pub fn run_length(mode: u16) -> usize
+    ensures { λ r. ⌜ r ≡ runLength mode ⌝ }
+{
+    if has_fourth(mode) { 38 } else { 30 }
 }

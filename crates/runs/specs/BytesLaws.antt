@@ -1,7 +1,9 @@
 -- The bytes of a run, store by store, and of runs one after the other. Assumes nothing.
-use mathlib.Core.Path.{_≡_, refl, sym, ap, _∙_}
+use mathlib.Core.Path.{_≡_, refl, sym, ap, ap₂, _∙_}
+use mathlib.Core.Bool.{Bool, true, false, cond}
 use mathlib.Core.List.{List, [], _∷_, _++_, map, append-assoc, append-nil}
-use Prim.Native.Nat.{ℕ, _+_, _*_}
+use Prim.Native.Nat.{ℕ, suc, _+_, _*_, _≤_, _<_}
+use native.Mathlib.Nat.{mul-le-mul, mul-zero, mul-suc, add-comm}
 use native.Mathlib.Omega.{arith}
 use lib.ListN.{length, length-append}
 use lib.Seq.{sets}
@@ -9,9 +11,12 @@ use lib.IntN.{ℤ}
 use mir.Syntax.{w64}
 use mir.Val.{ofZ}
 use Rattle.number.specs.Bytes.{bytesOf, putAt}
+use Rattle.number.specs.Laws.{sets-append}
 use Rattle.figure.specs.Mode.{modeOf}
 use Rattle.figure.specs.declared.Run.{Run}
-use Rattle.outcome.specs.Outcomes.{runLength, runBytes, eachRun}
+use Rattle.summary.specs.Layout.{i64Bytes}
+use Rattle.outcome.specs.Outcomes.{hasFourth, runLength, runFront, runBytes, eachRun}
+use Rattle.outcome.specs.Laws.{length-most}
 use Rattle.row_plan.specs.WroteLaws.{put-next}
 
 -- the six stores of a run
@@ -28,19 +33,54 @@ run-stored l at w m x y z =
     )
 
 -- the same, store by store: x, y and z are the run's numbers
-pub run-written : (o a b c d e f : List ℕ) (at m : ℕ) (k : Run) (x y z : ℤ) → a ≡ putAt 2 o at runLength → b ≡ putAt 2 a (at + 2) 20 → c ≡ putAt 2 b (at + 4) m →
-    d ≡ putAt 8 c (at + 6) (ofZ w64 x) → e ≡ putAt 8 d (at + 14) (ofZ w64 y) → f ≡ putAt 8 e (at + 22) (ofZ w64 z) → x ≡ k .first → y ≡ k .second → z ≡ k .third → f ≡ sets o at (runBytes m k)
-unfolding runBytes
-run-written o a b c d e f at m k x y z p q r s t u g h i = rw (u, t, s, r, q, p, g, h, i) (run-stored o at runLength m (ofZ w64 (k .first)) (ofZ w64 (k .second)) (ofZ w64 (k .third)))
+pub front-written : (o a b c d e f : List ℕ) (at w m : ℕ) (k : Run) (x y z : ℤ) → w ≡ runLength m → a ≡ putAt 2 o at w → b ≡ putAt 2 a (at + 2) 20 → c ≡ putAt 2 b (at + 4) m →
+    d ≡ putAt 8 c (at + 6) (ofZ w64 x) → e ≡ putAt 8 d (at + 14) (ofZ w64 y) → f ≡ putAt 8 e (at + 22) (ofZ w64 z) → x ≡ k .first → y ≡ k .second → z ≡ k .third → f ≡ sets o at (runFront m k)
+front-written o a b c d e f at w m k x y z j p q r s t u g h i = rw (u, t, s, r, q, p, g, h, i, j) (run-stored o at (runLength m) m (ofZ w64 (k .first)) (ofZ w64 (k .second)) (ofZ w64 (k .third)))
 
-length-run : (m : ℕ) (k : Run) → length (runBytes m k) ≡ runLength
-unfolding runBytes bytesOf
-length-run m k = refl
+length-front : (m : ℕ) (k : Run) → length (runFront m k) ≡ 30
+unfolding bytesOf
+length-front m k = refl
+
+-- with a fourth number, or without
+pub fourth-written : (o a b : List ℕ) (at m : ℕ) (k : Run) (x : ℤ) → hasFourth m ≡ true → a ≡ sets o at (runFront m k) → b ≡ putAt 8 a (at + 30) (ofZ w64 x) → x ≡ k .fourth → b ≡ sets o at (runBytes m k)
+unfolding runBytes
+fourth-written o a b at m k x e p q h =
+    q ∙ ap₂ (λ (l : List ℕ) (z : ℤ). putAt 8 l (at + 30) (ofZ w64 z)) p h
+    ∙ ap (λ (n : ℕ). sets (sets o at (runFront m k)) (at + n) (i64Bytes (k .fourth))) (sym (length-front m k))
+    ∙ sym (sets-append o at (runFront m k) (i64Bytes (k .fourth)))
+    ∙ ap (λ (t : Bool). sets o at (runFront m k ++ cond t (i64Bytes (k .fourth)) [])) (sym e)
+
+pub no-fourth : (o a : List ℕ) (at m : ℕ) (k : Run) → hasFourth m ≡ false → a ≡ sets o at (runFront m k) → a ≡ sets o at (runBytes m k)
+unfolding runBytes
+no-fourth o a at m k n p =
+    p ∙ ap (sets o at) (sym (append-nil (runFront m k)))
+    ∙ ap (λ (t : Bool). sets o at (runFront m k ++ cond t (i64Bytes (k .fourth)) [])) (sym n)
+
+-- one run more of as many bytes
+pub one-more : (s k n : ℕ) → k < n → s * k + s ≤ s * n
+one-more s k n h = omega (arith, mul-le-mul {n₁ = s} {m₁ = suc k} {n₂ = s} {m₂ = n} (omega arith) (omega arith))
+
+-- the same where the code has both as numbers
+pub room-for : (s k n l m : ℕ) → s ≡ runLength m → k < n → runLength m * n ≤ l → s * k + runLength m ≤ l
+room-for s k n l m e h r = rw e (omega (arith, one-more (runLength m) k n h))
+
+pub few-bytes : (s n m : ℕ) → s ≡ runLength m → n ≤ 128 → s * n ≤ 4864
+few-bytes s n m e h = rw e (mul-le-mul {n₁ = runLength m} {m₁ = n} {n₂ = 38} {m₂ = 128} (length-most m) h)
+
+length-run : (m : ℕ) (k : Run) → length (runBytes m k) ≡ runLength m
+unfolding runBytes runLength bytesOf
+length-run m k = length-append (runFront m k) (cond (hasFourth m) (i64Bytes (k .fourth)) []) ∙ ap (λ (n : ℕ). n + length (cond (hasFourth m) (i64Bytes (k .fourth)) [])) (length-front m k) ∙ go (hasFourth m)
+  where
+    go : (t : Bool) → 30 + length (cond t (i64Bytes (k .fourth)) []) ≡ cond t 38 30
+    go true = refl
+    go false = refl
 
 -- as many bytes a run
-pub length-each : (m : ℕ) (ks : List (modeOf m .context .K)) → length (eachRun m ks) ≡ runLength * length ks
-length-each m [] = refl
-length-each m (k ∷ ks) = omega (arith, length-append (runBytes m (modeOf m .storeRun k)) (eachRun m ks), length-run m (modeOf m .storeRun k), length-each m ks)
+pub length-each : (m : ℕ) (ks : List (modeOf m .context .K)) → length (eachRun m ks) ≡ runLength m * length ks
+length-each m [] = sym (mul-zero (runLength m))
+length-each m (k ∷ ks) =
+    length-append (runBytes m (modeOf m .storeRun k)) (eachRun m ks) ∙ ap₂ _+_ (length-run m (modeOf m .storeRun k)) (length-each m ks)
+    ∙ add-comm (runLength m) (runLength m * length ks) ∙ sym (mul-suc (runLength m) (length ks))
 
 pub each-append : (m : ℕ) (a b : List (modeOf m .context .K)) → eachRun m (a ++ b) ≡ eachRun m a ++ eachRun m b
 each-append m [] b = refl

@@ -2,6 +2,7 @@
 use mathlib.Core.Path.{_≡_, refl, sym, ap, ap₂, subst, _∙_}
 use mathlib.Core.List.{List, [], _∷_, _++_, append-assoc, append-nil}
 use Prim.Native.Nat.{ℕ, suc, _+_, _*_, _≤_, _<_}
+use native.Mathlib.Nat.{zero-add}
 use native.Mathlib.Numerals.{add-one}
 use native.Mathlib.Omega.{arith}
 use lib.ListN.{length, length-append, length-map}
@@ -80,11 +81,11 @@ module _ (row : List ℕ) (m : ℕ) (is js lows highs : List ℕ) where
   these-next : (k : ℕ) → these (suc k) ≡ these k ++ runOf (modeOf m .context) (runLevels (modeOf m .algebra) (rowIn m row) (lineIn is js lows highs k))
   these-next k = along-append m (rowIn m row) (linesIn is js lows highs k) (lineIn is js lows highs k ∷ []) ∙ ap (λ t. these k ++ t) (along-one m (rowIn m row) (lineIn is js lows highs k))
 
-  pub one-written : (b out out′ : List ℕ) (k : ℕ) (r : Run) → Written b out k → LineRun row m (lineIn is js lows highs k) r → out′ ≡ sets out (runLength * k) (runBytes m r) → Written b out′ (k + 1)
-  one-written b out out′ k r w v e =
+  pub one-written : (b out out′ : List ℕ) (k at : ℕ) (r : Run) → Written b out k → LineRun row m (lineIn is js lows highs k) r → at ≡ runLength m * k → out′ ≡ sets out at (runBytes m r) → Written b out′ (k + 1)
+  one-written b out out′ k at r w v p e =
       let new = runOf (modeOf m .context) (runLevels (modeOf m .algebra) (rowIn m row) (lineIn is js lows highs k)) in
       let one : length new ≡ 1 = sym (length-map new (modeOf m .storeRun)) ∙ ap length v in
-      let n : runLength * k ≡ 0 + length (eachRun m (these k)) = omega (arith, length-each m (these k), w .count) in
+      let n : at ≡ 0 + length (eachRun m (these k)) = p ∙ ap (λ (c : ℕ). runLength m * c) (sym (w .count)) ∙ sym (length-each m (these k)) ∙ sym (zero-add (length (eachRun m (these k)))) in
       rw add-one record {
         count = ap length (these-next k) ∙ omega (arith, length-append (these k) new, one, w .count);
         bytes =

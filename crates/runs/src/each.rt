@@ -9,7 +9,6 @@ ghost use Rattle.runs.specs.Runs.{Lines, LineAt, LineRun, linesRuns};
 use super::bytes::write_run;
 use super::line::run_of_line;
 use figure::Run;
-use outcome::RUN_LENGTH;
 use run_level::place_of;
 
 // The run of line k.
@@ -47,13 +46,14 @@ pub fn write_each(
     out: &mut [u8],
 )
     requires { ⌜ Lines (now row) mode (now ats) (now starts) (now peaks) (now is) (now js) (now lows) (now highs) n ⌝ }
-    requires { ⌜ runLength * n ≤ length (now out) ⌝ }
+    requires { ⌜ runLength mode * n ≤ length (now out) ⌝ }
     ensures { λ _. ⌜ now (out .exit) ≡ sets (now (out .entry)) 0 (linesRuns (now (row .entry)) mode (linesIn (now (is .entry)) (now (js .entry)) (now (lows .entry)) (now (highs .entry)) n)) ⌝ }
 {
+    let bytes = outcome::run_length(mode);
     let mut k: usize = 0;
     while k < n {
         let run = run_at(row, ats, starts, peaks, is, js, lows, highs, k, mode);
-        write_run(out, RUN_LENGTH * k, mode, run);
+        write_run(out, bytes * k, mode, run);
         k += 1;
     }
 }

@@ -10,7 +10,6 @@ ghost use Rattle.row_gate.specs.Asks.{LetThrough};
 ghost use Rattle.run_level.specs.Along.{rowIn};
 ghost use Rattle.runs.specs.Runs.{linesRuns};
 use gate::Written;
-use outcome::RUN_LENGTH;
 use row_gate::ask::Asked;
 use row_gate::open_row;
 use row_plan::scan::scan;
@@ -47,7 +46,7 @@ fn write_runs<'a>(
         &mut lows,
         &mut highs,
     );
-    let total = RUN_LENGTH * n;
+    let total = outcome::run_length(mode) * n;
     if out.len() < total {
         return Written::Refused(12);
     }

@@ -54,9 +54,9 @@ module _ (M : Mode) (b : List ℕ) (N : Numbered (modeAt b) M) where
   weight-is = omega (arith, lefts-weight M b (riseAt b), rights-weight M b (fallAt b))
 
   -- "10^9 × unclosed records + the absolute 64-bit values"; in mode 4, the unclosed records
-  weight-123 : modeAt b ≢ 4 → weight (M .algebra) (M .sizes) (hillIn (M .read) b) ≡ limit * fallAt b + (sumTo (riseAt b) (λ i. counted (modeAt b) (leftAt b i)) + counted (modeAt b) (middleAt b) + sumTo (fallAt b) (λ j. counted (modeAt b) (heldAt b j)))
+  weight-grams : modeAt b ≢ 4 → weight (M .algebra) (M .sizes) (hillIn (M .read) b) ≡ limit * fallAt b + (sumTo (riseAt b) (λ i. counted (modeAt b) (leftAt b i)) + counted (modeAt b) (middleAt b) + sumTo (fallAt b) (λ j. counted (modeAt b) (heldAt b j)))
   unfolding weigh
-  weight-123 n =
+  weight-grams n =
       weight-is ∙
       ap₂ (λ (u w : ℕ). u * fallAt b + w) (N .unit-is n)
       (ap₂ _+_ (ap₂ _+_ (sum-same (riseAt b) _ _ (λ i. N .size-is n (leftAt b i))) (N .size-is n (middleAt b))) (sum-same (fallAt b) _ _ (λ j. N .size-is n (heldAt b j))))
@@ -85,7 +85,7 @@ module _ (M : Mode) (b : List ℕ) (N : Numbered (modeAt b) M) where
       where
         go : (modeAt b ≡ 4) ⊎ (modeAt b ≢ 4) → weight (M .algebra) (M .sizes) (hillIn (M .read) b) ≤ M .sizes .unit * openedAt b
         go (inl e) = omega (arith, weight-4 e, unit-opened 1 (N .unit-one e), v .opened-unclosed e)
-        go (inr n) = omega (arith, weight-123 n, unit-opened limit (N .unit-is n), v .values-light n)
+        go (inr n) = omega (arith, weight-grams n, unit-opened limit (N .unit-is n), v .values-light n)
 
     ground : peakAt b ≡ 0 → min (length (leftsIn (M .read) b (riseAt b))) (length (rightsIn (M .read) b (fallAt b))) ≡ 0
     ground z = rw (lefts-length (M .read) b (riseAt b), rights-length (M .read) b (fallAt b)) (go (v .ground z))
@@ -150,7 +150,7 @@ module _ (M : Mode) (b : List ℕ) (N : Numbered (modeAt b) M) where
         opened-few = v .few;
         opened-some = λ x y z. omega (arith, v .some);
         middle-nothing = λ z n. sym (st .middle) ∙ ap (M .store) (v .nothing z (omega (arith, sloped (startAt b) (endAt b) n))) ∙ N .nothing-is;
-        values-light = λ n. omega (arith, weight-123 n, unit-opened limit (N .unit-is n), v .light);
+        values-light = λ n. omega (arith, weight-grams n, unit-opened limit (N .unit-is n), v .light);
         values-stamps = λ e. record {
           lefts = λ i k. N .stored-stamp e (leftAt b i) (st .lefts i k);
           middle = N .stored-stamp e (middleAt b) (st .middle);

@@ -79,7 +79,7 @@ unfoldable pub sumTo : ℕ → (ℕ → ℕ) → ℕ
 sumTo zero f = 0
 sumTo (suc n) f = sumTo n f + f n
 
--- "'Nothing held' counts as 0 .. In mode 2 it is no number", as it is stored.
+-- "'Nothing held' counts as 0 .. In mode 2 it is no number", nor in mode 5: as it is stored.
 unfoldable pub nothingIn : ℕ → ℤ
 nothingIn m = cond (storesNothing m) nothing (pos 0)
 
@@ -87,7 +87,7 @@ nothingIn m = cond (storesNothing m) nothing (pos 0)
 abbrev pub same : ℤ → ℤ → Bool
 same a b = leZ a b && leZ b a
 
--- "The absolute 64-bit values (-2^63 in mode 2 counts 0)."
+-- "The absolute 64-bit values (-2^63 in mode 2 counts 0)", and in mode 5.
 unfoldable pub counted : ℕ → ℤ → ℕ
 counted m z = cond (storesNothing m && same z nothing) 0 (natAbs z)
 
@@ -107,7 +107,7 @@ pub record HasLayout (b : List ℕ) (kind bytes : ℕ) : Type 0 where
   -- as many bytes as the kind asks for, and as the length field says
   pub length-fits : length b ≡ bytes
   pub length-said : lengthAt b ≡ length b
-  -- "Is the mode 1 to 4?"
+  -- "The layout and mode fit": "mode 3 gets .. 5 within a summary".
   pub mode-fits : modeInUse (modeAt b) ≡ true
 
 pub record IsSpoilt (b : List ℕ) : Type 0 where
@@ -141,7 +141,7 @@ pub record IsHill (b : List ℕ) : Type 0 where
   pub opened-some : startAt b ≡ peakAt b → peakAt b ≡ endAt b → openedAt b ≢ 0
   -- "At peak 0 the middle holds nothing unless start = end = 0."
   pub middle-nothing : peakAt b ≡ 0 → ¬ ((startAt b ≡ 0) × (endAt b ≡ 0)) → middleAt b ≡ nothingIn (modeAt b)
-  -- "In modes 1 to 3, 10^9 × unclosed records + the absolute 64-bit values .. is at most 10^9 × opened."
+  -- In modes 1, 2 and 5, "10^9 × unclosed records + the absolute 64-bit values .. is at most 10^9 × opened."
   pub values-light : modeAt b ≢ 4 → limit * fallAt b + absoluteValues b ≤ limit * openedAt b
   -- "In mode 4, 64-bit values are 0 to 2^32 - 1, and opened is at least the unclosed records."
   pub values-stamps : modeAt b ≡ 4 → AllStamps b

@@ -16,7 +16,7 @@ use Rattle.summary.specs.Tests.{Tells, tells-same, false-true}
 -- Mode M has number m.
 pub record Numbered (m : ℕ) (M : Mode) : Type 0 where
   pub nothing-is : none M ≡ nothingIn m
-  -- modes 1 to 3
+  -- modes 1, 2 and 5
   pub unit-is : m ≢ 4 → M .sizes .unit ≡ limit
   pub size-is : m ≢ 4 → (z : ℤ) → sizeOf M z ≡ counted m z
   pub any-stored : m ≢ 4 → (z : ℤ) → IsStored M z
@@ -57,16 +57,7 @@ numbered (suc (suc zero)) u = record {
   stamp-stored = λ e. absurd (omega arith);
   stored-stamp = λ e. absurd (omega arith);
 }
-numbered (suc (suc (suc zero))) u = record {
-  nothing-is = refl;
-  unit-is = λ _. refl;
-  size-is = λ _ z. refl;
-  any-stored = λ _ z. refl;
-  unit-one = λ e. absurd (omega arith);
-  size-none = λ e. absurd (omega arith);
-  stamp-stored = λ e. absurd (omega arith);
-  stored-stamp = λ e. absurd (omega arith);
-}
+numbered (suc (suc (suc zero))) u = false-true u
 numbered (suc (suc (suc (suc zero)))) u = record {
   nothing-is = refl;
   unit-is = λ n. absurd (n refl);
@@ -77,4 +68,14 @@ numbered (suc (suc (suc (suc zero)))) u = record {
   stamp-stored = λ _ z e. is-stamp z e;
   stored-stamp = λ _ z e. stamp-is z e;
 }
-numbered (suc (suc (suc (suc (suc m))))) u = absurd (omega (arith, mode-small (suc (suc (suc (suc (suc m))))) u))
+numbered (suc (suc (suc (suc (suc zero))))) u = record {
+  nothing-is = refl;
+  unit-is = λ _. refl;
+  size-is = λ _ z. size-held z;
+  any-stored = λ _ z. held-stored z;
+  unit-one = λ e. absurd (omega arith);
+  size-none = λ e. absurd (omega arith);
+  stamp-stored = λ e. absurd (omega arith);
+  stored-stamp = λ e. absurd (omega arith);
+}
+numbered (suc (suc (suc (suc (suc (suc m)))))) u = absurd (omega (arith, mode-small (suc (suc (suc (suc (suc (suc m)))))) u))

@@ -30,7 +30,7 @@ blankBytes m = encode m blank
 unfoldable pub mergeBytes : ℕ → List ℕ → List ℕ → List ℕ
 mergeBytes m a b = encode m (mergeSummary (modeOf m .algebra) (decode m a) (decode m b))
 
--- SUMMARISE "1, 2, 3 and 12". 1: "Is the mode 1 to 4?" 2: "Is the chunk at most 65,536 bytes?" 3: "Is every record readable?"
+-- SUMMARISE "1, 2, 3 and 12". 1: "Is the mode 1 to 4?", since L3 one of those in use. 2: "Is the chunk at most 65,536 bytes?" 3: "Is every record readable?"
 unfoldable pub summariseOutcome : (chunk : List ℕ) (mode cap : ℕ) → Outcome (List ℕ)
 summariseOutcome chunk mode cap =
     question 1 (modeInUse mode) (question 2 (leb (length chunk) 65_536) (onward (recordsOf chunk) (λ fs. written cap (summaryBytes mode (chunkOf fs)))))

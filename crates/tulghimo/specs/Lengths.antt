@@ -33,7 +33,7 @@ use Rattle.outcome.specs.Through.{plan-1500}
 use Rattle.merge_row.specs.RowAsks.{rowMerged}
 use Rattle.merge_row.specs.RowLaws.{summary-fits}
 use Rattle.merge_row.specs.CallLaws.{few-4, many-4, row-refused, is-row, row-is}
-use Rattle.runs.specs.CallLaws.{runs-3750}
+use Rattle.runs.specs.CallLaws.{runs-4750}
 use Rattle.day_table.specs.Table.{tableOf}
 use Rattle.day_table.specs.Outcomes.{tableBytes, writeLogOutcome, readTableOutcome}
 use Rattle.day_table.specs.RoundTrips.{written-log, table-short}
@@ -109,10 +109,10 @@ pub short-plan : (row : List ℕ) (cap : ℕ) → Short (lengthAnswered (planOut
 unfolding planOutcome
 short-plan row cap = short-along planBytes (rowPieces row) cap (λ s t e f. omega (arith, plan-1500 (rowPieces row) s t e f))
 
--- .. and its runs 3,750.
+-- .. and its runs 4,750.
 pub short-runs : (row : List ℕ) (cap : ℕ) → Short (lengthAnswered (runsOutcome row cap))
 unfolding runsOutcome
-short-runs row cap = short-along runsBytes (rowPieces row) cap (λ s t e f. omega (arith, runs-3750 (rowPieces row) s t e f))
+short-runs row cap = short-along runsBytes (rowPieces row) cap (λ s t e f. omega (arith, runs-4750 (rowPieces row) s t e f))
 
 -- A log written from a table has at most 65,520 bytes, ..
 pub short-log : (table : List ℕ) (cap : ℕ) → Short (lengthAnswered (writeLogOutcome table cap))

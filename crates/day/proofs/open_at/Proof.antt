@@ -16,7 +16,7 @@ use Rattle.day.proofs.open_at.Tie as tie
 
 -- what the code stores, by equations
 stored : {d : ℕ} {v f c v′ f′ c′ n′ h′ e′ s′ : ℤ} {vs fs cs ns hs es ss : List ℤ} → v′ ≡ v → f′ ≡ f → c′ ≡ c
-    → n′ ≡ none (modeOf 1) → h′ ≡ none (modeOf 2) → e′ ≡ none (modeOf 3) → s′ ≡ none (modeOf 4)
+    → n′ ≡ none (modeOf 1) → h′ ≡ none (modeOf 2) → e′ ≡ none (modeOf 5) → s′ ≡ none (modeOf 4)
     → Opened d v f c vs fs cs ns hs es ss (set vs d v′) (set fs d f′) (set cs d c′) (set ns d n′) (set hs d h′) (set es d e′) (set ss d s′)
 stored {d} {vs = vs} {fs} {cs} {ns} {hs} {es} {ss} ev ef ec en eh ee es′ = record {
   net = record { values = ap (set vs d) ev; floors = ap (set fs d) ef; ceilings = ap (set cs d) ec; held = ap (set ns d) en };

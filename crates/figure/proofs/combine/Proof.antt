@@ -20,10 +20,15 @@ combine-stamps-requires c κs =
     let s = c .before in
     simp (toZ-ofZ (s .fits .a), toZ-ofZ (s .fits .b)) (subst (λ (m : ℕ). Combines (modeOf m) (s .args .a) (s .args .b)) (c .match .keys2) (s .pre))
 
+combine-eaten-requires : tie.Need-combine-eaten-requires
+combine-eaten-requires c κs =
+    let s = c .before in
+    simp (toZ-ofZ (s .fits .a), toZ-ofZ (s .fits .b)) (subst (λ (m : ℕ). Combines (modeOf m) (s .args .a) (s .args .b)) (c .match .keys3) (s .pre))
+
 sum-requires : tie.Need-sum-requires
 sum-requires c κs =
     let s = c .before in
-    let w = plain-size (s .args .mode) (c .match .rest .0 .1) (c .match .rest .1) in
+    let w = plain-size (s .args .mode) (c .match .rest .0 .0 .1) (c .match .rest .0 .1) (c .match .rest .1) in
     simp (toZ-ofZ (s .fits .a), toZ-ofZ (s .fits .b)) (omega (arith, w (s .args .a), w (s .args .b)))
 
 returns : tie.Need-returns
@@ -41,9 +46,15 @@ returns-2 c =
 returns-3 : tie.Need-returns-3
 returns-3 c =
     let s = c .before .before in
+    back w64 (c .combine-eaten .result) (c .combine-eaten .ok) ∙ (simp (toZ-ofZ (s .fits .a), toZ-ofZ (s .fits .b)) at (c .combine-eaten .ensures))
+    ∙ sym (ap (λ (m : ℕ). combined (modeOf m) (s .args .a) (s .args .b)) (c .before .match .keys3))
+
+returns-4 : tie.Need-returns-4
+returns-4 c =
+    let s = c .before .before in
     let r = c .before .match .rest in
     back w64 (c .sum .result) (c .sum .ok) ∙ (simp (toZ-ofZ (s .fits .a), toZ-ofZ (s .fits .b)) at (c .sum .ensures))
-    ∙ sym (plain-combined (s .args .mode) (r .0 .1) (r .1) (s .args .a) (s .args .b))
+    ∙ sym (plain-combined (s .args .mode) (r .0 .0 .1) (r .0 .1) (r .1) (s .args .a) (s .args .b))
 
 pub combine-spec : {M : Type 1} → statement M
-combine-spec = tie.close (tie.spec combine-heaviest-requires combine-stamps-requires sum-requires returns returns-2 returns-3)
+combine-spec = tie.close (tie.spec combine-heaviest-requires combine-stamps-requires combine-eaten-requires sum-requires returns returns-2 returns-3 returns-4)

@@ -4,7 +4,7 @@ use Prim.Native.Nat.{ℕ}
 use mir.Syntax.{w64}
 use mir.Facts.{toZ-ofZ}
 use Rattle.number.specs.Word.{back}
-use Rattle.figure.specs.FourModes.{storeHeld}
+use Rattle.figure.specs.FourModes.{eatenOf, storeHeld}
 use Rattle.figure.specs.Mode.{Mode, modeOf}
 use Rattle.figure.specs.Stored.{passed, amounts, Passes}
 use Rattle.figure.proofs.Modes.{other-mode}
@@ -16,13 +16,13 @@ through-heaviest-requires c κs =
     let s = c .before in
     simp (toZ-ofZ (s .fits .value), toZ-ofZ (s .fits .held)) (subst (λ (m : ℕ). Passes (modeOf m) (s .args .value) (s .args .held)) (c .match .keys1) (s .pre))
 
-through-eaten-requires : tie.Need-through-eaten-requires
-through-eaten-requires c κs =
+through-stamp-requires : tie.Need-through-stamp-requires
+through-stamp-requires c κs =
     let s = c .before in
     simp (toZ-ofZ (s .fits .value), toZ-ofZ (s .fits .held)) (subst (λ (m : ℕ). Passes (modeOf m) (s .args .value) (s .args .held)) (c .match .keys2) (s .pre))
 
-through-stamp-requires : tie.Need-through-stamp-requires
-through-stamp-requires c κs =
+through-eaten-requires : tie.Need-through-eaten-requires
+through-eaten-requires c κs =
     let s = c .before in
     simp (toZ-ofZ (s .fits .value), toZ-ofZ (s .fits .held)) (subst (λ (m : ℕ). Passes (modeOf m) (s .args .value) (s .args .held)) (c .match .keys3) (s .pre))
 
@@ -40,16 +40,16 @@ returns c =
     ∙ sym (ap (λ (m : ℕ). passed (modeOf m) (amounts (s .args .value) (s .args .floor) (s .args .ceiling)) (s .args .held)) (c .before .match .keys1))
 
 returns-2 : tie.Need-returns-2
-unfolding passed modeOf
 returns-2 c =
     let s = c .before .before in
-    back w64 (c .through-eaten .result) (c .through-eaten .ok) ∙ (simp (toZ-ofZ (s .fits .value), toZ-ofZ (s .fits .floor), toZ-ofZ (s .fits .ceiling), toZ-ofZ (s .fits .held)) at (c .through-eaten .ensures))
+    back w64 (c .through-stamp .result) (c .through-stamp .ok) ∙ (simp (toZ-ofZ (s .fits .value), toZ-ofZ (s .fits .floor), toZ-ofZ (s .fits .ceiling), toZ-ofZ (s .fits .held)) at (c .through-stamp .ensures))
     ∙ sym (ap (λ (m : ℕ). passed (modeOf m) (amounts (s .args .value) (s .args .floor) (s .args .ceiling)) (s .args .held)) (c .before .match .keys2))
 
 returns-3 : tie.Need-returns-3
+unfolding passed modeOf eatenOf storeHeld
 returns-3 c =
     let s = c .before .before in
-    back w64 (c .through-stamp .result) (c .through-stamp .ok) ∙ (simp (toZ-ofZ (s .fits .value), toZ-ofZ (s .fits .floor), toZ-ofZ (s .fits .ceiling), toZ-ofZ (s .fits .held)) at (c .through-stamp .ensures))
+    back w64 (c .through-eaten .result) (c .through-eaten .ok) ∙ (simp (toZ-ofZ (s .fits .value), toZ-ofZ (s .fits .floor), toZ-ofZ (s .fits .ceiling), toZ-ofZ (s .fits .held)) at (c .through-eaten .ensures))
     ∙ sym (ap (λ (m : ℕ). passed (modeOf m) (amounts (s .args .value) (s .args .floor) (s .args .ceiling)) (s .args .held)) (c .before .match .keys3))
 
 returns-4 : tie.Need-returns-4
@@ -63,4 +63,4 @@ returns-4 c =
 pub through-spec : {M : Type 1} → statement M
 through-spec =
     tie.close
-    (tie.spec through-heaviest-requires through-eaten-requires through-stamp-requires through-net-requires returns returns-2 returns-3 returns-4)
+    (tie.spec through-heaviest-requires through-stamp-requires through-eaten-requires through-net-requires returns returns-2 returns-3 returns-4)

@@ -1,12 +1,15 @@
 -- `figure::through_eaten` meets its contract. Assumes nothing.
 use borrow.Author.Needs.{needs}
-use mathlib.Core.Path.{_≡_, _∙_}
+use mathlib.Core.Path.{_≡_, _∙_, ap}
+use native.Mathlib.Omega.{arith}
 use mir.Facts.{toZ-ofZ}
 use mir.Syntax.{w64}
 use mir.Val.{toZ, ofZ}
 use Rattle.number.specs.Word.{back, widened}
+use Rattle.figure.specs.FourModes.{eatenOf, readHeld}
+use Rattle.figure.specs.Bound.{sizeHeld}
 use Rattle.figure.specs.Mode.{modeOf}
-use Rattle.figure.specs.Stored.{sizeOf}
+use Rattle.figure.specs.Stored.{amounts, sizeOf}
 use Rattle.figure.proofs.through_eaten.Statement.{statement}
 use Rattle.figure.proofs.through_eaten.Tie as tie
 
@@ -19,6 +22,9 @@ floor-is c = widened (c .widen2 .result) (c .before .before .args .floor) (c .wi
 ceiling-is : (c : tie.After-widen3) → toZ w64 (ofZ w64 (c .widen3 .result)) ≡ c .before .before .before .args .ceiling
 ceiling-is c = widened (c .widen3 .result) (c .before .before .before .args .ceiling) (c .widen3 .ok) (c .widen3 .ensures) (c .before .before .before .fits .ceiling)
 
+held-is : (c : tie.After-read-held) → c .read-held .result ≡ readHeld (c .before .before .before .before .args .held)
+held-is c = c .read-held .ensures ∙ ap readHeld (toZ-ofZ (c .before .before .before .before .fits .held))
+
 widen-requires : tie.Need-widen-requires
 widen-requires c κs = search needs
 
@@ -28,16 +34,21 @@ widen-requires-2 c κs = search needs
 widen-requires-3 : tie.Need-widen-requires-3
 widen-requires-3 c κs = search needs
 
-clamped-sum-requires : tie.Need-clamped-sum-requires
+read-held-requires : tie.Need-read-held-requires
+read-held-requires c κs = search needs
+
+eaten-requires : tie.Need-eaten-requires
 unfolding sizeOf modeOf
-clamped-sum-requires c κs = simp (value-is (c .before .before), toZ-ofZ (c .before .before .before .fits .held)) (c .before .before .before .pre .room)
+eaten-requires c κs = simp (value-is (c .before .before .before)) (omega (arith, c .before .before .before .before .pre .room, ap sizeHeld (held-is c)))
 
 returns : tie.Need-returns
 returns c =
-    back w64 (c .clamped-sum .result) (c .clamped-sum .ok)
-    ∙ (simp (value-is (c .before .before .before), floor-is (c .before .before), ceiling-is (c .before), toZ-ofZ (c .before .before .before .before .fits .held)) at (c .clamped-sum .ensures))
+    let s = c .before .before .before .before .before in
+    back w64 (c .eaten .result) (c .eaten .ok)
+    ∙ (simp (value-is (c .before .before .before .before), floor-is (c .before .before .before), ceiling-is (c .before .before)) at (c .eaten .ensures))
+    ∙ ap (eatenOf (amounts (s .args .value) (s .args .floor) (s .args .ceiling))) (held-is (c .before))
 
 pub through-eaten-spec : {M : Type 1} → statement M
 through-eaten-spec =
     tie.close
-    (tie.spec widen-requires widen-requires-2 widen-requires-3 clamped-sum-requires returns)
+    (tie.spec widen-requires widen-requires-2 widen-requires-3 read-held-requires eaten-requires returns)

@@ -12,13 +12,13 @@ compose-heaviest-requires c κs =
     let s = c .before in
     subst (λ (m : ℕ). Composes (modeOf m) (s .args .outer) (s .args .inner)) (c .match .keys1) (s .pre)
 
-compose-eaten-requires : tie.Need-compose-eaten-requires
-compose-eaten-requires c κs =
+compose-stamp-requires : tie.Need-compose-stamp-requires
+compose-stamp-requires c κs =
     let s = c .before in
     subst (λ (m : ℕ). Composes (modeOf m) (s .args .outer) (s .args .inner)) (c .match .keys2) (s .pre)
 
-compose-stamp-requires : tie.Need-compose-stamp-requires
-compose-stamp-requires c κs =
+compose-eaten-requires : tie.Need-compose-eaten-requires
+compose-eaten-requires c κs =
     let s = c .before in
     subst (λ (m : ℕ). Composes (modeOf m) (s .args .outer) (s .args .inner)) (c .match .keys3) (s .pre)
 
@@ -36,12 +36,12 @@ returns c =
 returns-2 : tie.Need-returns-2
 returns-2 c =
     let s = c .before .before in
-    c .compose-eaten .ensures ∙ sym (ap (λ (m : ℕ). runAfter (modeOf m) (s .args .outer) (s .args .inner)) (c .before .match .keys2))
+    c .compose-stamp .ensures ∙ sym (ap (λ (m : ℕ). runAfter (modeOf m) (s .args .outer) (s .args .inner)) (c .before .match .keys2))
 
 returns-3 : tie.Need-returns-3
 returns-3 c =
     let s = c .before .before in
-    c .compose-stamp .ensures ∙ sym (ap (λ (m : ℕ). runAfter (modeOf m) (s .args .outer) (s .args .inner)) (c .before .match .keys3))
+    c .compose-eaten .ensures ∙ sym (ap (λ (m : ℕ). runAfter (modeOf m) (s .args .outer) (s .args .inner)) (c .before .match .keys3))
 
 returns-4 : tie.Need-returns-4
 returns-4 c =
@@ -54,8 +54,8 @@ compose-spec =
     tie.close
     (tie.spec
     compose-heaviest-requires
-    compose-eaten-requires
     compose-stamp-requires
+    compose-eaten-requires
     compose-net-requires
     returns
     returns-2

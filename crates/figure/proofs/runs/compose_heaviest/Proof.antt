@@ -2,7 +2,7 @@
 use borrow.Author.Needs.{needs}
 use mathlib.Core.Path.{_≡_, _∙_, ap, sym}
 use native.Mathlib.Omega.{arith}
-use lib.IntN.{_+ℤ_}
+use lib.IntN.{pos, _+ℤ_}
 use mir.Syntax.{w64}
 use mir.Val.{toZ, ofZ}
 use Rattle.number.specs.Integer.{maxZ}
@@ -19,10 +19,10 @@ use Rattle.figure.proofs.runs.compose_heaviest.Statement.{statement}
 use Rattle.figure.proofs.runs.compose_heaviest.Tie as tie
 
 outer : (s : tie.Start) → Back (s .args .outer)
-outer s = fields-back (s .args .outer) (search needs) (search needs) (search needs)
+outer s = fields-back (s .args .outer) (search needs) (search needs) (search needs) (search needs)
 
 inner : (s : tie.Start) → Back (s .args .inner)
-inner s = fields-back (s .args .inner) (search needs) (search needs) (search needs)
+inner s = fields-back (s .args .inner) (search needs) (search needs) (search needs) (search needs)
 
 start : tie.After-sum → tie.Start
 start c = c .before .before .before .before .before .before
@@ -93,7 +93,7 @@ returns c =
     ∙ (simp (f .second-back, moved-is (o .before)) at (o .combine-heaviest .ensures))
     ∙ ap (λ k. storeHeld (lift maxZ (readHeld (s .args .outer .second)) k)) (held-back h (omega (arith, size-moved (readHeld (s .args .inner .second)) v, r .other))) in
     let b = back w64 (c .sum2 .result) (c .sum2 .ok) ∙ (simp (f .third-back, g .third-back) at (c .sum2 .ensures)) in
-    λ i. record { first = e i; second = n i; third = b i }
+    λ i. record { first = e i; second = n i; third = b i; fourth = pos 0 }
 
 pub compose-heaviest-spec : {M : Type 1} → statement M
 compose-heaviest-spec =

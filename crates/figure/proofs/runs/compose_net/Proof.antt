@@ -11,10 +11,10 @@ use Rattle.figure.proofs.runs.compose_net.Statement.{statement}
 use Rattle.figure.proofs.runs.compose_net.Tie as tie
 
 outer : (s : tie.Start) → Back (s .args .outer)
-outer s = fields-back (s .args .outer) (search needs) (search needs) (search needs)
+outer s = fields-back (s .args .outer) (search needs) (search needs) (search needs) (search needs)
 
 inner : (s : tie.Start) → Back (s .args .inner)
-inner s = fields-back (s .args .inner) (search needs) (search needs) (search needs)
+inner s = fields-back (s .args .inner) (search needs) (search needs) (search needs) (search needs)
 
 sum-requires : tie.Need-sum-requires
 sum-requires c κs =
@@ -30,7 +30,7 @@ returns c =
     let f = outer s in
     let g = inner s in
     let a = back w64 (c .sum .result) (c .sum .ok) ∙ (simp (f .first-back, g .first-back) at (c .sum .ensures)) in
-    λ i. record { first = a i; second = pos 0; third = pos 0 }
+    λ i. record { first = a i; second = pos 0; third = pos 0; fourth = pos 0 }
 
 pub compose-net-spec : {M : Type 1} → statement M
 compose-net-spec = tie.close (tie.spec sum-requires returns)

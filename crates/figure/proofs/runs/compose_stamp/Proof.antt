@@ -15,10 +15,10 @@ use Rattle.figure.proofs.runs.compose_stamp.Statement.{statement}
 use Rattle.figure.proofs.runs.compose_stamp.Tie as tie
 
 outer : (s : tie.Start) → Back (s .args .outer)
-outer s = fields-back (s .args .outer) (search needs) (search needs) (search needs)
+outer s = fields-back (s .args .outer) (search needs) (search needs) (search needs) (search needs)
 
 inner : (s : tie.Start) → Back (s .args .inner)
-inner s = fields-back (s .args .inner) (search needs) (search needs) (search needs)
+inner s = fields-back (s .args .inner) (search needs) (search needs) (search needs) (search needs)
 
 start : tie.After-to-u32 → tie.Start
 start c = c .before .before .before .before .before
@@ -92,7 +92,7 @@ returns c =
     ∙ ap pos (c .before .wrapping-add-u32 .ensures
     ∙ ap₂ (λ (x y : ℕ). (x + y) % 2 ^ 32) (t .wrapping-mul2 .ensures ∙ ap₂ (λ (x y : ℕ). (x * y) % 2 ^ 32) m (p-is u)) (q-is (u .before .before))
     ∙ mod-add-mod (up (s .args .outer .first) % 2 ^ 32 * (up (s .args .inner .second) % 2 ^ 32)) (2 ^ 32) (up (s .args .outer .second) % 2 ^ 32)) in
-    λ i. record { first = a i; second = b i; third = pos 0 }
+    λ i. record { first = a i; second = b i; third = pos 0; fourth = pos 0 }
 
 pub compose-stamp-spec : {M : Type 1} → statement M
 compose-stamp-spec =

@@ -13,13 +13,13 @@ level-heaviest-requires c κs =
     let s = c .before in
     simp (toZ-ofZ (s .fits .value), toZ-ofZ (s .fits .before), toZ-ofZ (s .fits .behind)) (subst (λ (m : ℕ). Levels (modeOf m) (s .args .value) (s .args .before) (s .args .behind)) (c .match .keys1) (s .pre))
 
-level-eaten-requires : tie.Need-level-eaten-requires
-level-eaten-requires c κs =
+level-stamp-requires : tie.Need-level-stamp-requires
+level-stamp-requires c κs =
     let s = c .before in
     simp (toZ-ofZ (s .fits .value), toZ-ofZ (s .fits .before), toZ-ofZ (s .fits .behind)) (subst (λ (m : ℕ). Levels (modeOf m) (s .args .value) (s .args .before) (s .args .behind)) (c .match .keys2) (s .pre))
 
-level-stamp-requires : tie.Need-level-stamp-requires
-level-stamp-requires c κs =
+level-eaten-requires : tie.Need-level-eaten-requires
+level-eaten-requires c κs =
     let s = c .before in
     simp (toZ-ofZ (s .fits .value), toZ-ofZ (s .fits .before), toZ-ofZ (s .fits .behind)) (subst (λ (m : ℕ). Levels (modeOf m) (s .args .value) (s .args .before) (s .args .behind)) (c .match .keys3) (s .pre))
 
@@ -37,12 +37,12 @@ returns c =
 returns-2 : tie.Need-returns-2
 returns-2 c =
     let s = c .before .before in
-    (simp (toZ-ofZ (s .fits .value), toZ-ofZ (s .fits .floor), toZ-ofZ (s .fits .ceiling), toZ-ofZ (s .fits .before), toZ-ofZ (s .fits .behind)) at (c .level-eaten .ensures)) ∙ sym (ap (λ (m : ℕ). levelRun (modeOf m) (amounts (s .args .value) (s .args .floor) (s .args .ceiling)) (s .args .before) (s .args .behind)) (c .before .match .keys2))
+    (simp (toZ-ofZ (s .fits .value), toZ-ofZ (s .fits .floor), toZ-ofZ (s .fits .ceiling), toZ-ofZ (s .fits .before), toZ-ofZ (s .fits .behind)) at (c .level-stamp .ensures)) ∙ sym (ap (λ (m : ℕ). levelRun (modeOf m) (amounts (s .args .value) (s .args .floor) (s .args .ceiling)) (s .args .before) (s .args .behind)) (c .before .match .keys2))
 
 returns-3 : tie.Need-returns-3
 returns-3 c =
     let s = c .before .before in
-    (simp (toZ-ofZ (s .fits .value), toZ-ofZ (s .fits .floor), toZ-ofZ (s .fits .ceiling), toZ-ofZ (s .fits .before), toZ-ofZ (s .fits .behind)) at (c .level-stamp .ensures)) ∙ sym (ap (λ (m : ℕ). levelRun (modeOf m) (amounts (s .args .value) (s .args .floor) (s .args .ceiling)) (s .args .before) (s .args .behind)) (c .before .match .keys3))
+    (simp (toZ-ofZ (s .fits .value), toZ-ofZ (s .fits .floor), toZ-ofZ (s .fits .ceiling), toZ-ofZ (s .fits .before), toZ-ofZ (s .fits .behind)) at (c .level-eaten .ensures)) ∙ sym (ap (λ (m : ℕ). levelRun (modeOf m) (amounts (s .args .value) (s .args .floor) (s .args .ceiling)) (s .args .before) (s .args .behind)) (c .before .match .keys3))
 
 returns-4 : tie.Need-returns-4
 returns-4 c =
@@ -55,8 +55,8 @@ level-spec =
     tie.close
     (tie.spec
     level-heaviest-requires
-    level-eaten-requires
     level-stamp-requires
+    level-eaten-requires
     level-net-requires
     returns
     returns-2

@@ -3,7 +3,7 @@ use borrow.Author.Needs.{needs}
 use mathlib.Core.Path.{_≡_, _∙_, ap}
 use Prim.Native.Nat.{_+_, _^_, _≤_, _<_}
 use native.Mathlib.Omega.{arith}
-use lib.IntN.{natAbs}
+use lib.IntN.{pos, natAbs}
 use mir.Syntax.{w64}
 use mir.Val.{toZ, ofZ}
 use mir.Facts.{toZ-ofZ}
@@ -70,7 +70,7 @@ returns c =
     let z = back w64 (c .before .before .line .result) (c .before .before .line .ok) ∙ (simp (value-is w) at (c .before .before .line .ensures)) ∙ ap (lineOf v) (other-is o) in
     let a = back w64 (c .store-held .result) (c .store-held .ok) ∙ c .store-held .ensures
     ∙ ap storeHeld ((simp (value-is w) at (c .before .moved-by .ensures)) ∙ ap (λ h. moved h v) (other-is o)) in
-    λ i. record { first = z i; second = a i; third = value-is w i }
+    λ i. record { first = z i; second = a i; third = value-is w i; fourth = pos 0 }
 
 pub level-heaviest-spec : {M : Type 1} → statement M
 level-heaviest-spec =

@@ -40,7 +40,7 @@ returns c =
     let q = back w64 (c .through-stamp .result) (c .through-stamp .ok)
     ∙ (simp (toZ-ofZ (s .fits .value), toZ-ofZ (s .fits .floor), toZ-ofZ (s .fits .ceiling), both-is (c .before)) at (c .through-stamp .ensures))
     ∙ passed-combined (modeOf 4) (amounts (s .args .value) (s .args .floor) (s .args .ceiling)) (s .args .before) (s .args .behind) (both-room s) in
-    λ i. record { first = pos 31; second = q i; third = pos 0 }
+    λ i. record { first = pos 31; second = q i; third = pos 0; fourth = pos 0 }
 
 pub level-stamp-spec : {M : Type 1} → statement M
 level-stamp-spec = tie.close (tie.spec combine-stamps-requires through-stamp-requires returns)

@@ -1,72 +1,60 @@
--- `runs::bytes::write_run` meets its contract: three numbers of two bytes and three of eight.
+-- `runs::bytes::write_run` meets its contract: three numbers, and in mode 5 a fourth.
 -- Assumes nothing.
+use mathlib.Core.Path.{_∙_, ap, sym}
+use native.Mathlib.Omega.{arith}
+use lib.ListN.{length}
+use lib.Seq.{length-sets}
 use mir.Syntax.{w64}
 use denote.Ref.{now}
 use Rattle.number.specs.Word.{back}
-use Rattle.runs.specs.BytesLaws.{run-written}
+use Rattle.outcome.specs.Laws.{length-four, length-least}
+use Rattle.runs.specs.BytesLaws.{fourth-written, no-fourth}
 use borrow.Author.Needs.{needs}
 use Rattle.runs.proofs.bytes.write_run.Statement.{statement}
 use Rattle.runs.proofs.bytes.write_run.Tie as tie
 
-cast-write-u16 : tie.Need-cast-write-u16
-cast-write-u16 c = search needs
+write-front-requires : tie.Need-write-front-requires
+write-front-requires c κs = omega (arith, c .before .before .pre, length-least (c .before .before .args .mode))
 
-write-u16-requires : tie.Need-write-u16-requires
-write-u16-requires c κs = search needs
-
-add-write-u16 : tie.Need-add-write-u16
-add-write-u16 c = search needs
-
-write-u16-requires-2 : tie.Need-write-u16-requires-2
-write-u16-requires-2 c κs = search needs
-
-add-write-u16-2 : tie.Need-add-write-u16-2
-add-write-u16-2 c = search needs
-
-write-u16-requires-3 : tie.Need-write-u16-requires-3
-write-u16-requires-3 c κs = search needs
+has-fourth-requires : tie.Need-has-fourth-requires
+has-fourth-requires c κs = search needs
 
 add-write-i64 : tie.Need-add-write-i64
 add-write-i64 c = search needs
 
 write-i64-requires : tie.Need-write-i64-requires
-write-i64-requires c κs = search needs
-
-add-write-i64-2 : tie.Need-add-write-i64-2
-add-write-i64-2 c = search needs
-
-write-i64-requires-2 : tie.Need-write-i64-requires-2
-write-i64-requires-2 c κs = search needs
-
-add-write-i64-3 : tie.Need-add-write-i64-3
-add-write-i64-3 c = search needs
-
-write-i64-requires-3 : tie.Need-write-i64-requires-3
-write-i64-requires-3 c κs = search needs
+write-i64-requires c κs =
+    let t = c .before .before .before .before .before .before in
+    let s = t .before .before .before in
+    omega (arith, s .pre, length-four (s .args .mode) (sym (c .before .before .before .has-fourth .ensures) ∙ c .before .before .if1 .taken), simp length-sets at (ap length (t .write-front .ensures)))
 
 same-length : tie.Need-same-length
 same-length c = search needs
 
 returns : tie.Need-returns
 returns c =
-    let a = c .before .before .before .before .before .before .before .before .before .before .before .before .before .before .before .before .before .before .before .before .before .before .before .before .before .before .before .before .args in
-    run-written (now (a .out)) _ _ _ _ _ _ (a .at) (a .mode) (a .run) _ _ _ (c .before .before .before .before .before .before .before .before .before .before .before .before .before .before .before .before .before .before .before .before .before .before .before .before .before .write-u16 .ensures) (c .before .before .before .before .before .before .before .before .before .before .before .before .before .before .before .before .before .before .before .before .before .write-u162 .ensures) (c .before .before .before .before .before .before .before .before .before .before .before .before .before .before .before .before .before .write-u163 .ensures) (c .before .before .before .before .before .before .before .before .before .before .before .before .write-i64 .ensures) (c .before .before .before .before .before .before .before .write-i642 .ensures) (c .before .before .write-i643 .ensures) (back w64 (a .run .first) (search needs)) (back w64 (a .run .second) (search needs)) (back w64 (a .run .third) (search needs))
+    let t = c .before .before .before .before .before .before .before .before .before in
+    let a = t .before .before .before .args in
+    fourth-written (now (a .out)) _ _ (a .at) (a .mode) (a .run) _ (sym (c .before .before .before .before .before .before .has-fourth .ensures) ∙ c .before .before .before .before .before .if1 .taken) (t .write-front .ensures) (c .before .before .write-i64 .ensures) (back w64 (a .run .fourth) (search needs))
+
+same-length-2 : tie.Need-same-length-2
+same-length-2 c = search needs
+
+returns-2 : tie.Need-returns-2
+returns-2 c =
+    let t = c .before .before .before .before in
+    let a = t .before .before .before .args in
+    no-fourth (now (a .out)) _ (a .at) (a .mode) (a .run) (sym (c .before .has-fourth .ensures) ∙ c .if1 .left) (t .write-front .ensures)
 
 pub write-run-spec : {M : Type 1} → statement M
 write-run-spec =
     tie.close
     (tie.spec
-    cast-write-u16
-    write-u16-requires
-    add-write-u16
-    write-u16-requires-2
-    add-write-u16-2
-    write-u16-requires-3
+    write-front-requires
+    has-fourth-requires
     add-write-i64
     write-i64-requires
-    add-write-i64-2
-    write-i64-requires-2
-    add-write-i64-3
-    write-i64-requires-3
     same-length
-    returns)
+    returns
+    same-length-2
+    returns-2)
