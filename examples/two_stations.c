@@ -110,8 +110,10 @@ static void summarise_all(uint32_t mode, struct summary sent[3]) {
 }
 
 int main(void) {
+    static const uint32_t modes[] = {TULGHIMO_NET, TULGHIMO_HEAVIEST, TULGHIMO_EATEN, TULGHIMO_STAMP};
     struct summary sent[3], rest;
-    for (uint32_t mode = TULGHIMO_NET; mode <= TULGHIMO_STAMP; mode++) {
+    for (int i = 0; i < 4; i++) {
+        uint32_t mode = modes[i];
         summarise_all(mode, sent);
         printf("mode %" PRIu32 ": %zu, %zu and %zu bytes are sent; the figure is ", mode, sent[0].length, sent[1].length,
                sent[2].length);

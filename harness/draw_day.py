@@ -3,9 +3,9 @@
 the hill of each side, and how the two merge.
 
 Every number in the picture is worked out here from the bytes of samples/d.log, by
-document 01's sentences: closes and holders are found by search, the figures by the
-recursion on the tree, the merge by levels. Where the merge and the recursion differ
-in any mode, nothing is drawn.
+document 01's sentences, and document 02's for mode 5: closes and holders are found by
+search, the figures by the recursion on the tree, the merge by levels. Where the merge
+and the recursion differ in any mode, nothing is drawn.
 
     python3 harness/draw_day.py            writes the picture
     python3 harness/draw_day.py --check    says whether the committed picture is this one
@@ -81,12 +81,20 @@ def greatest(a, b):
     return a if b is NOTHING else b if a is NOTHING else max(a, b)
 
 
+def at_its_value_or_bound(record, held):
+    """Floor and ceiling bind only a record that holds others."""
+    if held is NOTHING:
+        return record.value
+    return min(max(record.value + held, record.floor), record.ceiling)
+
+
 MODES = {
     "net": (add, lambda r, x: r.value + (x or 0)),
     "heaviest": (greatest, lambda r, x: r.value + (x or 0)),
-    "eaten": (add, lambda r, x: min(max(r.value + (x or 0), r.floor), r.ceiling)),
+    "eaten": (add, at_its_value_or_bound),
     "stamp": (lambda a, b: add(a, b) % 2**32, lambda r, x: (r.value + 31 * (x or 0)) % 2**32),
 }
+MODE_NUMBERS = {"net": 1, "heaviest": 2, "eaten": 5, "stamp": 4}
 
 
 def combined(mode, figures):
@@ -341,11 +349,17 @@ def through_words(mode, step):
     if mode == "stamp":
         return f"{value} + 31 × {number(held)} = {number(step.figure)}"
     plain = record.value + held
-    shown = f"{value} + {number(held)} = {number(plain)}" if step.held is not NOTHING else value
-    if mode == "eaten" and plain != step.figure:
-        bound = "ceiling" if plain > step.figure else "floor"
-        return f"{shown}, held at the {bound}: {number(step.figure)}"
-    return shown
+    return f"{value} + {number(held)} = {number(plain)}" if step.held is not NOTHING else value
+
+
+def limit_words(step):
+    """What floor and ceiling do in mode 5."""
+    if step.held is NOTHING:
+        return "taken at its value"
+    plain = step.record.value + step.held
+    if plain == step.figure:
+        return f"within {limits(step.record)}"
+    return f"held at the {'ceiling' if plain > step.figure else 'floor'}: {number(step.figure)}"
 
 
 def draw_merge(d, merges, x, y):
@@ -356,7 +370,8 @@ def draw_merge(d, merges, x, y):
     tall = 92
     d.rect(x, top, first + wide * len(merges), 44 + tall * steps + 62, CARD)
     for k, mode in enumerate(merges):
-        d.text(x + first + wide * (k + 0.5), top + 29, f"{k + 1}. {mode}", 17, INK, "middle", True)
+        words = f"{mode} (mode {MODE_NUMBERS[mode]})"
+        d.text(x + first + wide * (k + 0.5), top + 29, words, 17, INK, "middle", True)
     for n in range(steps):
         row = top + 44 + tall * n
         d.line(x + 1, row, x + first + wide * len(merges) - 1, row, FAINT, 1.5)
@@ -367,6 +382,8 @@ def draw_merge(d, merges, x, y):
             cx = x + first + wide * (k + 0.5)
             d.text(cx, row + 36, sum_words(mode, mode_steps[n]), 14, SOFT, "middle")
             d.text(cx, row + 62, through_words(mode, mode_steps[n]), 15, INK, "middle", True)
+            if mode == "eaten":
+                d.text(cx, row + 81, limit_words(mode_steps[n]), 13, SOFT, "middle")
     row = top + 44 + tall * steps
     d.rect(x, row, first + wide * len(merges), 62, BOTH_PALE, BOTH)
     d.text(x + 18, row + 28, "level 0: the figure", 16, BOTH, bold=True)

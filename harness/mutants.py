@@ -27,7 +27,7 @@ TIMEOUT_SECONDS = 300
 
 # The tests that take no time; the others follow where these notice nothing.
 QUICK = ["--", "paper::", "gate::", "figures::", "records::", "question_5::", "rows::pieces",
-         "rows::halves", "day_table::", "batch::"]
+         "rows::halves", "day_table::", "batch::", "drop_at_value::"]
 
 # Records: bytes, reading, ranges.
 RECORDS = [
@@ -87,9 +87,8 @@ MODES = [
      "the greatest, not the least"),
     ("mode.rs", "(Mode::Net, held) => v + held.unwrap_or(0),", "(Mode::Net, _) => v,",
      "net adds what is held"),
-    ("mode.rs", "between(v + held.unwrap_or(0), record.floor, record.ceiling)",
-     "v + between(held.unwrap_or(0), record.floor, record.ceiling)",
-     "floor and ceiling bind v + the sum"),
+    ("mode.rs", "between(v + sum, record.floor, record.ceiling)",
+     "v + between(sum, record.floor, record.ceiling)", "floor and ceiling bind v + the sum"),
     ("mode.rs", "if number < floor {", "if number < floor && floor > 0 {", "raised to the floor"),
     ("mode.rs", "} else if number > ceiling {", "} else if number > ceiling && ceiling < 0 {",
      "lowered to the ceiling"),
@@ -100,9 +99,8 @@ MODES = [
      "Mode::Stamp => Some(figures.sum()),", "stamp sums wrap"),
     ("mode.rs", "held.unwrap_or(i64::MIN)", "held.unwrap_or(i64::MIN + 1)",
      "nothing is stored as -2^63"),
-    ("mode.rs", "mode == Mode::Heaviest && number == i64::MIN", "number == i64::MIN",
-     "-2^63 is nothing in mode 2 alone"),
-    ("mode.rs", "Mode::Eaten => 3,", "Mode::Eaten => 5,", "the mode is 1 to 4"),
+    ("mode.rs", "matches!(mode, Mode::Heaviest | Mode::Eaten) && number == i64::MIN",
+     "number == i64::MIN", "-2^63 is nothing in modes 2 and 5 alone"),
 ]
 
 # Summaries of chunks.
@@ -207,17 +205,18 @@ PLANS = [
     ("plan.rs", "lowest: *depths.iter().min()?", "lowest: *depths.iter().max()?",
      "lowest depth of a line"),
     ("plan.rs", "put(&mut out, 19, 2);", "put(&mut out, 20, 2);", "a line has kind 19"),
-    ("run.rs", "l: figure(Some(-FAR)),",
-     "l: hill_at(row, line.i).unclosed_at(line.lowest + 1).record.floor,",
+    ("run.rs", "(figure(Some(-FAR)), figure(Some(FAR)))",
+     "(hill_at(row, line.i).unclosed_at(line.lowest + 1).record.floor, figure(Some(FAR)))",
      "slip: the floor applied once to a whole run"),
-    ("run.rs", "h: figure(Some(FAR)) }",
-     "h: hill_at(row, line.i).unclosed_at(line.lowest + 1).record.ceiling }",
+    ("run.rs", "(figure(Some(-FAR)), figure(Some(FAR)))",
+     "(figure(Some(-FAR)), hill_at(row, line.i).unclosed_at(line.lowest + 1).record.ceiling)",
      "slip: the ceiling applied once to a whole run"),
     ("run.rs", "a: all_on_the_way(row, line),", "a: figure(Some(0)),",
-     "mode 3: a adds all on the way"),
+     "mode 5: a adds all on the way"),
     ("run.rs", "a: greatest_beside(row, line),", "a: Some(greatest_beside(row, line).unwrap_or(0)),",
      "mode 2: A may be nothing"),
-    ("run.rs", "z: figure(None),", "z: figure(Some(0)),", "mode 2: z for nothing"),
+    ("run.rs", "Run::Heaviest { z: figure(None),", "Run::Heaviest { z: figure(Some(0)),",
+     "mode 2: z for nothing"),
     ("run.rs", "m: modulo_2_32(figure(Some(1)) - figure(Some(0))),", "m: 31,",
      "mode 4: m over all levels"),
     ("run.rs", "put(&mut out, 20, 2);", "put(&mut out, 19, 2);", "a run has kind 20"),
@@ -362,14 +361,72 @@ BATCH = [
      "    }).collect(), capacity)", "the log of a table has records of length 18, without a batch"),
 ]
 
-TABLE = RECORDS + LOG + MODES + SUMMARIES + MERGING + ACCEPTING + PLANS + CALLS + DAY_TABLE + BATCH
+# Document 02, L3: a drop is taken at its value.
+DROPS = [
+    ("mode.rs", "(Mode::Eaten, None) => v,",
+     "(Mode::Eaten, None) => between(v, record.floor, record.ceiling),",
+     "a drop counts as it is (no record does)"),
+    ("mode.rs", "(Mode::Eaten, Some(sum)) => between(v + sum, record.floor, record.ceiling),",
+     "(Mode::Eaten, Some(sum)) => v + sum,", "a drop counts as it is (every record does)"),
+    ("mode.rs", "(Mode::Eaten, None) => v,", "(Mode::Eaten, None) => v.max(record.floor),",
+     "a drop is not raised to its floor"),
+    ("mode.rs", "(Mode::Eaten, None) => v,", "(Mode::Eaten, None) => v.min(record.ceiling),",
+     "a drop is not lowered to its ceiling"),
+    ("mode.rs", "(Mode::Eaten, None) => v,", "(Mode::Eaten, None | Some(0)) => v,",
+     "a drop holds nothing: one that holds 0 grams is none"),
+    ("mode.rs", "Mode::Eaten => figures.reduce(|one, other| one + other),",
+     "Mode::Eaten => Some(figures.sum()),", "mode 5: nothing held is not 0"),
+    ("mode.rs", "Mode::Eaten => figures.reduce(|one, other| one + other),",
+     "Mode::Eaten => figures.max(),", "mode 5: the sum of the held figures"),
+    ("mode.rs", "matches!(mode, Mode::Heaviest | Mode::Eaten)", "mode == Mode::Heaviest",
+     "mode 5: nothing held is -2^63"),
+    ("mode.rs", "Mode::Eaten => 5,", "Mode::Eaten => 3,", "this is mode 5"),
+    ("mode.rs", "find(|mode| mode.number() == number)",
+     "find(|mode| mode.number() == number || number == 3 && *mode == Mode::Eaten)",
+     "mode 3 is out of use"),
+    ("gate.rs", "Mode::from_number(mode)", "Mode::from_number(if mode == 3 { 5 } else { mode })",
+     "mode 3 gets 1 as an argument"),
+    ("layout.rs", "Mode::from_number(field16(bytes, 4) as u32)",
+     "Mode::from_number(if bytes[4..6] == [3, 0] { 5 } else { field16(bytes, 4) as u32 })",
+     "mode 3 gets 5 within a summary"),
+    ("layout.rs", ".chain(right).flatten().collect();",
+     ".chain(right).map(|value| value.unwrap_or(1)).collect();",
+     "-2^63 counts 0 in the range sum"),
+    ("run.rs", "Run::Eaten { z: figure(None),", "Run::Eaten { z: figure(Some(0)),",
+     "mode 5: z for nothing, not for 0"),
+    ("run.rs", "Run::Eaten { z: figure(None),",
+     "Run::Eaten { z: between(all_on_the_way(row, line), l, h),",
+     "mode 5: z is not a held between l and h"),
+    ("run.rs", "Run::Eaten { z: figure(None),", "Run::Eaten { z: all_on_the_way(row, line),",
+     "mode 5: z is not a"),
+    ("run.rs", "(figure(Some(-FAR)), figure(Some(FAR)))",
+     "(figure(Some(-FAR)).min(figure(None)), figure(Some(FAR)).max(figure(None)))",
+     "mode 5: l and h are the ends for numbers, whatever z is"),
+    ("run.rs", "            None => z,\n", "            None => between(a, l, h),\n",
+     "mode 5: nothing goes through a run to z"),
+    ("run.rs", "(Mode::Eaten, 38, vec![z, a, l, h])", "(Mode::Eaten, 30, vec![z, a, l, h])",
+     "mode 5: a run has length 38"),
+    ("run.rs", "(Mode::Eaten, 38, vec![z, a, l, h])", "(Mode::Eaten, 30, vec![a, l, h])",
+     "mode 5: a run has four numbers"),
+    ("run.rs", "vec![z, a, l, h]", "vec![a, z, l, h]", "mode 5: z, then a, l, h"),
+    ("run.rs", "vec![z, a, l, h]", "vec![a, l, h, z]", "mode 5: z comes first"),
+    ("mode.rs", "[Mode::Net, Mode::Heaviest, Mode::Eaten, Mode::Stamp]",
+     "[Mode::Net, Mode::Heaviest, Mode::Stamp, Mode::Eaten]", "the day program prints it third"),
+]
+
+TABLE = (RECORDS + LOG + MODES + SUMMARIES + MERGING + ACCEPTING + PLANS + CALLS + DAY_TABLE + BATCH
+         + DROPS)
 
 
 def cargo(workspace, *arguments):
-    """Runs cargo test in the scratch copy; its exit status, or None when it hangs."""
+    """Runs cargo test in the scratch copy; its exit status, or None when it hangs.
+
+    What is built stays there: in a folder of another copy cargo would take that copy's
+    last change for this one, since the files have their old times."""
     command = ["cargo", "test", "-q", "--offline", "-p", "reference", "--tests"]
     environment = dict(
         os.environ,
+        CARGO_TARGET_DIR=str(workspace / "target"),
         CARGO_PROFILE_TEST_OPT_LEVEL="1",
         CARGO_PROFILE_TEST_DEBUG="0",
         RUST_BACKTRACE="0",

@@ -19,22 +19,24 @@
 extern "C" {
 #endif
 
-/* The figure that is asked for. */
+/* The figure that is asked for. "Nothing held" counts as 0 in net and stamp; in heaviest and eaten it is no number, and is stored as
+ * -2^63. The number 3 was eaten's while floor and ceiling bound every record, and is out of use. */
 enum tulghimo_mode {
     TULGHIMO_NET = 1,      /* a record's value and the held figures, added */
     TULGHIMO_HEAVIEST = 2, /* a record's value and the greatest held figure */
-    TULGHIMO_EATEN = 3,    /* as net, but at each record raised to its floor and lowered to its ceiling */
-    TULGHIMO_STAMP = 4     /* a record's value and 31 times the held stamps, modulo 2^32 */
+    TULGHIMO_STAMP = 4,    /* a record's value and 31 times the held stamps, modulo 2^32 */
+    TULGHIMO_EATEN = 5     /* as net, but a record that holds others is raised to its floor and lowered to its ceiling; one that
+                              holds nothing counts as it is */
 };
 
 /* Why a call is refused: it answers minus one of these. */
 enum tulghimo_refusal {
-    TULGHIMO_REFUSED_MODE = 1,              /* the mode is not 1 to 4 */
+    TULGHIMO_REFUSED_MODE = 1,              /* the mode is not 1, 2, 4 or 5 */
     TULGHIMO_REFUSED_TOO_LONG = 2,          /* the chunk is longer than 65,536 bytes, or the table than 38,220 */
     TULGHIMO_REFUSED_UNREADABLE = 3,        /* a record, or a line of a table, is not readable: no readable full open
                                                record could hold it, or the table's length is no multiple of 14 */
     TULGHIMO_REFUSED_PIECE_COUNT = 4,       /* there are not 2 to 64 pieces */
-    TULGHIMO_REFUSED_NOT_A_SUMMARY = 5,     /* a given piece is not exactly one summary */
+    TULGHIMO_REFUSED_NOT_A_SUMMARY = 5,     /* a given piece is not exactly one summary of a mode in use */
     TULGHIMO_REFUSED_MIXED_MODES = 6,       /* the pieces are not all of one mode */
     TULGHIMO_REFUSED_LEVEL_GAP = 7,         /* neighbouring records do not meet at one level */
     TULGHIMO_REFUSED_LEVEL_ZERO = 8,        /* a level between records is 0 */
@@ -54,7 +56,8 @@ enum tulghimo_length {
     TULGHIMO_LINE = 12, /* length 12, kind 19, chunks i and j, lowest and highest depth: 16 bits each */
     TULGHIMO_LONGEST_PLAN = 125 * TULGHIMO_LINE,
     TULGHIMO_RUN = 30, /* length 30, kind 20, mode: 16 bits each; three signed 64-bit numbers */
-    TULGHIMO_LONGEST_RUNS = 125 * TULGHIMO_RUN,
+    TULGHIMO_EATEN_RUN = 38, /* in mode 5: length 38, and four numbers */
+    TULGHIMO_LONGEST_RUNS = 125 * TULGHIMO_EATEN_RUN,
     TULGHIMO_TABLE_LINE = 14, /* depth: 16 bits; value, floor and ceiling: signed, 32 bits each */
     TULGHIMO_LONGEST_TABLE_TAKEN = 2730 * TULGHIMO_TABLE_LINE, /* by tulghimo_write_log */
     TULGHIMO_LONGEST_LOG_WRITTEN = 2730 * (18 + 6),            /* an open and a close for each line */
@@ -82,20 +85,24 @@ int64_t tulghimo_merge(const uint8_t *left, size_t ln, const uint8_t *right, siz
 /* A row of 2 to 64 summaries, end to end in log order, merged: the length of theirs, or -4, -5, -6 or -12. */
 int64_t tulghimo_merge_row(const uint8_t *row, size_t n, uint8_t *out, size_t cap);
 
-/* The figure of one summary: 0 and the figure, or -5 or -7 to -11. */
+/* The figure of one summary: 0 and the figure, or -5 or -7 to -11. In heaviest and eaten it is -2^63 where bytes that no chunk makes
+ * hold nothing. */
 int64_t tulghimo_finish(const uint8_t *summary, size_t n, int64_t figure[1]);
 
 /* The join plan of a row of 2 to 64 summaries, end to end in log order: the length of its lines, or -4 to -12. */
 int64_t tulghimo_plan(const uint8_t *row, size_t n, uint8_t *out, size_t cap);
 
-/* The runs of that plan, one for each line, in its order: their length, or -4 to -12. */
+/* The runs of that plan, one for each line, in its order: their length, or -4 to -12. A run gives the figure of the join's
+ * lowest record by x, the combined figures that its highest record holds and that lie wholly in neither of the two chunks. Net:
+ * (a, 0, 0), x + a. Heaviest: (z, A, B), z for nothing, else the greater of A, which may be nothing, and x + B. Eaten: (z, a, l, h),
+ * z for nothing, else x + a held between l and h; z may lie outside these. Stamp: (m, q, 0), m * x + q modulo 2^32. */
 int64_t tulghimo_runs(const uint8_t *row, size_t n, uint8_t *out, size_t cap);
 
 /* The work along the plan of a row: 0 and the figure, the joins used and the number of levels folded, or -4 to -11. */
 int64_t tulghimo_work(const uint8_t *row, size_t n, int64_t totals[3]);
 
-/* The figures of a whole log, of the length of a chunk: 0 and net, heaviest, eaten and stamp, or -2, -3, -7, -8, -10 or -11. (No log
- * of this length has enough records for -9.) */
+/* The figures of a whole log, of the length of a chunk: 0 and net, heaviest, eaten (mode 5) and stamp, in this order, or -2, -3, -7,
+ * -8, -10 or -11. (No log of this length has enough records for -9.) */
 int64_t tulghimo_day(const uint8_t *log, size_t n, int64_t figures[4]);
 
 /* The log of a day table, which has at most 2,730 lines of 14 bytes, in log order: a full open record (length 18) for each line, and

@@ -41,6 +41,7 @@ static void nothing_in(void) {
     uint8_t out[6] = {0};
     is("read_record", tulghimo_read_record(NULL, 0, numbers), -3);
     is("summarise, mode 0", tulghimo_summarise(NULL, 0, 0, NULL, 0), -1);
+    is("summarise, mode 3", tulghimo_summarise(NULL, 0, 3, NULL, 0), -1);
     is("summarise", tulghimo_summarise(NULL, 0, 1, out, sizeof out), 6);
     is("summarise: a blank", memcmp(out, blanks, sizeof out), 0);
     is("merge", tulghimo_merge(NULL, 0, NULL, 0, NULL, 0), -5);

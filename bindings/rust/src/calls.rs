@@ -76,7 +76,7 @@ pub fn summarise(chunk: &[u8], mode: Mode) -> Result<Vec<u8>, Refusal> {
 /// use tulghimo::{example, finish, merge, summarise, Mode};
 ///
 /// let (one, two) = example::two_stretches();
-/// for (mode, figure) in Mode::ALL.into_iter().zip([12, 15, 14, 72]) {
+/// for (mode, figure) in Mode::ALL.into_iter().zip([12, 15, 12, 72]) {
 ///     let merged = merge(&summarise(one, mode)?, &summarise(two, mode)?)?;
 ///     assert_eq!(merged, summarise(example::LOG_D, mode)?);
 ///     assert_eq!(finish(&merged), Ok(figure));
@@ -124,15 +124,22 @@ pub fn plan(row: &[u8]) -> Result<Vec<Line>, Refusal> {
 /// use tulghimo::{example, runs, summarise, Mode, Run};
 ///
 /// let (one, two) = example::two_stretches();
-/// for (mode, numbers) in Mode::ALL.into_iter().zip([[12, 0, 0], [15, 7, 15], [15, 10, 14], [961, 72, 0]]) {
+/// let of_d = [
+///     Run::Net { a: 12 },
+///     Run::Heaviest { z: 15, a: Some(7), b: 15 },
+///     // With nothing inside, 5 holds nothing and is not lowered to 4: 10 + 5 - 3.
+///     Run::Eaten { z: 12, a: 12, l: 7, h: 11 },
+///     Run::Stamp { m: 961, q: 72 },
+/// ];
+/// for (mode, run) in Mode::ALL.into_iter().zip(of_d) {
 ///     let row = [summarise(one, mode)?, summarise(two, mode)?].concat();
-///     assert_eq!(runs(&row), Ok(vec![Run { mode, numbers }]));
+///     assert_eq!(runs(&row), Ok(vec![run]));
+///     assert_eq!(run.mode(), mode);
 /// }
 /// # Ok::<(), tulghimo::Refusal>(())
 /// ```
 pub fn runs(row: &[u8]) -> Result<Vec<Run>, Refusal> {
-    let runs = written(raw::LONGEST_RUNS, |out| raw::runs(row, out))?;
-    runs.chunks_exact(Run::LENGTH).map(Run::read).collect()
+    Run::read_all(&written(raw::LONGEST_RUNS, |out| raw::runs(row, out))?)
 }
 
 /// The work along a row's join plan: the figure of the log, without merging its summaries. Refused: 4 to 11.
@@ -143,7 +150,7 @@ pub fn runs(row: &[u8]) -> Result<Vec<Run>, Refusal> {
 /// let (one, two) = example::two_stretches();
 /// let row = [summarise(one, Mode::Eaten)?, summarise(two, Mode::Eaten)?].concat();
 /// // One line, of the depths 0 and 1.
-/// assert_eq!(work(&row), Ok(Work { figure: 14, joins: 1, levels: 2 }));
+/// assert_eq!(work(&row), Ok(Work { figure: 12, joins: 1, levels: 2 }));
 /// # Ok::<(), tulghimo::Refusal>(())
 /// ```
 pub fn work(row: &[u8]) -> Result<Work, Refusal> {
@@ -152,14 +159,14 @@ pub fn work(row: &[u8]) -> Result<Work, Refusal> {
     Ok(Work { figure, joins: joins as u32, levels: levels as u32 })
 }
 
-/// The figure of one summary: that of the log it stands for. In mode 2 bytes that no chunk makes may hold nothing, which is
+/// The figure of one summary: that of the log it stands for. In modes 2 and 5 bytes that no chunk makes may hold nothing, which is
 /// -2^63. Refused: 5, and 7 to 11 where the log is not whole.
 ///
 /// ```
 /// use tulghimo::{example, finish, summarise, Mode, Refusal};
 ///
 /// let whole = summarise(example::LOG_D, Mode::Eaten)?;
-/// assert_eq!(finish(&whole), Ok(14));
+/// assert_eq!(finish(&whole), Ok(12));
 ///
 /// let blank = summarise(&[], Mode::Eaten)?;
 /// assert_eq!(finish(&blank), Err(Refusal::NoRecord));
@@ -176,8 +183,8 @@ pub fn finish(summary: &[u8]) -> Result<i64, Refusal> {
 /// use tulghimo::{day, example, Figures, Refusal};
 ///
 /// let figures = day(example::LOG_D)?;
-/// assert_eq!(figures, Figures { net: 12, heaviest: 15, eaten: 14, stamp: 72 });
-/// assert_eq!(figures.to_string(), "12 15 14 72");
+/// assert_eq!(figures, Figures { net: 12, heaviest: 15, eaten: 12, stamp: 72 });
+/// assert_eq!(figures.to_string(), "12 15 12 72");
 ///
 /// let (one, _) = example::two_stretches();
 /// assert_eq!(day(one), Err(Refusal::NotWhole));

@@ -10,8 +10,8 @@ pub const LONGEST_SUMMARY: usize = 1_788;
 /// No plan is longer, in bytes: that of 64 summaries has at most 2 × 64 - 3 lines.
 pub const LONGEST_PLAN: usize = 125 * crate::Line::LENGTH;
 
-/// No runs are longer, in bytes: there is one for each line.
-pub const LONGEST_RUNS: usize = 125 * crate::Run::LENGTH;
+/// No runs are longer, in bytes: there is one for each line, of 38 bytes in mode 5, of 30 in the others.
+pub const LONGEST_RUNS: usize = 125 * crate::Run::LONGEST;
 
 /// No longer table is taken by [`write_log`], in bytes: it has at most 2,730 lines.
 pub const LONGEST_TABLE_TAKEN: usize = 2_730 * crate::TableLine::LENGTH;
@@ -87,8 +87,7 @@ pub fn work(row: &[u8], totals: &mut [i64; 3]) -> i64 {
     unsafe { ffi::tulghimo_work(row.as_ptr(), row.len(), totals.as_mut_ptr()) }
 }
 
-/// The figures of a whole log: 0 and net, heaviest, eaten and stamp, or minus the refusal (2, 3, 7, 8, 10 or
-/// 11).
+/// The figures of a whole log: 0 and net, heaviest, eaten (mode 5) and stamp, or minus the refusal (2, 3, 7, 8, 10 or 11).
 pub fn day(log: &[u8], figures: &mut [i64; 4]) -> i64 {
     // SAFETY: the slice has as many bytes as it is said to have, and the array has the four numbers that the call may store.
     unsafe { ffi::tulghimo_day(log.as_ptr(), log.len(), figures.as_mut_ptr()) }

@@ -18,8 +18,8 @@ macro_rules! refusals {
             /// All refusals, in the order of their numbers.
             pub const ALL: [Refusal; 13] = [$(Refusal::$name),*];
 
-            /// The question that got a "no", in document 01's words; 13 is document 02's, as a question. What a day table is asked
-            /// under 2, 3 and 10 is told by the reason.
+            /// The question that got a "no", in document 01's words, 1 with document 02's modes; 13 is document 02's, as a question.
+            /// What a day table is asked under 2, 3 and 10 is told by the reason.
             pub fn question(self) -> &'static str {
                 match self { $(Refusal::$name => $question,)* }
             }
@@ -33,7 +33,7 @@ macro_rules! refusals {
 }
 
 refusals! {
-    Mode = 1, "Is the mode 1 to 4?", "the mode is not 1 to 4";
+    Mode = 1, "Is the mode 1, 2, 4 or 5?", "the mode is not 1, 2, 4 or 5";
     TooLong = 2, "Is the chunk at most 65,536 bytes?", "the chunk is longer than 65,536 bytes, or the table than 38,220";
     Unreadable = 3, "Is every record readable?", "a record, or a line of a table, is not readable";
     PieceCount = 4, "Are there 2 to 64 pieces?", "there are not 2 to 64 pieces";

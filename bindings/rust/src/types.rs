@@ -11,23 +11,31 @@ pub enum Mode {
     Net = 1,
     /// A record's value and the greatest held figure.
     Heaviest = 2,
-    /// As net, but at each record raised to its floor and lowered to its ceiling.
-    Eaten = 3,
+    /// As net, but a record that holds others is raised to its floor and lowered to its ceiling. One that holds nothing counts as it
+    /// is.
+    Eaten = 5,
     /// A record's value and 31 times the held stamps, modulo 2^32.
     Stamp = 4,
 }
 
 impl Mode {
-    /// The four modes in the order of their numbers.
+    /// The four modes, in the order of [`Figures`].
     pub const ALL: [Mode; 4] = [Mode::Net, Mode::Heaviest, Mode::Eaten, Mode::Stamp];
 
-    /// The mode's number, 1 to 4.
+    /// The mode's number: 1, 2, 4 or 5.
     pub fn number(self) -> u32 {
         self as u32
     }
 }
 
-/// A number that is not 1 to 4 gets refusal 1.
+/// A number of no mode gets refusal 1. Eaten had the number 3 while floor and ceiling bound every record.
+///
+/// ```
+/// use tulghimo::{Mode, Refusal};
+///
+/// assert_eq!(Mode::try_from(5), Ok(Mode::Eaten));
+/// assert_eq!(Mode::try_from(3), Err(Refusal::Mode));
+/// ```
 impl TryFrom<u32> for Mode {
     type Error = Refusal;
 
@@ -89,26 +97,57 @@ impl Line {
     }
 }
 
-/// The run of a join: the figure of its lowest-depth record as a function of x, by three numbers. Net: (a, 0, 0), x + a. Heaviest:
-/// (z, A, B), z for nothing, else the greater of A and x + B. Eaten: (a, l, h), x + a held between l and h. Stamp: (m, q, 0),
-/// m·x + q modulo 2^32.
+/// The run of a join: the figure of its lowest-depth record as a function of x, the combined figures that its highest-depth record
+/// holds and that lie wholly in neither of the two chunks.
 #[derive(Clone, Copy, Debug, PartialEq, Eq, Hash)]
 #[allow(missing_docs)]
-pub struct Run {
-    pub mode: Mode,
-    /// In heaviest A is -2^63 where nothing else is on the way.
-    pub numbers: [i64; 3],
+pub enum Run {
+    /// x + a.
+    Net { a: i64 },
+    /// z for nothing, else the greater of a, where there is one, and x + b. There is none where no other figure is on the way.
+    Heaviest { z: i64, a: Option<i64>, b: i64 },
+    /// z for nothing, else x + a held between l and h. z may lie outside these: with nothing inside, the highest-depth record is not
+    /// bound by its floor and ceiling if it holds nothing else.
+    Eaten { z: i64, a: i64, l: i64, h: i64 },
+    /// m·x + q modulo 2^32.
+    Stamp { m: u32, q: u32 },
 }
 
 impl Run {
-    /// In bytes.
-    pub(crate) const LENGTH: usize = 30;
+    /// In bytes: a run of eaten has four numbers, all others three.
+    pub(crate) const LONGEST: usize = 6 + 4 * 8;
 
-    /// After length and kind come the mode and the three numbers.
-    pub(crate) fn read(bytes: &[u8]) -> Result<Run, Refusal> {
-        let mode = Mode::try_from(u32::from(unsigned(bytes, 4)))?;
-        let number = |place: usize| i64::from_le_bytes(bytes[place..place + 8].try_into().expect("8 bytes"));
-        Ok(Run { mode, numbers: [6, 14, 22].map(number) })
+    /// The mode that it is of.
+    pub fn mode(&self) -> Mode {
+        match self {
+            Run::Net { .. } => Mode::Net,
+            Run::Heaviest { .. } => Mode::Heaviest,
+            Run::Eaten { .. } => Mode::Eaten,
+            Run::Stamp { .. } => Mode::Stamp,
+        }
+    }
+
+    /// The runs in these bytes. Each begins with its length, kind and mode, and its numbers follow.
+    pub(crate) fn read_all(mut bytes: &[u8]) -> Result<Vec<Run>, Refusal> {
+        let mut runs = Vec::new();
+        while !bytes.is_empty() {
+            let (run, rest) = bytes.split_at(unsigned(bytes, 0).into());
+            runs.push(Run::read(run)?);
+            bytes = rest;
+        }
+        Ok(runs)
+    }
+
+    /// One run. In heaviest -2^63 is stored where there is no a.
+    fn read(bytes: &[u8]) -> Result<Run, Refusal> {
+        let number = |place: usize| i64::from_le_bytes(bytes[6 + 8 * place..14 + 8 * place].try_into().expect("8 bytes"));
+        Ok(match Mode::try_from(u32::from(unsigned(bytes, 4)))? {
+            Mode::Net => Run::Net { a: number(0) },
+            Mode::Heaviest => Run::Heaviest { z: number(0), a: Some(number(1)).filter(|&a| a != i64::MIN), b: number(2) },
+            Mode::Eaten => Run::Eaten { z: number(0), a: number(1), l: number(2), h: number(3) },
+            // Both are 0 to 2^32 - 1.
+            Mode::Stamp => Run::Stamp { m: number(0) as u32, q: number(1) as u32 },
+        })
     }
 }
 

@@ -5,12 +5,12 @@ use crate::peer;
 use reference::record::records_of;
 use std::hint::black_box;
 use std::time::Instant;
-use tulghimo::raw;
+use tulghimo::{raw, Mode};
 
 const ROUNDS: usize = 200;
 
-/// What is timed: summarise in the modes 1 to 4, and day.
-const CALLS: [&str; 5] = ["summarise 1", "2", "3", "4", "day"];
+/// What is timed: summarise in each mode, and day.
+const CALLS: [&str; 5] = ["summarise 1", "2", "5", "4", "day"];
 
 fn seconds(call: impl FnOnce()) -> f64 {
     let start = Instant::now();
@@ -20,8 +20,8 @@ fn seconds(call: impl FnOnce()) -> f64 {
 
 /// The library's call on a log; `out` is lent for a summary.
 fn library(call: usize, log: &[u8], out: &mut [u8]) {
-    if call < 4 {
-        black_box(raw::summarise(black_box(log), call as u32 + 1, out));
+    if let Some(mode) = Mode::ALL.get(call) {
+        black_box(raw::summarise(black_box(log), mode.number(), out));
     } else {
         let mut figures = [0; 4];
         black_box(raw::day(black_box(log), &mut figures));
@@ -31,8 +31,8 @@ fn library(call: usize, log: &[u8], out: &mut [u8]) {
 
 /// The recursion for the same figure, or for all four.
 fn recursion(call: usize, log: &[u8]) {
-    if call < 4 {
-        black_box(peer::figure(black_box(log), call as u32 + 1));
+    if let Some(&mode) = Mode::ALL.get(call) {
+        black_box(peer::figure(black_box(log), mode));
     } else {
         black_box(peer::figures(black_box(log)));
     }
@@ -53,12 +53,11 @@ fn check(log: &[u8], out: &mut [u8]) {
     let mut all = [0; 4];
     assert_eq!(raw::day(log, &mut all), 0);
     assert_eq!(peer::figures(log), Some(all));
-    for mode in 1..=4u32 {
-        let length = raw::summarise(log, mode, out);
+    for (mode, of_day) in Mode::ALL.into_iter().zip(all) {
+        let length = raw::summarise(log, mode.number(), out);
         let mut figure = [0];
         assert_eq!(raw::finish(&out[..length as usize], &mut figure), 0);
-        assert_eq!(figure[0], all[mode as usize - 1]);
-        assert_eq!(peer::figure(log, mode), Some(figure[0]));
+        assert_eq!((figure[0], peer::figure(log, mode)), (of_day, Some(of_day)));
     }
 }
 

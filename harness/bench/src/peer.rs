@@ -1,5 +1,7 @@
 //! The plain recursion in C, `c/recursion.c`.
 
+use tulghimo::Mode;
+
 mod ffi {
     extern "C" {
         pub fn plain_net(log: *const u8, length: usize, figure: *mut i64) -> bool;
@@ -11,12 +13,12 @@ mod ffi {
 }
 
 /// The figure of a well-formed log in one mode.
-pub fn figure(log: &[u8], mode: u32) -> Option<i64> {
+pub fn figure(log: &[u8], mode: Mode) -> Option<i64> {
     let recursion = match mode {
-        1 => ffi::plain_net,
-        2 => ffi::plain_heaviest,
-        3 => ffi::plain_eaten,
-        _ => ffi::plain_stamp,
+        Mode::Net => ffi::plain_net,
+        Mode::Heaviest => ffi::plain_heaviest,
+        Mode::Eaten => ffi::plain_eaten,
+        Mode::Stamp => ffi::plain_stamp,
     };
     let mut figure = 0;
     // SAFETY: the slice has as many bytes as it is said to have, and one number may be stored.
@@ -38,14 +40,15 @@ mod tests {
     use reference::gen::raw::{close, short, words};
     use reference::gen::Rng;
     use reference::record::encode_all;
+    use tulghimo::Mode;
 
     /// The recursion gives what the library gives, in each mode and for all four, and has no figure where the library refuses.
     fn agrees(log: &[u8]) -> bool {
         let mut stored = [0; 4];
         let expected = (tulghimo::raw::day(log, &mut stored) == 0).then_some(stored);
         assert_eq!(figures(log), expected, "{log:?}");
-        for mode in 1..=4 {
-            assert_eq!(figure(log, mode), expected.map(|all| all[mode as usize - 1]), "mode {mode}: {log:?}");
+        for (place, mode) in Mode::ALL.into_iter().enumerate() {
+            assert_eq!(figure(log, mode), expected.map(|all| all[place]), "{mode:?}: {log:?}");
         }
         expected.is_some()
     }
@@ -100,8 +103,8 @@ mod tests {
     /// The library takes so many in several chunks only.
     #[test]
     fn takes_100_000_opened_and_no_more() {
-        assert_eq!(figure(&encode_all(&flat(100_000)), 1), Some(100_000));
-        assert_eq!(figure(&encode_all(&flat(100_001)), 1), None);
+        assert_eq!(figure(&encode_all(&flat(100_000)), Mode::Net), Some(100_000));
+        assert_eq!(figure(&encode_all(&flat(100_001)), Mode::Net), None);
         assert_eq!(figures(&encode_all(&flat(100_001))), None);
     }
 }

@@ -4,6 +4,7 @@
 use crate::chunks::{farm_day, many, random, Records, COUNT};
 use reference::gen::forged::{self, Levels};
 use reference::gen::logs::{log, Shape, Values};
+use reference::gen::raw::run_length;
 use reference::gen::Rng;
 use reference::layout::encode;
 use reference::mode::Mode;
@@ -70,9 +71,10 @@ fn along_the_plan(mode: Mode, chunks: usize, out: &mut [u8]) -> [f64; 5] {
     let rows = many(|rng| deep_row(rng, mode, chunks));
     let mut totals = [0i64; 3];
     let mut all_lines = 0;
+    let run = run_length(mode.number() as u16) as i64;
     for row in &rows {
         let lines = raw::plan(row, out) / 12;
-        assert!(lines > 0 && raw::runs(row, out) == 30 * lines && raw::work(row, &mut totals) == 0);
+        assert!(lines > 0 && raw::runs(row, out) == run * lines && raw::work(row, &mut totals) == 0);
         all_lines += lines;
     }
     let plan = micros(|k| {

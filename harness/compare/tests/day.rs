@@ -20,8 +20,8 @@ fn close(depth: usize) -> Record {
 fn log_d() {
     let log = [open(0, 10, 0, 100), open(1, 5, 0, 4), close(1), open(1, -3, 0, 100), close(1), close(0)];
     let answer = LentNumbers::default().lend(|figures| tulghimo::raw::day(&encode_all(&log), figures));
-    // Document 01: `12 15 14 72`.
-    assert_eq!(answer, (0, [12, 15, 14, 72]));
+    // Document 02: `12 15 12 72`.
+    assert_eq!(answer, (0, [12, 15, 12, 72]));
 }
 
 #[test]

@@ -92,7 +92,7 @@ fn one_list_on_log_d() {
     ];
     let (answers, finished) = claim(Mode::Eaten, &log_d(), &steps);
     assert_eq!(answers, [Err(12), Ok(24), Err(12), Ok(44), Ok(40), Err(12), Ok(24)]);
-    assert_eq!(finished, Some(Ok(14)));
+    assert_eq!(finished, Some(Ok(12)));
 }
 
 #[test]

@@ -8,5 +8,9 @@ mod batch;
 mod batch_laws;
 #[path = "../../reference/tests/document_02/day_table.rs"]
 mod day_table;
+#[path = "../../reference/tests/document_02/drop_at_value.rs"]
+mod drop_at_value;
+#[path = "../../reference/tests/document_02/drop_laws.rs"]
+mod drop_laws;
 #[path = "../../reference/tests/document_02/round_trips.rs"]
 mod round_trips;

@@ -324,6 +324,8 @@ fn modes_5_before_6_and_12_last() {
                 let mut row = bytes_of(&two);
                 row[place][2] = 15;
                 both_agree(&row);
+                row[place] = forged::out_of_use(&mut rng);
+                both_agree(&row);
             }
             both_agree(&[forged_bytes(&mut rng, left), forged_bytes(&mut rng, right)]);
         }

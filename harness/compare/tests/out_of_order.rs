@@ -33,7 +33,7 @@ fn two_tanks() {
 
 #[test]
 fn neighbours_in_any_order() {
-    let sent = four_stretches().map(|stretch| calls::summarise(&stretch, 3, 1788).expect("readable"));
+    let sent = four_stretches().map(|stretch| calls::summarise(&stretch, 5, 1788).expect("readable"));
     let merge = |left: &[u8], right: &[u8]| calls::merge(left, right, 1788).expect("of one mode");
     let [one, two, three, four] = &sent;
     let orders = [
@@ -50,7 +50,7 @@ fn neighbours_in_any_order() {
 
 #[test]
 fn a_lost_end_is_refused() {
-    let sent = four_stretches().map(|stretch| calls::summarise(&stretch, 3, 1788).expect("readable"));
+    let sent = four_stretches().map(|stretch| calls::summarise(&stretch, 5, 1788).expect("readable"));
     for rest in [&sent[1..], &sent[..3]] {
         assert_eq!(calls::finish(&calls::merge_row(&rest.concat(), 1788).expect("of one mode")), Err(11));
     }

@@ -2,6 +2,7 @@
 
 use compare::{agree, LentBytes, LentNumbers};
 use reference::calls;
+use reference::gen::raw::run_length;
 use reference::gen::{damage, forged, logs, Rng};
 use reference::layout::encode;
 use reference::mode::{Held, Mode};
@@ -10,6 +11,7 @@ use reference::record::{encode_all, Record};
 use reference::run::join_by_records;
 use reference::tree::log_figure;
 use reference::work::levels_folded;
+use tulghimo::Run;
 
 const AMPLE: usize = 8192;
 
@@ -60,17 +62,16 @@ fn lines_are_the_joins_by_records() {
     });
 }
 
-/// x through a run by its three numbers, in document 01's words for each mode.
-fn through(run: &tulghimo::Run, x: Held) -> i64 {
-    let [first, second, third] = run.numbers;
-    match (run.mode, x) {
-        (tulghimo::Mode::Net, x) => x.unwrap_or(0) + first,
-        (tulghimo::Mode::Heaviest, None) => first,
-        (tulghimo::Mode::Heaviest, Some(x)) => second.max(x + third),
-        (tulghimo::Mode::Eaten, x) => (x.unwrap_or(0) + first).max(second).min(third),
-        (tulghimo::Mode::Stamp, x) => {
-            let product = i128::from(first) * i128::from(x.unwrap_or(0));
-            (product + i128::from(second)).rem_euclid(1 << 32) as i64
+/// x through a run by its numbers, in the documents' words for each mode.
+fn through(run: Run, x: Held) -> i64 {
+    match (run, x) {
+        (Run::Net { a }, x) => x.unwrap_or(0) + a,
+        (Run::Heaviest { z, .. } | Run::Eaten { z, .. }, None) => z,
+        (Run::Heaviest { a, b, .. }, Some(x)) => a.map_or(x + b, |a| a.max(x + b)),
+        (Run::Eaten { a, l, h, .. }, Some(x)) => (x + a).max(l).min(h),
+        (Run::Stamp { m, q }, x) => {
+            let product = i128::from(m) * i128::from(x.unwrap_or(0));
+            (product + i128::from(q)).rem_euclid(1 << 32) as i64
         }
     }
 }
@@ -80,7 +81,7 @@ fn a_run_is_the_figure_of_its_lowest_record_by_x() {
     cut_logs(0x91a8, |mode, _, chunks, lines| {
         let runs = tulghimo::runs(&row_of(chunks, mode)).expect("a well-formed log");
         assert_eq!(runs.len(), lines.len());
-        for (run, line) in runs.iter().zip(lines) {
+        for (run, line) in runs.into_iter().zip(lines) {
             let (x, figure) = join_by_records(mode, chunks, line);
             assert_eq!(through(run, x), figure, "{line:?}");
         }
@@ -102,7 +103,10 @@ fn plans_of_2p_minus_3_lines() {
     for count in 2..=64 {
         for mode in Mode::ALL {
             let row = row_of(&logs::longest_plan(&mut rng, count), mode);
-            assert_eq!(tulghimo::raw::plan(&row, &mut [0; AMPLE]), 12 * (2 * count as i64 - 3));
+            let lines = 2 * count - 3;
+            assert_eq!(tulghimo::raw::plan(&row, &mut [0; AMPLE]), 12 * lines as i64);
+            let runs = run_length(mode.number() as u16) * lines;
+            assert_eq!(tulghimo::raw::runs(&row, &mut [0; AMPLE]), runs as i64);
             agree(&row);
         }
     }

@@ -1,7 +1,7 @@
 //! The safe functions of the crate `tulghimo`: what they answer, in the types of their users, against the reference.
 
 use reference::calls;
-use reference::gen::raw::longest_log;
+use reference::gen::raw::{self as by_hand, longest_log};
 use reference::gen::{damage, forged, logs, tables, Rng};
 use reference::layout::encode;
 use reference::mode;
@@ -93,6 +93,17 @@ fn random_logs_and_their_chunks() {
     }
 }
 
+/// The bytes of a run.
+fn run_bytes(run: &Run) -> Vec<u8> {
+    let numbers = match *run {
+        Run::Net { a } => vec![a, 0, 0],
+        Run::Heaviest { z, a, b } => vec![z, a.unwrap_or(i64::MIN), b],
+        Run::Eaten { z, a, l, h } => vec![z, a, l, h],
+        Run::Stamp { m, q } => vec![m.into(), q.into(), 0],
+    };
+    by_hand::run(run.mode().number() as u16, &numbers)
+}
+
 fn agree_on_row(row: &[u8]) {
     assert_eq!(by_number(tulghimo::merge_row(row)), calls::merge_row(row, AMPLE));
     let plan = by_number(tulghimo::plan(row)).map(|lines| {
@@ -103,14 +114,7 @@ fn agree_on_row(row: &[u8]) {
         encode_plan(&lines.iter().map(plain).collect::<Vec<_>>())
     });
     assert_eq!(plan, calls::plan(row, AMPLE));
-    let runs = by_number(tulghimo::runs(row)).map(|runs| {
-        let of_one = |run: &Run| {
-            let mut bytes = vec![30, 0, 20, 0, run.mode.number() as u8, 0];
-            bytes.extend(run.numbers.iter().flat_map(|number| number.to_le_bytes()));
-            bytes
-        };
-        runs.iter().flat_map(of_one).collect::<Vec<u8>>()
-    });
+    let runs = by_number(tulghimo::runs(row)).map(|runs| runs.iter().flat_map(run_bytes).collect::<Vec<u8>>());
     assert_eq!(runs, calls::runs(row, AMPLE));
     let work = by_number(tulghimo::work(row)).map(|work| (work.figure, work.joins.into(), work.levels.into()));
     assert_eq!(work, calls::work(row));
@@ -154,14 +158,15 @@ fn the_header_has_the_same_numbers() {
         assert!(has(header, &constant), "{constant}");
     }
     assert!(header.contains(&format!("TULGHIMO_LONGEST_SUMMARY = {},", raw::LONGEST_SUMMARY)));
-    assert_eq!((raw::LONGEST_PLAN, raw::LONGEST_RUNS), (1500, 3750));
+    assert_eq!((raw::LONGEST_PLAN, raw::LONGEST_RUNS), (1500, 4750));
     assert_eq!((raw::LONGEST_TABLE_TAKEN, raw::LONGEST_LOG_WRITTEN, raw::LONGEST_TABLE_READ), (38_220, 65_520, 57_344));
     for constant in [
         "LONGEST_CHUNK = 65536,",
         "LINE = 12,",
         "LONGEST_PLAN = 125 * TULGHIMO_LINE,",
         "RUN = 30,",
-        "LONGEST_RUNS = 125 * TULGHIMO_RUN,",
+        "EATEN_RUN = 38,",
+        "LONGEST_RUNS = 125 * TULGHIMO_EATEN_RUN,",
         "TABLE_LINE = 14,",
         "LONGEST_TABLE_TAKEN = 2730 * TULGHIMO_TABLE_LINE,",
         "LONGEST_LOG_WRITTEN = 2730 * (18 + 6),",
@@ -173,8 +178,9 @@ fn the_header_has_the_same_numbers() {
 
 #[test]
 fn modes_by_number() {
-    for number in [0, 1, 2, 3, 4, 5, 257, 65_537, u32::MAX] {
+    for number in [0, 1, 2, 3, 4, 5, 6, 257, 65_537, 65_541, u32::MAX] {
         let mode = Mode::try_from(number);
-        assert_eq!(mode.map(Mode::number), if (1..=4).contains(&number) { Ok(number) } else { Err(Refusal::Mode) });
+        assert_eq!(mode.map(Mode::number), if [1, 2, 4, 5].contains(&number) { Ok(number) } else { Err(Refusal::Mode) });
     }
+    assert_eq!(Mode::ALL.map(Mode::number), by_hand::MODES.map(u32::from));
 }

@@ -2,6 +2,7 @@
 
 use compare::agree::{finish as finish_agrees, summarise as agree};
 use reference::calls;
+use reference::gen::raw::MODES;
 use reference::gen::{damage, forged, logs, Rng};
 use reference::layout::encode;
 use reference::mode::Mode;
@@ -11,7 +12,7 @@ const AMPLE: usize = 4096;
 
 /// A chunk in each mode, and the finish of its summary.
 fn all_modes(chunk: &[u8]) {
-    for mode in 1..=4 {
+    for mode in MODES.map(u32::from) {
         agree(chunk, mode);
         if let Ok(summary) = calls::summarise(chunk, mode, AMPLE) {
             finish_agrees(&summary);
@@ -28,10 +29,10 @@ fn close(depth: usize) -> Record {
 }
 
 #[test]
-fn modes_outside_1_to_4_get_1() {
-    for mode in [0, 5, 6, 255, 256, 257, 65_535, 65_536, 65_537, u32::MAX] {
+fn modes_out_of_use_get_1() {
+    for mode in [0, 3, 6, 7, 255, 256, 257, 259, 261, 65_535, 65_536, 65_537, 65_541, u32::MAX] {
         for chunk in [vec![], vec![0xff; 70_000], encode_close(0)] {
-            agree(&chunk, mode);
+            assert!(agree(&chunk, mode).iter().all(|&answer| answer == -1), "{mode}");
         }
     }
 }
@@ -116,7 +117,7 @@ fn random_chunks_of_random_logs() {
         for chunk in logs::cut(&mut rng, &log, 3) {
             let bytes = logs::encode_mixed(&mut rng, &chunk);
             all_modes(&bytes);
-            agree(&damage::damage(&mut rng, &bytes), 1 + round % 4);
+            agree(&damage::damage(&mut rng, &bytes), MODES[round % 4].into());
         }
     }
 }

@@ -2,6 +2,7 @@
 
 use crate::calls::{Input, Takes};
 use reference::calls;
+use reference::gen::raw::MODES;
 use reference::gen::{damage, forged, logs, tables, Rng};
 use reference::layout::encode;
 use reference::mode::Mode;
@@ -69,12 +70,12 @@ fn with_damage(rng: &mut Rng, input: Input) -> Vec<Input> {
     }
 }
 
-/// A mode, once in ten times none of the four.
+/// A mode, once in ten times none that is in use: mostly 3, which was.
 fn any_mode(rng: &mut Rng) -> u32 {
-    let mode = 1 + rng.below(4) as u32;
+    let mode = u32::from(rng.pick(&MODES));
     let other = rng.bits() as u32;
     if rng.one_in(10) {
-        rng.pick(&[0, 5, 256 + mode, 65_536 + mode, u32::MAX, other])
+        rng.pick(&[3, 3, 3, 0, 6, 256 + mode, 65_536 + mode, u32::MAX, other])
     } else {
         mode
     }
@@ -131,7 +132,8 @@ fn cut_log(rng: &mut Rng) -> Vec<Input> {
     inputs
 }
 
-/// Summaries one by one, by neighbours and as a row; the row also damaged, cut short, and with a piece that does not belong.
+/// Summaries one by one, by neighbours and as a row; the row also damaged, cut short, with a piece that does not belong, and with one
+/// of a mode out of use.
 fn of_summaries(rng: &mut Rng, mode: Mode, mut summaries: Vec<Vec<u8>>) -> Vec<Input> {
     let mut inputs = Vec::new();
     for two in summaries.windows(2).take(4) {
@@ -146,6 +148,9 @@ fn of_summaries(rng: &mut Rng, mode: Mode, mut summaries: Vec<Vec<u8>>) -> Vec<I
         let place = rng.below(summaries.len());
         let other = rng.pick(&[mode, Mode::Net, Mode::Heaviest, Mode::Eaten, Mode::Stamp]);
         summaries[place] = encode(&forged::summary(rng, other));
+        inputs.push(row(summaries.concat()));
+        let place = rng.below(summaries.len());
+        summaries[place] = forged::out_of_use(rng);
         inputs.push(row(summaries.concat()));
     }
     inputs
@@ -179,6 +184,8 @@ fn forged_pieces(rng: &mut Rng) -> Vec<Input> {
     }
     let mut inputs = with_damage(rng, piece(two[0].clone()));
     let [left, right] = [two.remove(0), two.remove(0)];
+    let old = forged::out_of_use(rng);
+    inputs.extend([piece(old.clone()), pieces(left.clone(), old.clone()), pieces(old, right.clone())]);
     inputs.extend(with_damage(rng, pieces(left, right)));
     inputs
 }
@@ -247,4 +254,58 @@ fn noise(rng: &mut Rng) -> Vec<Input> {
         inputs.extend([chunk(any_mode(rng), long.clone()), piece(long.clone()), row(long)]);
     }
     inputs
+}
+
+#[cfg(test)]
+mod tests {
+    use super::*;
+    use reference::layout::decode;
+    use reference::plan::plan_by_levels;
+    use reference::row;
+    use reference::run::{run_of, Run};
+    use reference::summary::Summary;
+
+    /// The runs of a row between neighbours, which have nothing inside; none where it is not a row of mode 5 with a figure.
+    fn with_nothing_inside(bytes: &[u8]) -> Vec<Run> {
+        let row: Option<Vec<Summary>> = row::pieces(bytes).into_iter().map(decode).collect();
+        let eaten = |row: &Vec<Summary>| row.iter().all(|summary| summary.mode == Mode::Eaten) && row::fault(row).is_none();
+        let Some(row) = row.filter(eaten) else {
+            return Vec::new();
+        };
+        plan_by_levels(&row).iter().filter(|line| line.i + 1 == line.j).map(|line| run_of(&row, line)).collect()
+    }
+
+    #[test]
+    fn nothing_is_inside_on_every_side_of_floor_and_ceiling() {
+        let (mut above, mut below, mut bound, mut free) = (0, 0, 0, 0);
+        for input in (0..2500).flat_map(inputs).filter(|input| input.takes == Takes::Row) {
+            for run in with_nothing_inside(&input.first) {
+                let Run::Eaten { z, l, h, .. } = run else { panic!("a run of mode 5") };
+                above += usize::from(z > h);
+                below += usize::from(z < l);
+                bound += usize::from(z == l || z == h);
+                free += usize::from(l < z && z < h);
+            }
+        }
+        assert!([above, below, bound, free].iter().all(|&count| count > 20), "{above} {below} {bound} {free}");
+    }
+
+    #[test]
+    fn mode_3_is_an_argument_and_within_summaries() {
+        let mut seen = [0; 4];
+        for input in (0..2500).flat_map(inputs) {
+            let (place, pieces) = match input.takes {
+                Takes::Chunk => {
+                    seen[0] += usize::from(input.mode == 3);
+                    continue;
+                }
+                Takes::Piece => (1, vec![&input.first[..]]),
+                Takes::Pieces => (2, vec![&input.first[..], &input.second]),
+                Takes::Row => (3, row::pieces(&input.first)),
+                _ => continue,
+            };
+            seen[place] += usize::from(pieces.iter().any(|piece| piece.len() >= 6 && piece[4..6] == [3, 0]));
+        }
+        assert!(seen.iter().all(|&count| count > 50), "{seen:?}");
+    }
 }

@@ -87,8 +87,9 @@ pub fn work(row: &[u8]) -> Result<(i64, i64, i64), u8> {
     Ok((stored(work.figure), work.joins as i64, work.levels as i64))
 }
 
-/// The day's figures, "net, heaviest, eaten and stamp": "the day program, and any
-/// later call on a whole log, 2, 3 and 7 to 11".
+/// The day's figures, "net, heaviest, eaten and stamp", where eaten is mode 5 ("The day
+/// program prints it third"): "the day program, and any later call on a whole log, 2, 3
+/// and 7 to 11".
 pub fn day(log: &[u8]) -> Result<[i64; 4], u8> {
     let records = whole_log(log)?;
     Ok(Mode::ALL.map(|mode| log_figure(mode, &records)))

@@ -14,7 +14,8 @@ use crate::summary::Summary;
 /// "Is the chunk at most 65,536 bytes?"
 pub const LONGEST_CHUNK: usize = 65_536;
 
-/// "1. Is the mode 1 to 4?"
+/// "1. Is the mode 1 to 4?" Document 02, L3: 5 is a mode too, and "mode 3 gets 1 as an
+/// argument".
 pub fn question_1(mode: u32) -> Result<Mode, u8> {
     Mode::from_number(mode).ok_or(1)
 }

@@ -74,7 +74,7 @@ pub fn is_summary(bytes: &[u8]) -> bool {
     if bytes.len() < 6 || field16(bytes, 0) != bytes.len() as u64 {
         return false;
     }
-    let Some(mode) = Mode::from_number(field16(bytes, 4) as u32) else {
+    let Some(mode) = mode_of(bytes) else {
         return false;
     };
     match field16(bytes, 2) {
@@ -83,6 +83,11 @@ pub fn is_summary(bytes: &[u8]) -> bool {
         HILL => bytes.len() >= 24 && is_hill(mode, bytes),
         _ => false,
     }
+}
+
+/// The mode of a piece, if it is one in use: "mode 3 gets .. 5 within a summary".
+fn mode_of(bytes: &[u8]) -> Option<Mode> {
+    Mode::from_number(field16(bytes, 4) as u32)
 }
 
 /// "fault (7, 8 or 9 ..)"; "levels are 0 to 64"; opened "at most 100,001"; "A spoilt
@@ -135,9 +140,10 @@ fn records_fit(hill: &Hill) -> bool {
     })
 }
 
-/// "In modes 1 to 3, 10^9 × unclosed records + the absolute 64-bit values (-2^63 in
-/// mode 2 counts 0) is at most 10^9 × opened. In mode 4, 64-bit values are 0 to
-/// 2^32 - 1, and opened is at least the unclosed records."
+/// "10^9 × unclosed records + the absolute 64-bit values (-2^63 in mode 2 counts 0) is
+/// at most 10^9 × opened", in modes 1, 2 and 5; in 5 too -2^63 "counts 0 in the range
+/// sum". "In mode 4, 64-bit values are 0 to 2^32 - 1, and opened is at least the
+/// unclosed records."
 fn range_fits(mode: Mode, hill: &Hill) -> bool {
     let right = hill.right.iter().map(|unclosed| unclosed.held);
     let values: Vec<i64> = hill.left.iter().copied().chain([hill.middle]).chain(right).flatten().collect();
@@ -183,7 +189,7 @@ pub fn decode(bytes: &[u8]) -> Option<Summary> {
     if !is_summary(bytes) {
         return None;
     }
-    let mode = Mode::from_number(field16(bytes, 4) as u32)?;
+    let mode = mode_of(bytes)?;
     let case = match field16(bytes, 2) {
         BLANK => Case::Blank,
         SPOILT => Case::Spoilt(Spoilt {

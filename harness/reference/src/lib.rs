@@ -19,6 +19,7 @@
 //! |----------------------------|------------------------------------------|
 //! | L1                         | [`table`], [`calls`]                     |
 //! | L2                         | [`record`], [`calls`]                    |
+//! | L3                         | [`mode`], [`layout`], [`run`]            |
 //!
 //! [`gen`] makes the inputs that tests try: logs, cuts, merge lists, day tables,
 //! damaged bytes and summaries that no chunk makes.

@@ -1,4 +1,4 @@
-//! "Plan and runs": the run of a join.
+//! "Plan and runs": the run of a join; in mode 5 that of document 02's L3.
 
 use crate::bytes::put;
 use crate::log::{closer, held, opens};
@@ -15,8 +15,9 @@ pub enum Run {
     Net { a: i64 },
     /// "Mode 2: (z,A,B), z for nothing, else the greater of A and x + B."
     Heaviest { z: i64, a: Held, b: i64 },
-    /// "Mode 3: (a,l,h), x + a held between l and h"
-    Eaten { a: i64, l: i64, h: i64 },
+    /// Mode 5: "z for nothing inside, then a, l, h": for a number "x + a held between l
+    /// and h".
+    Eaten { z: i64, a: i64, l: i64, h: i64 },
     /// "Mode 4: (m,q,0), m·x + q modulo 2^32"
     Stamp { m: i64, q: i64 },
 }
@@ -67,8 +68,12 @@ pub fn run_of(row: &[Summary], line: &Line) -> Run {
             Run::Heaviest { z: figure(None), a: greatest_beside(row, line), b: values_down_to(row, line, line.highest) }
         }
         // "where a adds all values and combined figures on the way and l, h are the
-        // ends of what it can give"
-        Mode::Eaten => Run::Eaten { a: all_on_the_way(row, line), l: figure(Some(-FAR)), h: figure(Some(FAR)) },
+        // ends of what it can give" for a number. z is neither: with nothing inside, the
+        // innermost record may hold nothing and is then not bound.
+        Mode::Eaten => {
+            let (l, h) = (figure(Some(-FAR)), figure(Some(FAR)));
+            Run::Eaten { z: figure(None), a: all_on_the_way(row, line), l, h }
+        }
         Mode::Stamp => Run::Stamp { m: modulo_2_32(figure(Some(1)) - figure(Some(0))), q: figure(Some(0)) },
     }
 }
@@ -91,7 +96,7 @@ fn greatest_beside(row: &[Summary], line: &Line) -> Held {
         .max()
 }
 
-/// Mode 3's a: "all values and combined figures on the way" added.
+/// Mode 5's a: "all values and combined figures on the way" added.
 fn all_on_the_way(row: &[Summary], line: &Line) -> i64 {
     let (i, j) = (hill_at(row, line.i), hill_at(row, line.j));
     let figures: i64 = (line.lowest..=line.highest).filter_map(|depth| beside(Mode::Eaten, i, j, depth + 1)).sum();
@@ -107,7 +112,10 @@ pub fn put_through(run: &Run, x: Held) -> i64 {
             (Some(x), None) => x + b,
             (Some(x), Some(a)) => a.max(x + b),
         },
-        Run::Eaten { a, l, h } => between(x.unwrap_or(0) + a, l, h),
+        Run::Eaten { z, a, l, h } => match x {
+            None => z,
+            Some(x) => between(x + a, l, h),
+        },
         Run::Stamp { m, q } => {
             let product = i128::from(m) * i128::from(x.unwrap_or(0));
             modulo_2_32((product.rem_euclid(1 << 32)) as i64 + q)
@@ -138,21 +146,22 @@ pub fn join_by_records(mode: Mode, chunks: &[Vec<Record>], line: &Line) -> (Held
     (combine(mode, &parts), figure)
 }
 
-/// A run's mode and three numbers. Where A is nothing, it "is stored as -2^63".
-pub fn numbers(run: &Run) -> (Mode, [i64; 3]) {
+/// A run's mode, length and numbers: "length 30, .. three signed 64-bit numbers"; in mode
+/// 5 "length 38 and four numbers". Where A is nothing, it "is stored as -2^63".
+fn fields(run: &Run) -> (Mode, i64, Vec<i64>) {
     match *run {
-        Run::Net { a } => (Mode::Net, [a, 0, 0]),
-        Run::Heaviest { z, a, b } => (Mode::Heaviest, [z, stored(a), b]),
-        Run::Eaten { a, l, h } => (Mode::Eaten, [a, l, h]),
-        Run::Stamp { m, q } => (Mode::Stamp, [m, q, 0]),
+        Run::Net { a } => (Mode::Net, 30, vec![a, 0, 0]),
+        Run::Heaviest { z, a, b } => (Mode::Heaviest, 30, vec![z, stored(a), b]),
+        Run::Eaten { z, a, l, h } => (Mode::Eaten, 38, vec![z, a, l, h]),
+        Run::Stamp { m, q } => (Mode::Stamp, 30, vec![m, q, 0]),
     }
 }
 
-/// "length 30, kind 20, mode, three signed 64-bit numbers"
+/// The bytes of a run: its length, kind 20, its mode and its numbers.
 pub fn encode_run(run: &Run) -> Vec<u8> {
-    let (mode, numbers) = numbers(run);
+    let (mode, length, numbers) = fields(run);
     let mut out = Vec::new();
-    put(&mut out, 30, 2);
+    put(&mut out, length, 2);
     put(&mut out, 20, 2);
     put(&mut out, i64::from(mode.number()), 2);
     for number in numbers {

@@ -46,7 +46,12 @@ fn well_formed() -> Vec<Sample> {
              some with returns; full and short records",
             weekday(),
         ),
-        sample("returns.log", "two tanks with pellets sent back: one above its ceiling, one below its floor", returns()),
+        sample(
+            "returns.log",
+            "three tanks with pellets sent back, which count as they are, whatever their floor of 0: \
+             one tank above its ceiling, one below its floor, one between",
+            returns(),
+        ),
         sample("quiet.log", "a site of three raceways with two tanks each, where nothing was fed", quiet()),
         sample("deep.log", "64 records of one gram, each holding the next: depth 0 to 63", deep()),
     ]
@@ -101,13 +106,15 @@ fn few_leaves(rng: &mut Rng) -> Vec<u8> {
     around(3, 0, 0, 4_000, &leaves)
 }
 
-/// First 300 + 250 - 120 = 430, above the ceiling of 400; then 80 - 200 = -120, below
-/// the floor of 0.
+/// Document 02, L3: "Uneaten pellets come back as a negative record that holds nothing,
+/// with a floor of 0". First 300 + 250 - 120 = 430, above the ceiling of 400; then 80 -
+/// 200 = -120, below the floor of 0; then 260 - 40 = 220.
 fn returns() -> Vec<u8> {
-    let above = [leaf(2, 300), leaf(2, 250), leaf(2, -120)];
-    let below = [leaf(2, 80), leaf(2, -200)];
-    let both = [around(1, 0, 0, 400, &above), around(1, 0, 0, 400, &below)];
-    around(0, 0, 0, 100_000, &both)
+    let back = |grams: i64| around(2, -grams, 0, 400, &[]);
+    let above = [leaf(2, 300), leaf(2, 250), back(120)];
+    let below = [leaf(2, 80), back(200)];
+    let between = [leaf(2, 260), back(40)];
+    around(0, 0, 0, 100_000, &[&above[..], &below, &between].map(|held| around(1, 0, 0, 400, held)))
 }
 
 fn quiet() -> Vec<u8> {
@@ -148,7 +155,7 @@ pub fn page(samples: &[Sample]) -> String {
         "# Sample logs\n\n\
          Each file is one log, as the day program reads it from standard input. The line \
          is what the program prints for it: net, heaviest, eaten and stamp, or a refusal. \
-         The line of `d.log` stands in document 01, the others are the reference \
+         The line of `d.log` stands in document 02, the others are the reference \
          tally's.\n\n\
          | File | Bytes | What it is | Line |\n\
          |---|---|---|---|\n",

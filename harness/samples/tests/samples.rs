@@ -23,11 +23,12 @@ fn the_committed_files_are_these() {
 #[test]
 fn lines_worked_out_by_hand() {
     let lines = [
-        // Document 01.
-        ("d.log", "12 15 14 72\n"),
-        // Net 430 - 120; heaviest 300; eaten 400 + 0; stamp 31 × (31 × 430 - 31 × 120)
-        // = 961 × 310.
-        ("returns.log", "310 300 400 297910\n"),
+        // Document 02.
+        ("d.log", "12 15 12 72\n"),
+        ("d-batches.log", "12 15 12 72\n"),
+        // Net 430 - 120 + 220; heaviest 300; eaten 400 + 0 + 220; stamp 31 × 31 × (430 - 120 +
+        // 220) = 961 × 530.
+        ("returns.log", "530 300 620 509330\n"),
         ("quiet.log", "0 0 0 0\n"),
         ("level-gap.log", "refused 7\n"),
         ("two-days.log", "refused 8\n"),

@@ -2,6 +2,7 @@
 
 use super::logs::{grams, VALUES};
 use super::Rng;
+use crate::layout::encode;
 use crate::mode::{nothing, Grams, Held, Mode};
 use crate::record::GRAMS;
 use crate::summary::{Case, Hill, Spoilt, Summary, Unclosed};
@@ -70,6 +71,17 @@ pub fn hill(rng: &mut Rng, mode: Mode, levels: &Levels, opened: u64) -> Hill {
     Hill { start, peak, end, opened, left, middle, right }
 }
 
+/// A hill as of [`hill`]; in a quarter of the cases nothing is held anywhere in it.
+fn any_hill(rng: &mut Rng, mode: Mode, levels: &Levels, opened: u64) -> Hill {
+    let mut drawn = hill(rng, mode, levels, opened);
+    if rng.one_in(4) {
+        drawn.left.fill(nothing(mode));
+        drawn.middle = nothing(mode);
+        drawn.right.iter_mut().for_each(|unclosed| unclosed.held = nothing(mode));
+    }
+    drawn
+}
+
 /// The value, floor and ceiling of a readable record.
 fn record(rng: &mut Rng) -> Grams {
     let values = rng.pick(&VALUES);
@@ -77,7 +89,7 @@ fn record(rng: &mut Rng) -> Grams {
     Grams { value: grams(rng, values), floor: one.min(other), ceiling: one.max(other) }
 }
 
-/// The 64-bit values of a hill: left, middle, held. In modes 1 to 3 their absolute
+/// The 64-bit values of a hill: left, middle, held. In modes 1, 2 and 5 their absolute
 /// values are what 10^9 × opened leaves over, all of it in a third of the cases. The
 /// middle is nothing where it must be.
 fn values(rng: &mut Rng, mode: Mode, levels: &Levels, opened: u64) -> Vec<Held> {
@@ -102,7 +114,7 @@ fn values(rng: &mut Rng, mode: Mode, levels: &Levels, opened: u64) -> Vec<Held> 
     values
 }
 
-/// One value, taken off the grams that are left in modes 1 to 3.
+/// One value, taken off the grams that are left in modes 1, 2 and 5.
 fn value_within(rng: &mut Rng, mode: Mode, grams_left: &mut i64, style: usize) -> Held {
     if mode == Mode::Stamp {
         let any = rng.between(0, u32::MAX.into());
@@ -132,10 +144,19 @@ pub fn summary(rng: &mut Rng, mode: Mode) -> Summary {
         1 => Case::Spoilt(spoilt(rng, levels.start, levels.end)),
         _ => {
             let opened = opened(rng, &levels);
-            Case::Hill(hill(rng, mode, &levels, opened))
+            Case::Hill(any_hill(rng, mode, &levels, opened))
         }
     };
     Summary { mode, case }
+}
+
+/// The bytes of a summary of mode 3, which is out of use: otherwise as one of mode 5, or
+/// with nothing stored as 0.
+pub fn out_of_use(rng: &mut Rng) -> Vec<u8> {
+    let like = rng.pick(&[Mode::Eaten, Mode::Net]);
+    let mut bytes = encode(&summary(rng, like));
+    bytes[4] = 3;
+    bytes
 }
 
 /// Summaries that mostly meet: each starts where the one before it ends, but for one
@@ -155,7 +176,7 @@ pub fn neighbours(rng: &mut Rng, mode: Mode, count: usize, stray: usize) -> Vec<
             let any = opened(rng, &levels);
             let few = levels.fewest_opened() + rng.below(9) as u64;
             let opened = rng.pick(&[any, few, few]);
-            Case::Hill(hill(rng, mode, &levels, opened))
+            Case::Hill(any_hill(rng, mode, &levels, opened))
         };
         if case != Case::Blank {
             at = end;
@@ -187,7 +208,7 @@ pub fn row(rng: &mut Rng, mode: Mode, count: usize) -> Vec<Summary> {
     }
     let mut row: Vec<Summary> = Vec::new();
     for (levels, &opened) in shapes.iter().zip(&opened) {
-        let case = Case::Hill(hill(rng, mode, levels, opened));
+        let case = Case::Hill(any_hill(rng, mode, levels, opened));
         row.push(Summary { mode, case });
     }
     while row.len() < count {

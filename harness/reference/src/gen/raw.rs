@@ -103,9 +103,39 @@ impl Hill {
     }
 }
 
-/// What "nothing held" is in the bytes of a mode: 0, and -2^63 in mode 2.
+/// The modes in use, in the order of the day's figures: net, heaviest, eaten and stamp.
+pub const MODES: [u16; 4] = [1, 2, 5, 4];
+
+/// What stands for a mode in use, of four in that order.
+pub fn in_mode<T: Copy>(mode: u16, [net, heaviest, eaten, stamp]: [T; 4]) -> T {
+    match mode {
+        1 => net,
+        2 => heaviest,
+        5 => eaten,
+        4 => stamp,
+        _ => panic!("no mode {mode}"),
+    }
+}
+
+/// A run of a mode: length 30 and three numbers, in mode 5 length 38 and four.
+pub fn run(mode: u16, numbers: &[i64]) -> Vec<u8> {
+    let length = run_length(mode);
+    assert_eq!(6 + 8 * numbers.len(), length);
+    [words(&[length as u16, 20, mode]), numbers.iter().flat_map(|number| number.to_le_bytes()).collect()].concat()
+}
+
+/// How many bytes a run of a mode has.
+pub fn run_length(mode: u16) -> usize {
+    if mode == 5 {
+        38
+    } else {
+        30
+    }
+}
+
+/// What "nothing held" is in the bytes of a mode: 0, and -2^63 in modes 2 and 5.
 pub fn nothing(mode: u16) -> i64 {
-    if mode == 2 {
+    if mode == 2 || mode == 5 {
         -9_223_372_036_854_775_808
     } else {
         0

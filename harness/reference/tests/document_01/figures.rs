@@ -2,9 +2,8 @@
 //! reference's here and the library's in `compare`, which has this file too.
 
 use crate::calls::{day, merge, plan, read_record, runs, summarise, work};
-use reference::gen::raw::{close, log_d, nothing, open, short, words, Hill};
+use reference::gen::raw::{close, log_d, nothing, open, run, run_length, short, words, Hill, MODES};
 
-const MODES: [u16; 4] = [1, 2, 3, 4];
 const AMPLE: usize = 4096;
 
 #[test]
@@ -94,7 +93,7 @@ fn records_held_by_none_that_the_chunk_opens() {
         close(1),
     ];
     // 3 + 4 + 6; the greater of 7 and 6; 3 + 31 × 4 + 6.
-    for (mode, left, middle) in [(1, -2, 13), (2, 5, 7), (3, -2, 13), (4, 4_294_967_294, 133)] {
+    for (mode, left, middle) in [(1, -2, 13), (2, 5, 7), (5, -2, 13), (4, 4_294_967_294, 133)] {
         let hill = Hill { left: vec![left], middle, ..Hill::empty(mode, 2, 1, 1, 5) };
         assert_eq!(summarise(&chunk.concat(), mode.into(), AMPLE), Ok(hill.bytes()));
     }
@@ -104,13 +103,13 @@ fn records_held_by_none_that_the_chunk_opens() {
 fn a_merge_closes_deepest_first() {
     // Unclosed: 10, which holds 1 so far, and in it 5 within 0 and 8, which holds 2. The
     // right adds 4 at level 2, closes both, and adds 6 at level 1 between.
-    let left = Hill { right: vec![(10, 0, 15, 1), (5, 0, 8, 2)], ..Hill::empty(3, 0, 0, 2, 4) };
-    let right = Hill { left: vec![4, 6], ..Hill::empty(3, 2, 0, 0, 3) };
+    let left = Hill { right: vec![(10, 0, 15, 1), (5, 0, 8, 2)], ..Hill::empty(5, 0, 0, 2, 4) };
+    let right = Hill { left: vec![4, 6], ..Hill::empty(5, 2, 0, 0, 3) };
     // 5 + 2 + 4 is lowered to 8; 10 + 1 + 8 + 6 to 15.
-    let both = Hill { middle: 15, ..Hill::empty(3, 0, 0, 0, 7) };
+    let both = Hill { middle: 15, ..Hill::empty(5, 0, 0, 0, 7) };
     assert_eq!(merge(&left.bytes(), &right.bytes(), 24), Ok(both.bytes()));
     // Net: 10 + 1 + (5 + 2 + 4) + 6.
-    let [left, right] = [left, right].map(|hill| Hill { mode: 1, ..hill }.bytes());
+    let [left, right] = [left, right].map(|hill| Hill { mode: 1, middle: 0, ..hill }.bytes());
     let both = Hill { middle: 28, ..Hill::empty(1, 0, 0, 0, 7) };
     assert_eq!(merge(&left, &right, 24), Ok(both.bytes()));
 }
@@ -126,10 +125,10 @@ fn stamps_wrap() {
 
 #[test]
 fn floors_and_ceilings_bind() {
-    // 3 + 5 lowered to 6; that and -9 raised to -2: 1 + 6 - 2 = 5, raised to 7.
-    let bytes = [open(0, 1, 7, 8), open(1, 3, 0, 6), short(2, 5), close(2), close(1), open(1, -9, -2, 2), close(1), close(0)];
+    // 3 + 5 lowered to 6; -9 holds nothing and is not raised: 1 + 6 - 9 = -2, raised to -1.
+    let bytes = [open(0, 1, -1, 8), open(1, 3, 0, 6), short(2, 5), close(2), close(1), open(1, -9, -2, 2), close(1), close(0)];
     // net 1 + 3 + 5 - 9 = 0; heaviest 1 + 3 + 5.
-    assert_eq!(day(&bytes.concat()).map(|figures| [figures[0], figures[1], figures[2]]), Ok([0, 9, 7]));
+    assert_eq!(day(&bytes.concat()).map(|figures| [figures[0], figures[1], figures[2]]), Ok([0, 9, -1]));
 }
 
 #[test]
@@ -150,19 +149,16 @@ fn a_run_of_the_greatest_depth() {
         let up = Hill { mode, start: 64, peak: 0, end: 0, opened: 192, left: vec![3; 64], middle: nothing(mode), right: vec![] };
         [down.bytes(), up.bytes()].concat()
     };
-    let run = |mode: u16| runs(&slopes(mode), 30).unwrap();
-    let bytes = |mode: u16, numbers: [i64; 3]| {
-        let numbers = numbers.map(i64::to_le_bytes).concat();
-        [words(&[30, 20, mode]), numbers].concat()
-    };
+    let run_of = |mode: u16| runs(&slopes(mode), run_length(mode)).unwrap();
     // 64 × (1 + 2 + 3).
-    assert_eq!(run(1), bytes(1, [384, 0, 0]));
+    assert_eq!(run_of(1), run(1, &[384, 0, 0]));
     // x + 64 values; beside x the 3 of the deepest level over 64 values.
-    assert_eq!(run(2), bytes(2, [67, 67, 64]));
-    // The deepest record gives -10^9 to 10^9. In all records above it 6 are added, and
-    // the ceiling binds: from -10^9 + 63 × 6 to 10^9.
-    assert_eq!(run(3), bytes(3, [384, -1_000_000_000 + 378, 1_000_000_000]));
-    for mode in 1..=4 {
+    assert_eq!(run_of(2), run(2, &[67, 67, 64]));
+    // With nothing inside, the deepest record still holds 2 + 3. For a number it gives
+    // -10^9 to 10^9; in all records above it 6 are added, and the ceiling binds: from
+    // -10^9 + 63 × 6 to 10^9.
+    assert_eq!(run_of(5), run(5, &[384, 384, -1_000_000_000 + 378, 1_000_000_000]));
+    for mode in MODES {
         assert_eq!(plan(&slopes(mode), 12), Ok(words(&[12, 19, 0, 1, 0, 63])));
     }
 }
@@ -183,8 +179,7 @@ fn nothing_beside_x_in_mode_2() {
     let middle = Hill { mode: 2, start: 1, peak: 1, end: 1, opened: 1, left: vec![], middle: -3, right: vec![] };
     let up = Hill { mode: 2, start: 1, peak: 0, end: 0, opened: 0, left: vec![nothing(2)], middle: nothing(2), right: vec![] };
     let row = [down.bytes(), middle.bytes(), up.bytes()];
-    let expected = [10i64, i64::MIN, 10].map(i64::to_le_bytes).concat();
-    assert_eq!(runs(&row.concat(), 30), Ok([words(&[30, 20, 2]), expected].concat()));
+    assert_eq!(runs(&row.concat(), 30), Ok(run(2, &[10, i64::MIN, 10])));
     assert_eq!(work(&row.concat()), Ok((7, 1, 1)));
 }
 

@@ -121,7 +121,7 @@ fn any_x(rng: &mut Rng, mode: Mode) -> Held {
             let any = rng.between(0, u32::MAX.into());
             Some(rng.pick(&[0, 1, u32::MAX.into(), any]))
         }
-        Mode::Heaviest if rng.one_in(5) => None,
+        Mode::Heaviest | Mode::Eaten if rng.one_in(5) => None,
         _ => Some(rng.pick(&[near, any, far, -far])),
     }
 }

@@ -1,8 +1,8 @@
-//! "The questions at the gate": which call puts which, and in which order. `compare`
-//! puts them to the library.
+//! "The questions at the gate": which call puts which, and in which order; mode 3 is out of
+//! use by document 02, and 5 in use. `compare` puts them to the library.
 
 use crate::calls::{day, finish, merge, merge_row, plan, read_record, runs, summarise, work};
-use reference::gen::raw::{blank, close, log_d, nothing, open, short, spoilt, Hill};
+use reference::gen::raw::{blank, close, log_d, nothing, open, run_length, short, spoilt, Hill, MODES};
 
 /// A hill that begins or ends elsewhere than at level 0: "open 0".
 fn open_hill(mode: u16) -> Vec<u8> {
@@ -32,12 +32,12 @@ fn assert_row_refused(row: &[u8], number: u8) {
 #[test]
 fn question_1_comes_first() {
     let too_long = vec![0; 65_537];
-    for mode in [0, 5, 6, 16, 65_537, 65_540, 0x1_0000, u32::MAX] {
+    for mode in [0, 3, 6, 7, 16, 65_537, 65_541, 0x1_0000, u32::MAX] {
         assert_eq!(summarise(&too_long, mode, 0), Err(1), "mode {mode}");
         assert_eq!(summarise(&[], mode, 4096), Err(1), "mode {mode}");
     }
-    for mode in 1..=4 {
-        assert!(summarise(&[], mode, 6).is_ok());
+    for mode in MODES {
+        assert!(summarise(&[], mode.into(), 6).is_ok());
     }
 }
 
@@ -110,7 +110,7 @@ fn question_5_before_6() {
 
 #[test]
 fn question_6_before_the_faults_and_12() {
-    for (one, other) in [(blank(1), blank(2)), (blank(3), spoilt(4, 7, 0, 0, 0)), (spoilt(1, 7, 0, 0, 0), whole_hill(2, 1, 1))] {
+    for (one, other) in [(blank(1), blank(2)), (blank(5), spoilt(4, 7, 0, 0, 0)), (spoilt(1, 7, 0, 0, 0), whole_hill(2, 1, 1))] {
         assert_eq!(merge(&one, &other, 0), Err(6));
         let row = [one.clone(), one, other].concat();
         assert_eq!(merge_row(&row, 0), Err(6));
@@ -187,12 +187,14 @@ fn a_spoilt_result_takes_its_ends_and_counts_from_both_sides() {
 fn question_12_comes_last_and_exact_fits() {
     let d = log_d();
     let (left, right) = (d[..2].concat(), d[2..].concat());
-    for mode in 1..=4 {
-        // Lengths 64 and 40, merged 24; one plan line of 12 bytes, one run of 30.
-        assert_eq!(summarise(&left, mode, 63), Err(12));
-        let left = summarise(&left, mode, 64).unwrap();
-        assert_eq!(summarise(&right, mode, 39), Err(12));
-        let right = summarise(&right, mode, 40).unwrap();
+    for mode in MODES {
+        // Lengths 64 and 40, merged 24; one plan line of 12 bytes, one run of 30, or of 38 in
+        // mode 5.
+        let (number, run) = (mode.into(), run_length(mode));
+        assert_eq!(summarise(&left, number, 63), Err(12));
+        let left = summarise(&left, number, 64).unwrap();
+        assert_eq!(summarise(&right, number, 39), Err(12));
+        let right = summarise(&right, number, 40).unwrap();
         assert_eq!(merge(&left, &right, 23), Err(12));
         assert_eq!(merge(&left, &right, 24).map(|bytes| bytes.len()), Ok(24));
         let row = [left, right].concat();
@@ -200,8 +202,8 @@ fn question_12_comes_last_and_exact_fits() {
         assert_eq!(merge_row(&row, 24).map(|bytes| bytes.len()), Ok(24));
         assert_eq!(plan(&row, 11), Err(12));
         assert_eq!(plan(&row, 12).map(|bytes| bytes.len()), Ok(12));
-        assert_eq!(runs(&row, 29), Err(12));
-        assert_eq!(runs(&row, 30).map(|bytes| bytes.len()), Ok(30));
+        assert_eq!(runs(&row, run - 1), Err(12));
+        assert_eq!(runs(&row, run).map(|bytes| bytes.len()), Ok(run));
         // A fault is found before the buffer is looked at.
         assert_row_refused(&[row.clone(), row].concat(), 8);
     }
@@ -213,10 +215,12 @@ fn question_12_comes_last_and_exact_fits() {
 fn finish_gives_the_stored_middle() {
     assert_eq!(finish(&whole_hill(1, 3, -5)), Ok(-5));
     assert_eq!(finish(&whole_hill(1, 100_000, 100_000_000_000_000)), Ok(100_000_000_000_000));
-    // A mode 2 hill whose middle is nothing, which no chunk makes.
-    let row = [whole_hill(2, 1, nothing(2)), blank(2)].concat();
-    assert_eq!(finish(&whole_hill(2, 1, nothing(2))), Ok(i64::MIN));
-    assert_eq!(work(&row), Ok((i64::MIN, 0, 0)));
+    // A hill of mode 2 or 5 whose middle is nothing, which no chunk makes.
+    for mode in [2, 5] {
+        let row = [whole_hill(mode, 1, nothing(mode)), blank(mode)].concat();
+        assert_eq!(finish(&whole_hill(mode, 1, nothing(mode))), Ok(i64::MIN));
+        assert_eq!(work(&row), Ok((i64::MIN, 0, 0)));
+    }
     assert_eq!(finish(&open_hill(2)), Err(11));
     assert_eq!(finish(&close_hill(2)), Err(11));
     for fault in [7, 8] {

@@ -1,11 +1,15 @@
 //! Every worked figure of document 01, "Along the edges", and the four slips drawn
-//! on paper. `crate::calls` are the reference's here and the library's in `compare`,
-//! which has this file too.
+//! on paper; where document 01 has mode 3, what document 02's L3 has of mode 5.
+//! `crate::calls` are the reference's here and the library's in `compare`, which has
+//! this file too.
 
 use crate::calls::{day, day_text, finish, merge, merge_row, plan, read_record, runs, summarise, work};
-use reference::gen::raw::{blank, close, log_d, longest_log, nothing, open, short, spoilt, words, Hill};
+use reference::gen::raw::{
+    blank, close, in_mode, log_d, longest_log, nothing, open, run, run_length, short, spoilt, words, Hill, MODES,
+};
 
-const MODES: [u16; 4] = [1, 2, 3, 4];
+/// What document 02 says of log D.
+const FIGURES_OF_D: [i64; 4] = [12, 15, 12, 72];
 const AMPLE: usize = 4096;
 
 fn summary(records: &[Vec<u8>], mode: u16) -> Vec<u8> {
@@ -30,15 +34,15 @@ fn log_d_in_bytes() {
         6, 0, 2, 0, 0, 0,
     ];
     assert_eq!(log_d().concat(), bytes);
-    assert_eq!(day(&bytes), Ok([12, 15, 14, 72]));
+    assert_eq!(day(&bytes), Ok(FIGURES_OF_D));
 }
 
 #[test]
 fn the_day_of_d() {
-    // net 10 + 5 - 3; heaviest 10 + the greater of 5 and -3; eaten 10 + 4 + 0, as 5
-    // is lowered to 4 and -3 raised to 0; stamp 10 + 31 × (5 - 3).
-    assert_eq!(day(&log_d().concat()), Ok([12, 15, 14, 72]));
-    assert_eq!(day_text(&log_d().concat()), b"12 15 14 72\n");
+    // net 10 + 5 - 3; heaviest 10 + the greater of 5 and -3; eaten 10 + 5 - 3 within 0
+    // and 100, as 5 and -3 hold nothing and are not bound; stamp 10 + 31 × (5 - 3).
+    assert_eq!(day(&log_d().concat()), Ok([12, 15, 12, 72]));
+    assert_eq!(day_text(&log_d().concat()), b"12 15 12 72\n");
 }
 
 #[test]
@@ -54,9 +58,9 @@ fn d_cut_after_record_2_in_mode_1() {
 
 /// The two hills of D cut after record 2, by hand.
 fn hills_of_d(mode: u16) -> [Hill; 2] {
-    // The figure of "open 1 value -3 floor 0 ceiling 100; close 1": -3, in mode 3
-    // raised to 0, in mode 4 -3 modulo 2^32 = 4,294,967,296 - 3.
-    let of_last = [-3, -3, 0, 4_294_967_293][usize::from(mode) - 1];
+    // The figure of "open 1 value -3 floor 0 ceiling 100; close 1": -3, in mode 4 -3
+    // modulo 2^32 = 4,294,967,296 - 3.
+    let of_last = in_mode(mode, [-3, -3, -3, 4_294_967_293]);
     let none = nothing(mode);
     let left = Hill {
         mode,
@@ -78,16 +82,8 @@ fn d_cut_after_record_2_byte_for_byte() {
         let [left, right] = hills_of_d(mode).map(|hill| hill.bytes());
         assert_eq!(cut_d(mode), [left.clone(), right.clone()]);
         // Joined: one closed record at level 0, with D's figure.
-        let whole = Hill {
-            mode,
-            start: 0,
-            peak: 0,
-            end: 0,
-            opened: 3,
-            left: vec![],
-            middle: [12, 15, 14, 72][usize::from(mode) - 1],
-            right: vec![],
-        };
+        let whole =
+            Hill { mode, start: 0, peak: 0, end: 0, opened: 3, left: vec![], middle: in_mode(mode, FIGURES_OF_D), right: vec![] };
         assert_eq!(merge(&left, &right, 24), Ok(whole.bytes()), "mode {mode}");
         assert_eq!(summary(&log_d(), mode), whole.bytes(), "mode {mode}");
     }
@@ -95,20 +91,17 @@ fn d_cut_after_record_2_byte_for_byte() {
 
 #[test]
 fn runs_of_d() {
-    let numbers: [[i64; 3]; 4] = [[12, 0, 0], [15, 7, 15], [15, 10, 14], [961, 72, 0]];
+    let numbers: [&[i64]; 4] = [&[12, 0, 0], &[15, 7, 15], &[12, 12, 7, 11], &[961, 72, 0]];
     for mode in MODES {
-        let mut expected = words(&[30, 20, mode]);
-        for number in numbers[usize::from(mode) - 1] {
-            expected.extend(number.to_le_bytes());
-        }
-        assert_eq!(runs(&cut_d(mode).concat(), 30), Ok(expected), "mode {mode}");
+        let expected = run(mode, in_mode(mode, numbers));
+        assert_eq!(runs(&cut_d(mode).concat(), run_length(mode)), Ok(expected), "mode {mode}");
     }
 }
 
 #[test]
 fn figures_of_d_by_each_way() {
     for mode in MODES {
-        let figure = [12, 15, 14, 72][usize::from(mode) - 1];
+        let figure = in_mode(mode, FIGURES_OF_D);
         let [left, right] = cut_d(mode);
         let merged = merge(&left, &right, AMPLE).unwrap();
         assert_eq!(finish(&merged), Ok(figure));
@@ -163,15 +156,18 @@ fn the_small_faulty_logs() {
         }
     }
     // open 0, open 0 starts at level 0 and ends at 1; twice over at 0 and 0.
-    assert_eq!(summary(&faulty(7), 3), spoilt(3, 7, 0, 1, 2));
+    assert_eq!(summary(&faulty(7), 5), spoilt(5, 7, 0, 1, 2));
     assert_eq!(summary(&faulty(8), 4), spoilt(4, 8, 0, 0, 2));
 }
 
 #[test]
 fn close_1_alone() {
     // From level 2 to its peak and end, level 1; nothing opened.
-    let hill = Hill { mode: 2, start: 2, peak: 1, end: 1, opened: 0, left: vec![nothing(2)], middle: nothing(2), right: vec![] };
-    assert_eq!(summary(&[close(1)], 2), hill.bytes());
+    for mode in MODES {
+        let none = nothing(mode);
+        let hill = Hill { mode, start: 2, peak: 1, end: 1, opened: 0, left: vec![none], middle: none, right: vec![] };
+        assert_eq!(summary(&[close(1)], mode), hill.bytes());
+    }
 }
 
 #[test]
@@ -228,14 +224,10 @@ fn long_row(opened: usize, mode: u16) -> Vec<u8> {
 /// A run of one record of one gram with default floor and ceiling that holds so many
 /// of its kind, x aside.
 fn run_of_one(mode: u16, held: i64) -> Vec<u8> {
-    let numbers = match mode {
-        1 => [1 + held, 0, 0],
-        2 if held == 0 => [1, nothing(2), 1],
-        2 => [2, 2, 1],
-        3 => [1 + held, -1_000_000_000, 1_000_000_000],
-        _ => [31, 1 + 31 * held, 0],
-    };
-    [words(&[30, 20, mode]), numbers.map(i64::to_le_bytes).concat()].concat()
+    let heaviest = if held == 0 { [1, nothing(2), 1] } else { [2, 2, 1] };
+    let eaten = [1 + held, 1 + held, -1_000_000_000, 1_000_000_000];
+    let numbers: [&[i64]; 4] = [&[1 + held, 0, 0], &heaviest, &eaten, &[31, 1 + 31 * held, 0]];
+    run(mode, in_mode(mode, numbers))
 }
 
 #[test]
@@ -247,7 +239,7 @@ fn opened_100_000_is_taken() {
     for mode in MODES {
         let row = long_row(100_000, mode);
         // Heaviest 1 + 1; stamp 1 + 31 × 99,999.
-        let figure = [100_000, 2, 100_000, 3_099_970][usize::from(mode) - 1];
+        let figure = in_mode(mode, [100_000, 2, 100_000, 3_099_970]);
         let merged = merge_row(&row, AMPLE).unwrap();
         assert_eq!(finish(&merged), Ok(figure));
         assert_eq!(work(&row), Ok((figure, 40, 40)));
@@ -282,7 +274,7 @@ fn how_many_pieces() {
             for _ in 1..count {
                 row.extend(blank(mode));
             }
-            let figure = [12, 15, 14, 72][usize::from(mode) - 1];
+            let figure = in_mode(mode, FIGURES_OF_D);
             assert_eq!(plan(&row, 0), answer.map(|()| vec![]), "{count} pieces");
             assert_eq!(runs(&row, 0), answer.map(|()| vec![]));
             assert_eq!(work(&row), answer.map(|()| (figure, 0, 0)));
@@ -316,8 +308,12 @@ fn slip_nothing_held_as_0_in_mode_2() {
 
 #[test]
 fn slip_floor_and_ceiling_applied_once_to_a_run() {
-    // "a run of D gives 14, not 15": 15 + 0 held between 10 and 14.
-    assert_eq!(work(&cut_d(3).concat()), Ok((14, 1, 2)));
+    // D's second record holds one of 0 grams, alone in a chunk: 5 + 0 is lowered to 4, and
+    // 10 + 4 - 3 is 11. Applied once, by the first record's 0 and 100, it would be 12.
+    let [left, right] = cut_d(5);
+    let row = [left, summary(&[short(2, 0), close(2)], 5), right];
+    assert_eq!(work(&row.concat()), Ok((11, 1, 2)));
+    assert_eq!(finish(&merge_row(&row.concat(), 24).unwrap()), Ok(11));
 }
 
 #[test]

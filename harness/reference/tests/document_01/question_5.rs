@@ -1,7 +1,7 @@
 //! Question 5, clause by clause: what stands at an edge and what is past it, in each
-//! mode.
+//! mode; in mode 5 by document 02.
 
-use reference::gen::raw::{blank, nothing, spoilt, words, Hill};
+use reference::gen::raw::{blank, nothing, spoilt, words, Hill, MODES};
 use reference::layout::{decode, encode, is_summary};
 
 const GRAMS: i64 = 1_000_000_000;
@@ -23,7 +23,7 @@ fn hill(mode: u16) -> Hill {
 
 #[test]
 fn layout_and_mode() {
-    for mode in 1..=4 {
+    for mode in MODES {
         let three = [blank(mode), spoilt(mode, 7, 1, 2, 3), hill(mode).bytes()];
         for bytes in three {
             assert!(accepted(&bytes));
@@ -61,7 +61,7 @@ fn lengths_that_do_not_suit_the_kind() {
 #[test]
 fn modes() {
     for mode in (0..10).chain([257, 0x0100, 0x8001, 0xffff]) {
-        let expected = (1..=4).contains(&mode);
+        let expected = [1, 2, 4, 5].contains(&mode);
         assert_eq!(accepted(&blank(mode)), expected);
         assert_eq!(accepted(&spoilt(mode, 7, 1, 2, 3)), expected);
         assert_eq!(accepted(&hill(mode).bytes()), expected);
@@ -70,7 +70,7 @@ fn modes() {
 
 #[test]
 fn spoilt_clauses() {
-    for mode in 1..=4 {
+    for mode in MODES {
         for fault in (0..20).chain([0x0107, 0xffff]) {
             let expected = (7..=9).contains(&fault);
             assert_eq!(accepted(&spoilt(mode, fault, 0, 0, 100_001)), expected);
@@ -91,7 +91,7 @@ fn spoilt_clauses() {
 
 #[test]
 fn hill_levels() {
-    for mode in 1..=4 {
+    for mode in MODES {
         let cases = [
             // start, peak, end
             (0, 0, 0, true),
@@ -142,7 +142,7 @@ fn peak_above_an_end_with_a_length_that_adds_up() {
 fn records_meet_the_ranges() {
     let near = [-GRAMS as i32, 0, GRAMS as i32];
     let far = [i32::MIN, -GRAMS as i32 - 1, GRAMS as i32 + 1, i32::MAX];
-    for mode in 1..=4 {
+    for mode in MODES {
         // The first or the last of three unclosed records is tried.
         for place in [0, 2] {
             let with = |value: i32, floor: i32, ceiling: i32| {
@@ -171,7 +171,7 @@ fn records_meet_the_ranges() {
 
 #[test]
 fn opened_of_a_hill() {
-    for mode in 1..=4 {
+    for mode in MODES {
         for level in [0, 1, 64] {
             // "not 0 if start = peak = end"
             for (opened, expected) in [(0, false), (1, true), (100_000, true), (100_001, false), (u32::MAX, false)] {
@@ -181,7 +181,7 @@ fn opened_of_a_hill() {
         }
         // Closes alone open nothing.
         assert!(accepted(&Hill::empty(mode, 3, 1, 1, 0).bytes()));
-        // Opened is at least the unclosed records: 10^9 × unclosed in modes 1 to 3.
+        // Opened is at least the unclosed records: 10^9 × unclosed in modes 1, 2 and 5.
         assert!(accepted(&Hill::empty(mode, 1, 1, 4, 3).bytes()));
         assert!(!accepted(&Hill::empty(mode, 1, 1, 4, 2).bytes()));
         assert!(accepted(&Hill::empty(mode, 0, 0, 64, 64).bytes()));
@@ -191,7 +191,7 @@ fn opened_of_a_hill() {
 
 #[test]
 fn the_middle_at_peak_0() {
-    for mode in 1..=4 {
+    for mode in MODES {
         let with = |start: u16, peak: u16, end: u16, middle: i64| {
             let mut hill = Hill::empty(mode, start, peak, end, 100);
             hill.middle = middle;
@@ -200,8 +200,8 @@ fn the_middle_at_peak_0() {
         for (start, end) in [(0, 1), (1, 0), (0, 64), (64, 0)] {
             assert!(with(start, 0, end, nothing(mode)));
             assert!(!with(start, 0, end, 1));
-            // A stored 0 is nothing in modes 1, 3 and 4, a number in mode 2.
-            assert_eq!(with(start, 0, end, 0), mode != 2);
+            // A stored 0 is nothing in modes 1 and 4, a number in modes 2 and 5.
+            assert_eq!(with(start, 0, end, 0), [1, 4].contains(&mode));
         }
         // "unless start = end = 0", and elsewhere than at peak 0.
         for middle in [0, 1, nothing(mode)] {
@@ -213,8 +213,8 @@ fn the_middle_at_peak_0() {
 }
 
 #[test]
-fn values_in_modes_1_to_3() {
-    for mode in 1..=3 {
+fn values_in_modes_1_2_and_5() {
+    for mode in [1, 2, 5] {
         // Six opened, two unclosed: 4 × 10^9 are left for five values.
         let with = |values: [i64; 5]| {
             let mut hill = Hill::empty(mode, 3, 1, 3, 6);
@@ -233,8 +233,8 @@ fn values_in_modes_1_to_3() {
             assert!(one(4 * GRAMS) && one(-4 * GRAMS));
             assert!(!one(4 * GRAMS + 1) && !one(-4 * GRAMS - 1));
             assert!(!one(i64::MAX) && !one(i64::MIN + 1));
-            // "-2^63 in mode 2 counts 0"; its absolute value is 2^63 elsewhere.
-            assert_eq!(one(i64::MIN), mode == 2);
+            // "-2^63 in mode 2 counts 0", and in mode 5; elsewhere its absolute value is 2^63.
+            assert_eq!(one(i64::MIN), mode != 1);
         }
         // The absolute values add, and do not cancel.
         assert!(with([GRAMS, -GRAMS, GRAMS, -GRAMS, 0]));
@@ -244,13 +244,13 @@ fn values_in_modes_1_to_3() {
         assert!(!with([i64::MAX, i64::MAX, 2, 0, 0]));
         assert!(!with([i64::MIN + 1, i64::MIN + 1, 0, 0, 2]));
         assert!(!with([i64::MIN, i64::MIN, i64::MAX, i64::MAX, 2]));
-        assert_eq!(with([i64::MIN; 5]), mode == 2);
+        assert_eq!(with([i64::MIN; 5]), mode != 1);
     }
 }
 
 #[test]
 fn values_at_the_greatest_bound() {
-    for mode in 1..=3 {
+    for mode in [1, 2, 5] {
         let mut hill = Hill::empty(mode, 0, 0, 0, 100_000);
         for (middle, expected) in
             [(100_000 * GRAMS, true), (100_000 * GRAMS + 1, false), (-100_000 * GRAMS, true), (-100_000 * GRAMS - 1, false)]

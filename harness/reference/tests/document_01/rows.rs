@@ -38,7 +38,7 @@ fn pieces_of_a_row() {
     assert_eq!(lengths(&[blank(1), vec![0xff; 40]].concat()), [6, 40]);
     // Lengths are all that counts, not what stands after them.
     assert_eq!(lengths(&[6, 0, 9, 9, 9, 9, 7, 0, 9, 9, 9, 9, 9]), [6, 7]);
-    let row = [spoilt(1, 7, 0, 0, 0), blank(2), spoilt(3, 9, 0, 0, 1)].concat();
+    let row = [spoilt(1, 7, 0, 0, 0), blank(2), spoilt(5, 9, 0, 0, 1)].concat();
     assert_eq!(lengths(&row), [16, 6, 16]);
     // A length of 16 bits, both bytes of it: 0x0102 = 258.
     let long = [vec![2, 1], vec![0; 256]].concat();

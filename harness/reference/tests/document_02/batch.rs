@@ -4,7 +4,7 @@
 
 use crate::calls::{day, day_text, merge, plan, read_record, read_table, runs, summarise, work, write_log};
 use reference::gen::logs::BATCHES;
-use reference::gen::raw::{batched, close, line, log_d, open, short, words, Hill};
+use reference::gen::raw::{batched, close, in_mode, line, log_d, open, run, run_length, short, words, Hill, MODES};
 
 /// As long as the longest result: no log written is longer, and no table read.
 const AMPLE: usize = 65_520;
@@ -168,10 +168,10 @@ fn d_is_d_without_batches() {
 #[test]
 fn figures_and_summaries_of_d_ignore_them() {
     for log in ds_with_batches() {
-        assert_eq!(day(&log.concat()), Ok([12, 15, 14, 72]));
-        assert_eq!(day_text(&log.concat()), b"12 15 14 72\n");
-        for mode in 1..=4 {
-            let summary = |records: &[Vec<u8>]| summarise(&records.concat(), mode, AMPLE);
+        assert_eq!(day(&log.concat()), Ok([12, 15, 12, 72]));
+        assert_eq!(day_text(&log.concat()), b"12 15 12 72\n");
+        for mode in MODES {
+            let summary = |records: &[Vec<u8>]| summarise(&records.concat(), mode.into(), AMPLE);
             assert_eq!(summary(&log), summary(&log_d()));
             // Cut after each record, also right after a batch.
             for cut in 0..=6 {
@@ -184,16 +184,16 @@ fn figures_and_summaries_of_d_ignore_them() {
 
 #[test]
 fn plan_runs_and_work_of_d_ignore_them() {
-    let numbers: [[i64; 3]; 4] = [[12, 0, 0], [15, 7, 15], [15, 10, 14], [961, 72, 0]];
+    let numbers: [&[i64]; 4] = [&[12, 0, 0], &[15, 7, 15], &[12, 12, 7, 11], &[961, 72, 0]];
     for log in ds_with_batches() {
-        for (mode, numbers) in (1..).zip(numbers) {
+        for (mode, numbers) in MODES.into_iter().zip(numbers) {
             let [left, right] = [&log[..2], &log[2..]].map(|records| summarise(&records.concat(), mode.into(), AMPLE).unwrap());
             assert_eq!((left.len(), right.len()), (64, 40));
             assert_eq!(merge(&left, &right, 24), summarise(&log_d().concat(), mode.into(), 24));
             let row = [left, right].concat();
             assert_eq!(plan(&row, 12), Ok(words(&[12, 19, 0, 1, 0, 1])));
-            assert_eq!(runs(&row, 30), Ok([words(&[30, 20, mode]), numbers.map(i64::to_le_bytes).concat()].concat()));
-            assert_eq!(work(&row), Ok(([12, 15, 14, 72][usize::from(mode) - 1], 1, 2)));
+            assert_eq!(runs(&row, run_length(mode)), Ok(run(mode, numbers)));
+            assert_eq!(work(&row), Ok((in_mode(mode, [12, 15, 12, 72]), 1, 2)));
         }
     }
 }
@@ -241,9 +241,9 @@ fn all_three_lengths_in_one_log() {
         close(1),
         close(0),
     ];
-    // Net 1 - 4 + 100 + 5 + 8; heaviest 1 - 4 + 100. Eaten: 90 and 6 are held by -4, which
-    // makes 92; 8 is raised to 9; 1 + 92 + 9 is lowered to 101. Stamp: -4 + 31 × 105 = 3,251,
-    // and 1 + 31 × (3,251 + 8).
+    // Net 1 - 4 + 100 + 5 + 8; heaviest 1 - 4 + 100. Eaten: 100, 5 and 8 hold nothing and
+    // count as they are; -4 with what it holds makes 101; 1 + 101 + 8 is lowered to 101.
+    // Stamp: -4 + 31 × 105 = 3,251, and 1 + 31 × (3,251 + 8).
     assert_eq!(day(&log.concat()), Ok([110, 97, 101, 101_030]));
     let table = [line(0, 1, 0, 101), line(1, -4, LEAST, GREATEST), line(2, 100, 0, 90), line(2, 5, 6, 7), line(1, 8, 9, 9)];
     assert_eq!(read_table(&log.concat(), 70), Ok(table.concat()));
@@ -280,7 +280,7 @@ fn the_batches_count_in_the_length_of_a_chunk() {
         // Stamp 1 + 31 × 2,729.
         assert_eq!(day(&log), Ok([2730, 2, 2730, 84_600]));
         assert_eq!(read_table(&log, AMPLE), Ok(table.clone()));
-        for mode in 1..=4 {
+        for mode in MODES.map(u32::from) {
             assert_eq!(summarise(&log, mode, 24), summarise(&longest_with(0), mode, 24));
         }
     }
@@ -289,8 +289,8 @@ fn the_batches_count_in_the_length_of_a_chunk() {
         let log = longest_with(batches);
         assert_eq!(day(&log), Err(2));
         assert_eq!(read_table(&log, AMPLE), Err(2));
-        for mode in 1..=4 {
-            assert_eq!(summarise(&log, mode, AMPLE), Err(2));
+        for mode in MODES {
+            assert_eq!(summarise(&log, mode.into(), AMPLE), Err(2));
         }
         assert_eq!(read_record(&log), Ok([1, 18, 0, 1, LEAST.into(), GREATEST.into(), 0]));
         assert_eq!(read_record(&log[18..]), Ok([1, 22, 1, 1, LEAST.into(), GREATEST.into(), 7]));

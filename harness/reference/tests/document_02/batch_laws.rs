@@ -4,7 +4,7 @@
 
 use crate::calls::{day, merge_row, plan, read_record, read_table, runs, summarise, work, write_log};
 use reference::gen::logs::{any_log, batch, cut, encode_mixed, log_or_faulty, rebatched};
-use reference::gen::raw::{batched, close, open, short};
+use reference::gen::raw::{batched, close, open, short, MODES};
 use reference::gen::Rng;
 use reference::record::{encode_all, Record, DEFAULT_CEILING, DEFAULT_FLOOR};
 
@@ -17,7 +17,7 @@ fn summaries_figures_and_tables_are_equal() {
         let chunk = encode_all(&log_or_faulty(&mut rng, 60));
         for _ in 0..2 {
             let other = rebatched(&mut rng, &chunk);
-            for mode in 1..=4 {
+            for mode in MODES.map(u32::from) {
                 assert_eq!(summarise(&other, mode, AMPLE), summarise(&chunk, mode, AMPLE));
             }
             assert_eq!(day(&other), day(&chunk));
@@ -34,8 +34,8 @@ fn rows_plans_runs_and_work_are_equal() {
         let count = 2 + rng.below(8);
         let chunks: Vec<Vec<u8>> = cut(&mut rng, &log, count).iter().map(|chunk| encode_mixed(&mut rng, chunk)).collect();
         let others: Vec<Vec<u8>> = chunks.iter().map(|chunk| rebatched(&mut rng, chunk)).collect();
-        for mode in 1..=4 {
-            let summary = |chunk: &Vec<u8>| summarise(chunk, mode, AMPLE).expect("readable records");
+        for mode in MODES {
+            let summary = |chunk: &Vec<u8>| summarise(chunk, mode.into(), AMPLE).expect("readable records");
             let [one, other] = [&chunks, &others].map(|chunks| chunks.iter().flat_map(summary).collect::<Vec<u8>>());
             assert_eq!(merge_row(&one, AMPLE), merge_row(&other, AMPLE));
             assert_eq!(plan(&one, AMPLE), plan(&other, AMPLE));

@@ -3,7 +3,7 @@
 //! has this file too.
 
 use crate::calls::{day, read_table, summarise, write_log};
-use reference::gen::raw::{close, line, log_d, longest_log, open, short};
+use reference::gen::raw::{close, line, log_d, longest_log, open, short, MODES};
 
 /// As long as the longest result: no log written is longer, and no table read.
 const AMPLE: usize = 65_520;
@@ -139,8 +139,8 @@ fn the_longest_logs_are_taken_by_the_other_calls() {
         let value = |line: &[u8]| i64::from(i32::from_le_bytes(line[2..6].try_into().unwrap()));
         assert_eq!(day(&log).map(|figures| figures[0]), Ok(table.chunks(14).map(value).sum()));
         // The hill of a whole log has a middle value and no slopes.
-        for mode in 1..=4 {
-            assert_eq!(summarise(&log, mode, 24).map(|summary| summary.len()), Ok(24));
+        for mode in MODES {
+            assert_eq!(summarise(&log, mode.into(), 24).map(|summary| summary.len()), Ok(24));
         }
     }
 }

@@ -1,8 +1,8 @@
 //! The reference held against document 02, request by request.
 //!
 //! Expected values come from document 02, or are written out by hand. Seeds are fixed.
-//! `day_table` and `round_trips` (L1), `batch` and `batch_laws` (L2) only make calls, and
-//! `compare` makes the same ones of the library.
+//! `day_table` and `round_trips` (L1), `batch` and `batch_laws` (L2), `drop_at_value` and
+//! `drop_laws` (L3) only make calls, and `compare` makes the same ones of the library.
 
 use reference::calls;
 
@@ -10,5 +10,8 @@ mod batch;
 mod batch_laws;
 mod day_table;
 mod drawn_batches;
+mod drawn_drops;
+mod drop_at_value;
+mod drop_laws;
 mod round_trips;
 mod tables;
