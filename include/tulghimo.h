@@ -93,12 +93,13 @@ int64_t tulghimo_finish(const uint8_t *summary, size_t n, int64_t figure[1]);
 int64_t tulghimo_plan(const uint8_t *row, size_t n, uint8_t *out, size_t cap);
 
 /* The runs of that plan, one for each line, in its order: their length, or -4 to -12. A run gives the figure of the join's
- * lowest record by x, the combined figures that its highest record holds and that lie wholly in neither of the two chunks. Net:
- * (a, 0, 0), x + a. Heaviest: (z, A, B), z for nothing, else the greater of A, which may be nothing, and x + B. Eaten: (z, a, l, h),
- * z for nothing, else x + a held between l and h; z may lie outside these. Stamp: (m, q, 0), m * x + q modulo 2^32. */
+ * lowest-depth record by x, the combined figures that its highest-depth record holds and that lie wholly in neither of the two
+ * chunks. Net: (a, 0, 0), x + a. Heaviest: (z, A, B), z for nothing, else the greater of A, which may be nothing, and x + B. Eaten:
+ * (z, a, l, h), z for nothing, else x + a held between l and h; z may lie outside these. Stamp: (m, q, 0), m * x + q modulo 2^32. */
 int64_t tulghimo_runs(const uint8_t *row, size_t n, uint8_t *out, size_t cap);
 
-/* The work along the plan of a row: 0 and the figure, the joins used and the number of levels folded, or -4 to -11. */
+/* The work along the plan of a row: 0 and the figure (as of tulghimo_finish), the joins used and the number of levels folded, or -4
+ * to -11. */
 int64_t tulghimo_work(const uint8_t *row, size_t n, int64_t totals[3]);
 
 /* The figures of a whole log, of the length of a chunk: 0 and net, heaviest, eaten (mode 5) and stamp, in this order, or -2, -3, -7,

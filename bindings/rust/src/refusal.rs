@@ -37,7 +37,7 @@ refusals! {
     TooLong = 2, "Is the chunk at most 65,536 bytes?", "the chunk is longer than 65,536 bytes, or the table than 38,220";
     Unreadable = 3, "Is every record readable?", "a record, or a line of a table, is not readable";
     PieceCount = 4, "Are there 2 to 64 pieces?", "there are not 2 to 64 pieces";
-    NotASummary = 5, "Is each given piece exactly one summary?", "a given piece is not exactly one summary";
+    NotASummary = 5, "Is each given piece exactly one summary?", "a given piece is not exactly one summary of a mode in use";
     MixedModes = 6, "Are all of one mode?", "the pieces are not all of one mode";
     LevelGap = 7, "Do neighbouring records meet at one level?", "neighbouring records do not meet at one level";
     LevelZero = 8, "Is every level between records above 0?", "a level between records is 0";

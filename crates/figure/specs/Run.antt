@@ -1,5 +1,5 @@
--- The runs of the four modes in the words of document 01, "Plan and runs": what a run's numbers do to x, how they are stored, and which
--- numbers are the run of given levels: IsNetRun .. IsStampRun, each mode's `IsRun`. That the call writes these: outcome/RunsWritten.
+-- The runs of the four modes in the words of document 01, "Plan and runs", and in mode 5 of document 02, L3: what a run's numbers do to x, how they are
+-- stored, and which numbers are the run of given levels: IsNetRun .. IsStampRun, each mode's `IsRun`. That the call writes these: outcome/RunsWritten.
 use mathlib.Core.Path.{_≡_}
 use mathlib.Core.List.{List, [], _∷_}
 use Prim.Native.Nat.{_+_, _*_}

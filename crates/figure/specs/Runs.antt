@@ -200,6 +200,16 @@ addend-sum Nothing (Figure c) = sym (+ℤ-idl c)
 addend-sum (Figure b) Nothing = sym (+ℤ-idr b)
 addend-sum (Figure b) (Figure c) = refl
 
+-- a bound of a record that holds h: where it holds nothing, its value stands for both bounds
+abbrev pub boundOf : Held → (v bound : ℤ) → ℤ
+boundOf Nothing v b = v
+boundOf (Figure x) v b = b
+
+pub bound-eaten : (r : Amounts) (h : Held) → clamp (r .value +ℤ addend h) (boundOf h (r .value) (r .floor)) (boundOf h (r .value) (r .ceiling)) ≡ eatenOf r h
+unfolding eatenOf
+bound-eaten r Nothing = ap (λ (y : ℤ). clamp y (r .value) (r .value)) (+ℤ-idr (r .value)) ∙ clamp-in (r .value) (r .value) (r .value) (≤ℤ-refl (r .value)) (≤ℤ-refl (r .value))
+bound-eaten r (Figure x) = refl
+
 eaten-figure : (r : Amounts) (s : ℤ) → clamp (r .value +ℤ s) (r .floor) (r .ceiling) ≡ eatenOf r (Figure s)
 unfolding eatenOf
 eaten-figure r s = refl

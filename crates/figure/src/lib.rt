@@ -5,7 +5,7 @@ ghost use lib.IntN.{pos, _+ℤ_, natAbs};
 ghost use Rattle.number.specs.Integer.{clamp, wrap};
 ghost use Rattle.figure.specs.FourModes.{lift, lineOf, eatenOf, readHeld, storeHeld};
 ghost use Rattle.figure.specs.Run.{addend};
-ghost use Rattle.figure.specs.Runs.{moved};
+ghost use Rattle.figure.specs.Runs.{moved, boundOf};
 ghost use Rattle.figure.specs.Bound.{sizeHeld};
 ghost use Rattle.figure.specs.Mode.{modeInUse, storesNothing, modeOf};
 ghost use Rattle.figure.specs.Stored.{sizeOf, none, combined, passed, amounts, Combines, Passes};
@@ -218,15 +218,24 @@ fn through_stamp(value: i32, floor: i32, ceiling: i32, held: i64) -> i64
     number::from_u32(stamp(value, number::to_u32(held)))
 }
 
+// A bound of a record that holds h. One that holds nothing is not bound: its value stands for both bounds, so that nothing has to branch on it.
+fn bound_of(h: Held, v: i64, bound: i64) -> i64
+    ensures { λ r. ⌜ r ≡ boundOf h v bound ⌝ }
+{
+    match h {
+        Held::Nothing => v,
+        Held::Figure(_) => bound,
+    }
+}
+
 // Floor and ceiling bind only a record that holds others.
 fn eaten(v: i64, floor: i64, ceiling: i64, h: Held) -> i64
     requires { ⌜ natAbs v + sizeHeld h < 2 ^ 63 ⌝ }
     ensures { λ r. ⌜ r ≡ eatenOf (amounts v floor ceiling) h ⌝ }
 {
-    match h {
-        Held::Nothing => v,
-        Held::Figure(x) => clamped_sum(v, x, floor, ceiling),
-    }
+    let low = bound_of(h, v, floor);
+    let high = bound_of(h, v, ceiling);
+    clamped_sum(v, addend_of(h), low, high)
 }
 
 fn through_eaten(value: i32, floor: i32, ceiling: i32, held: i64) -> i64

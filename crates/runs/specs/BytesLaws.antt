@@ -32,7 +32,7 @@ run-stored l at w m x y z =
       put-next 8 (putAt 8 (putAt 2 (putAt 2 (putAt 2 l at w) (at + 2) 20) (at + 4) m) (at + 6) x) (at + 14) (at + 22) y (bytesOf 8 z) (omega arith),
     )
 
--- the same, store by store: x, y and z are the run's numbers
+-- the same, store by store: x, y and z are the run's first three numbers
 pub front-written : (o a b c d e f : List ℕ) (at w m : ℕ) (k : Run) (x y z : ℤ) → w ≡ runLength m → a ≡ putAt 2 o at w → b ≡ putAt 2 a (at + 2) 20 → c ≡ putAt 2 b (at + 4) m →
     d ≡ putAt 8 c (at + 6) (ofZ w64 x) → e ≡ putAt 8 d (at + 14) (ofZ w64 y) → f ≡ putAt 8 e (at + 22) (ofZ w64 z) → x ≡ k .first → y ≡ k .second → z ≡ k .third → f ≡ sets o at (runFront m k)
 front-written o a b c d e f at w m k x y z j p q r s t u g h i = rw (u, t, s, r, q, p, g, h, i, j) (run-stored o at (runLength m) m (ofZ w64 (k .first)) (ofZ w64 (k .second)) (ofZ w64 (k .third)))

@@ -70,7 +70,7 @@ fn with_damage(rng: &mut Rng, input: Input) -> Vec<Input> {
     }
 }
 
-/// A mode, once in ten times none that is in use: mostly 3, which was.
+/// A mode, once in ten times none that is in use: a third of these are 3, which was.
 fn any_mode(rng: &mut Rng) -> u32 {
     let mode = u32::from(rng.pick(&MODES));
     let other = rng.bits() as u32;

@@ -48,7 +48,7 @@ fn well_formed() -> Vec<Sample> {
         ),
         sample(
             "returns.log",
-            "three tanks with pellets sent back, which count as they are, whatever their floor of 0: \
+            "three tanks with pellets sent back, which count as they are, although their floor is 0: \
              one tank above its ceiling, one below its floor, one between",
             returns(),
         ),
