@@ -218,7 +218,7 @@ fn through_stamp(value: i32, floor: i32, ceiling: i32, held: i64) -> i64
     number::from_u32(stamp(value, number::to_u32(held)))
 }
 
-// A bound of a record that holds h. One that holds nothing is not bound: its value stands for both bounds, so that nothing has to branch on it.
+// A bound of a record that holds h. One that holds nothing is not bound: its value stands for both bounds, and no branch is needed.
 fn bound_of(h: Held, v: i64, bound: i64) -> i64
     ensures { λ r. ⌜ r ≡ boundOf h v bound ⌝ }
 {
