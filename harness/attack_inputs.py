@@ -90,6 +90,8 @@ WHOLE = hill(1, 0, 0, 0, 3, [], 12)
 INSIDE = hill(1, 1, 1, 1, 1, [], 1)
 OPEN = hill(1, 0, 0, 1, 1, [], 0, [(10, 0, 100, 0)])
 SHUT = hill(1, 1, 0, 0, 0, [0], 0)
+# A close and an open at depth 1: from level 2 up to level 1 and down again.
+CLOSE_AND_OPEN = hill(1, 2, 1, 2, 1, [0], 0, [(7, 0, 100, 0)])
 # 10 g that holds 1 g, the inner closed by the second of three chunks and the outer by the third.
 TWO_OPEN = hill(1, 0, 0, 2, 2, [], 0, [(10, 0, 100, 0), (1, 0, 100, 0)])
 NESTED = TWO_OPEN + hill(1, 2, 1, 1, 0, [0], 0) + SHUT
@@ -154,7 +156,9 @@ INPUTS = {
     "judge/fault_10": call("finish::finish", spoilt(1, 10, 0, 0, 1)),
     "judge/ground_passed": call("finish::finish", hill(1, 2, 0, 1, 1, [0, 0], 0, [(0, 0, 0, 0)])),
     "judge/hill_100001": call("finish::finish", hill(1, 0, 0, 0, 100_001, [], 0)),
+    "judge/hill_start_cut": call("work::work", hill(1, 256, 0, 0, 1, [0] * 256, 0) + blank(1)),
     "judge/one_gram_more": call("finish::finish", hill(1, 0, 0, 0, 1, [], GRAMS + 1)),
+    "judge/spoilt_start_cut": merge(spoilt(1, 8, 256, 0, 1), blank(1)),
     "merge/hands_back_left": merge(HEAD, TAIL),
     "merge/modes_not_compared": merge(HEAD, halves(4)[1]),
     "merge_row/modes_of_row_not_compared": call("merge_row::merge_row", HEAD + halves(4)[1]),
@@ -162,9 +166,11 @@ INPUTS = {
     "merge_row/two_pieces_as_one": call("merge_row::merge_row", 2 * blank(1) + HEAD + TAIL),
     "merging/counts_before_piece": merge(HEAD, TAIL),
     "merging/end_for_peak": merge(OPEN, hill(1, 1, 1, 2, 1, [], 0, [(5, 0, 4, 0)])),
+    "merging/greater_peak": merge(CLOSE_AND_OPEN, hill(1, 2, 2, 2, 1, [], 1)),
     "merging/join_turned_round": merge(HEAD, TAIL),
     "merging/opened_not_cut": merge(spoilt(1, 9, 0, 1, 100_001), INSIDE),
     "merging/right_fault_ignored": merge(spoilt(1, 8, 0, 1, 2), spoilt(1, 7, 1, 0, 2)),
+    "merging/start_for_peak": merge(CLOSE_AND_OPEN, blank(1)),
     "number/big_endian_read": call("record::read_first", D),
     "number/big_endian_write": summarise(1, D),
     "number/product_not_wrapped": call("day::figures", TEN_OVER_MINUS_3),
@@ -205,7 +211,7 @@ INPUTS = {
     "row_plan/no_shared_record": call("plan::plan", OPEN + INSIDE + SHUT),
     "run_level/floor_is_ceiling": runs(5),
     "run_level/piece_begins_at_its_number": runs(1),
-    "run_level/start_for_peak": call("runs::runs", HEAD + hill(1, 2, 1, 2, 1, [0], 0, [(7, 0, 100, 0)]) + TAIL),
+    "run_level/start_for_peak": call("runs::runs", HEAD + CLOSE_AND_OPEN + TAIL),
     "runs/ends_for_peaks": runs(1),
     "runs/fit_of_30": runs(5),
     "runs/floor_as_ceiling": runs(5),

@@ -27,7 +27,7 @@ TIMEOUT_SECONDS = 300
 
 # The tests that take no time; the others follow where these notice nothing.
 QUICK = ["--", "paper::", "gate::", "figures::", "records::", "question_5::", "rows::pieces",
-         "rows::halves", "day_table::", "batch::", "drop_at_value::"]
+         "rows::halves", "day_table::", "batch::", "drop_at_value::", "levels::"]
 
 # Records: bytes, reading, ranges.
 RECORDS = [
@@ -154,6 +154,9 @@ MERGING = [
      "joining at level 0 is fault 8"),
     ("merge.rs", "if left_end != right_start {", "if left_end < right_start {",
      "not meeting is fault 7"),
+    ("merge.rs", "let peak = l.peak.min(r.peak);", "let peak = l.peak.max(r.peak);",
+     "impostor: the greater of two peaks"),
+    ("merge.rs", "let peak = l.peak.min(r.peak);", "let peak = l.peak;", "the right's peak counts"),
     ("merge.rs", "opened > MOST_OPENED", "opened >= MOST_OPENED", "100,000 opened are taken"),
     ("merge.rs", ".flatten().min()", ".flatten().max()", "the lowest of these faults"),
     ("merge.rs", "own_fault(right),", "None,", "the right's fault counts"),
@@ -165,6 +168,14 @@ ACCEPTING = [
     ("layout.rs", "&& (peak != 0 || start == 0 || end == 0)", "", "a peak of 0 has an end at 0"),
     ("layout.rs", " && peak <= end &&", " &&", "peak not above end"),
     ("layout.rs", "HIGHEST_LEVEL: u64 = 64;", "HIGHEST_LEVEL: u64 = 65;", "levels 0 to 64"),
+    ("layout.rs", "    start <= HIGHEST_LEVEL &&", "    start % 256 <= HIGHEST_LEVEL &&",
+     "impostor: a hill's start cut to 8 bits before it is judged"),
+    ("layout.rs", "&& end <= HIGHEST_LEVEL &&", "&& end % 256 <= HIGHEST_LEVEL &&",
+     "impostor: a hill's end cut to 8 bits before it is judged"),
+    ("layout.rs", "&& field16(bytes, 8) <= HIGHEST_LEVEL", "&& field16(bytes, 8) % 256 <= HIGHEST_LEVEL",
+     "impostor: a spoilt one's start cut to 8 bits before it is judged"),
+    ("layout.rs", "&& field16(bytes, 10) <= HIGHEST_LEVEL", "&& field16(bytes, 10) % 256 <= HIGHEST_LEVEL",
+     "impostor: a spoilt one's end cut to 8 bits before it is judged"),
     ("layout.rs", "&& !(flat && hill.opened == 0)", "&& (!flat || hill.opened < 1_000_000)",
      "a flat hill has opened one"),
     ("layout.rs", "hill.opened <= MOST_OPENED", "hill.opened <= MORE_OPENED",

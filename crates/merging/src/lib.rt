@@ -26,12 +26,12 @@ use judge::SpoiltHead;
 use slopes::Counts;
 
 // What a summary that is not blank says before its slopes, in one form for a spoilt one and a hill. `fault` is fault::NONE in a hill; a spoilt
-// one has no peak, and 0 stands there.
+// one has no peak, and 0 stands there. No level that passes the gate is above 64, so levels have 8 bits here; in bytes and in a head they have 16.
 struct Numbers {
     fault: u8,
-    start: u16,
-    peak: u16,
-    end: u16,
+    start: u8,
+    peak: u8,
+    end: u8,
     opened: u32,
 }
 
@@ -49,7 +49,7 @@ pub struct Merged {
 }
 
 // The lower of two levels.
-fn lower_level(a: u16, b: u16) -> u16
+fn lower_level(a: u8, b: u8) -> u8
     ensures { λ r. ⌜ r ≡ min a b ⌝ }
 {
     if a <= b { a } else { b }
@@ -61,7 +61,7 @@ fn merge_fault(a: Numbers, b: Numbers) -> u8
     ensures { λ r. ⌜ verdictOf r ≡ low (verdictOf (a .fault)) (low (verdictOf (b .fault)) (low (joint (a .end) (b .start)) (count (a .opened + b .opened)))) ⌝ }
 {
     let join = fault::lower(
-        fault::joint(a.end, b.start),
+        fault::joint(a.end as u16, b.start as u16),
         fault::count(a.opened + b.opened),
     );
     fault::lower(a.fault, fault::lower(b.fault, join))
@@ -84,16 +84,16 @@ fn side_of(b: &[u8]) -> Side
         Head::Blank => Side::Blank,
         Head::Spoilt(h) => Side::Part(Numbers {
             fault: h.fault as u8,
-            start: h.start,
+            start: h.start as u8,
             peak: 0,
-            end: h.end,
+            end: h.end as u8,
             opened: h.opened,
         }),
         Head::Hill(h) => Side::Part(Numbers {
             fault: fault::NONE,
-            start: h.start,
-            peak: h.peak,
-            end: h.end,
+            start: h.start as u8,
+            peak: h.peak as u8,
+            end: h.end as u8,
             opened: h.opened,
         }),
     }
@@ -166,16 +166,16 @@ fn merged_head(mode: u16, a: Merged) -> Head
     if fault < fault::NONE {
         return Head::Spoilt(SpoiltHead {
             fault: fault as u16,
-            start: p.start,
-            end: p.end,
+            start: p.start as u16,
+            end: p.end as u16,
             opened: p.opened,
         });
     }
     let middle = judge::held_in(mode, c.mid);
     Head::Hill(HillHead {
-        start: p.start,
-        peak: p.peak,
-        end: p.end,
+        start: p.start as u16,
+        peak: p.peak as u16,
+        end: p.end as u16,
         opened: p.opened,
         middle,
     })

@@ -12,5 +12,7 @@ mod day_table;
 mod drop_at_value;
 #[path = "../../reference/tests/document_02/drop_laws.rs"]
 mod drop_laws;
+#[path = "../../reference/tests/document_02/levels.rs"]
+mod levels;
 #[path = "../../reference/tests/document_02/round_trips.rs"]
 mod round_trips;

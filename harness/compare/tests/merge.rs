@@ -4,7 +4,7 @@ use compare::agree::{merge as merge_agrees, merge_row as row_agrees};
 use compare::LentBytes;
 use reference::calls;
 use reference::gen::{damage, forged, logs, Rng};
-use reference::layout::encode;
+use reference::layout::{encode, is_summary};
 use reference::mode::Mode;
 use reference::record::{encode_all, Record};
 use reference::summary::{Case, Spoilt, Summary};
@@ -310,6 +310,45 @@ fn longest_summaries() {
             both_agree(&bytes_of(&[up, down]));
             both_agree(&bytes_of(&[flat, high]));
         }
+    }
+}
+
+#[test]
+fn levels_at_both_ends() {
+    // Each two hills whose start, peak and end are near an end of 0 to 64, and each of them beside spoilt ones.
+    let mut rng = Rng::new(0x3ee);
+    let near = [0, 1, 2, 63, 64];
+    let all = near.iter().flat_map(|&start| near.iter().flat_map(move |&peak| near.map(|end| (start, peak, end))));
+    let accepted = |&(start, peak, end): &(usize, usize, usize)| peak <= start.min(end) && (peak > 0 || start.min(end) == 0);
+    let levels: Vec<_> = all.filter(accepted).collect();
+    assert_eq!(levels.len(), 39);
+    for (round, &left) in levels.iter().enumerate() {
+        let mode = Mode::ALL[round % 4];
+        for &right in &levels {
+            let (one, two) = (hill(&mut rng, mode, left, 200), hill(&mut rng, mode, right, 200));
+            both_agree(&bytes_of(&[one, two]));
+        }
+        for fault in [7, 8] {
+            let (bad, other) = (spoilt(mode, fault, left.0, left.2, 1), hill(&mut rng, mode, left, 200));
+            both_agree(&bytes_of(&[bad.clone(), other.clone()]));
+            both_agree(&bytes_of(&[other, bad]));
+        }
+    }
+}
+
+#[test]
+fn levels_past_a_byte() {
+    // Summaries that would be accepted if their levels were cut to 8 bits: 5 wherever they stand.
+    let mut rng = Rng::new(0x3ef);
+    for _ in 0..4000 {
+        let mode = rng.pick(&Mode::ALL);
+        let (past, other) = (forged::past_a_byte(&mut rng, mode), forged_bytes(&mut rng, mode));
+        let mut cut = past.clone();
+        let high_bytes = if past[2] == 17 { &[9, 11][..] } else { &[7, 9, 11] };
+        high_bytes.iter().for_each(|&at| cut[at] = 0);
+        assert!(is_summary(&cut) && !is_summary(&past));
+        let answers = [merge_agrees(&past, &other), merge_agrees(&other, &past), row_agrees(&[past, other].concat())];
+        assert!(answers.concat().iter().all(|&answer| answer == -5));
     }
 }
 

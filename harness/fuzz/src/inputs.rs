@@ -132,8 +132,8 @@ fn cut_log(rng: &mut Rng) -> Vec<Input> {
     inputs
 }
 
-/// Summaries one by one, by neighbours and as a row; the row also damaged, cut short, with a piece that does not belong, and with one
-/// of a mode out of use.
+/// Summaries one by one, by neighbours and as a row; the row also damaged, cut short, with a piece that does not belong, with one of a
+/// mode out of use, and with one whose levels take more than 8 bits.
 fn of_summaries(rng: &mut Rng, mode: Mode, mut summaries: Vec<Vec<u8>>) -> Vec<Input> {
     let mut inputs = Vec::new();
     for two in summaries.windows(2).take(4) {
@@ -149,9 +149,12 @@ fn of_summaries(rng: &mut Rng, mode: Mode, mut summaries: Vec<Vec<u8>>) -> Vec<I
         let other = rng.pick(&[mode, Mode::Net, Mode::Heaviest, Mode::Eaten, Mode::Stamp]);
         summaries[place] = encode(&forged::summary(rng, other));
         inputs.push(row(summaries.concat()));
-        let place = rng.below(summaries.len());
-        summaries[place] = forged::out_of_use(rng);
-        inputs.push(row(summaries.concat()));
+        for forged in [forged::out_of_use(rng), forged::past_a_byte(rng, mode)] {
+            let place = rng.below(summaries.len());
+            let before = std::mem::replace(&mut summaries[place], forged);
+            inputs.push(row(summaries.concat()));
+            summaries[place] = before;
+        }
     }
     inputs
 }
@@ -173,7 +176,8 @@ fn merge_list(rng: &mut Rng) -> Vec<Input> {
     inputs
 }
 
-/// Two accepted summaries that mostly meet, or any two.
+/// Two accepted summaries that mostly meet, or any two; and each beside one of a mode out of use, and one whose levels take more than
+/// 8 bits.
 fn forged_pieces(rng: &mut Rng) -> Vec<Input> {
     let mode = rng.pick(&Mode::ALL);
     let other = if rng.one_in(4) { rng.pick(&Mode::ALL) } else { mode };
@@ -184,8 +188,9 @@ fn forged_pieces(rng: &mut Rng) -> Vec<Input> {
     }
     let mut inputs = with_damage(rng, piece(two[0].clone()));
     let [left, right] = [two.remove(0), two.remove(0)];
-    let old = forged::out_of_use(rng);
-    inputs.extend([piece(old.clone()), pieces(left.clone(), old.clone()), pieces(old, right.clone())]);
+    for forged in [forged::out_of_use(rng), forged::past_a_byte(rng, mode)] {
+        inputs.extend([piece(forged.clone()), pieces(left.clone(), forged.clone()), pieces(forged, right.clone())]);
+    }
     inputs.extend(with_damage(rng, pieces(left, right)));
     inputs
 }

@@ -1,10 +1,30 @@
--- `merging::side_of` meets its contract, by the three cases of a head. Assumes nothing.
-use mathlib.Core.Path.{sym, _∙_}
+-- `merging::side_of` meets its contract, by the three cases of a head. No level of accepted bytes is above 64, so the casts to 8 bits lose nothing.
+-- Assumes nothing.
+use mathlib.Core.Path.{_≡_, sym, _∙_}
 use native.Mathlib.Omega.{arith}
-use Rattle.merging.specs.SayLaws.{says-blank, fault-small, says-spoilt, says-hill}
+use denote.Ref.{now}
+use Rattle.judge.specs.Judged.{headAt}
+use Rattle.judge.specs.declared.Head.the-variants.{Spoilt, Hill}
+use Rattle.merging.specs.SayLaws.{says-blank, fault-small, spoilt-bounds, hill-bounds, says-spoilt, says-hill}
 use borrow.Author.Needs.{needs}
 use Rattle.merging.proofs.side_of.Statement.{statement}
 use Rattle.merging.proofs.side_of.Tie as tie
+
+-- the bytes, where they are spoilt ..
+module _ (c : tie.After-head) where
+  abbrev given-spoilt : tie.Start
+  given-spoilt = c .before .before .before .before
+
+  is-spoilt : headAt (now (given-spoilt .args .b)) ≡ Spoilt (c .head .given .0 .0)
+  is-spoilt = sym (c .before .before .head-of .ensures) ∙ c .head .given .1
+
+-- .. and where they are a hill
+module _ (c : tie.After-head2) where
+  abbrev given-hill : tie.Start
+  given-hill = c .before .before .before .before
+
+  is-hill : headAt (now (given-hill .args .b)) ≡ Hill (c .head2 .given .0 .0)
+  is-hill = sym (c .before .before .head-of .ensures) ∙ c .head2 .given .1
 
 head-of-requires : tie.Need-head-of-requires
 head-of-requires c κs = search needs
@@ -16,19 +36,34 @@ enum-known-head : tie.Need-enum-known-head
 enum-known-head c = search needs
 
 cast-t6 : tie.Need-cast-t6
-cast-t6 c = record { fits = omega (arith, fault-small 1 _ (c .before .before .before .before .before .before .pre) (sym (c .before .before .before .before .head-of .ensures) ∙ c .before .before .head .given .1)) }
+cast-t6 c = let h = c .before .before in record { fits = omega (arith, fault-small 1 _ (given-spoilt h .pre) (is-spoilt h)) }
+
+cast-t7 : tie.Need-cast-t7
+cast-t7 c = let h = c .before .before .before in record { fits = omega (arith, spoilt-bounds 1 _ (given-spoilt h .pre) (is-spoilt h) .start-high) }
+
+cast-t8 : tie.Need-cast-t8
+cast-t8 c = let h = c .before .before .before .before in record { fits = omega (arith, spoilt-bounds 1 _ (given-spoilt h .pre) (is-spoilt h) .end-high) }
 
 enum-known-head-2 : tie.Need-enum-known-head-2
 enum-known-head-2 c = search needs
+
+cast-t10 : tie.Need-cast-t10
+cast-t10 c = let h = c .before .before in record { fits = omega (arith, hill-bounds 1 _ (given-hill h .pre) (is-hill h) .start-high) }
+
+cast-t11 : tie.Need-cast-t11
+cast-t11 c = let h = c .before .before .before in record { fits = omega (arith, hill-bounds 1 _ (given-hill h .pre) (is-hill h) .peak-high) }
+
+cast-t12 : tie.Need-cast-t12
+cast-t12 c = let h = c .before .before .before .before in record { fits = omega (arith, hill-bounds 1 _ (given-hill h .pre) (is-hill h) .end-high) }
 
 returns : tie.Need-returns
 returns c = λ m. says-blank m _ (c .before .before .before .before .pre) (sym (c .before .before .head-of .ensures) ∙ c .enum-told .given .1)
 
 returns-2 : tie.Need-returns-2
-returns-2 c = λ m. says-spoilt m _ (c .before .before .before .before .before .before .pre) (sym (c .before .before .before .before .head-of .ensures) ∙ c .before .before .head .given .1)
+returns-2 c = let h = c .before .before .before .before in λ m. says-spoilt m _ (given-spoilt h .pre) (is-spoilt h)
 
 returns-3 : tie.Need-returns-3
-returns-3 c = λ m. says-hill m _ (c .before .before .before .before .before .pre) (sym (c .before .before .before .head-of .ensures) ∙ c .before .head2 .given .1)
+returns-3 c = let h = c .before .before .before .before in λ m. says-hill m _ (given-hill h .pre) (is-hill h)
 
 pub side-of-spec : {M : Type 1} → statement M
 side-of-spec =
@@ -38,7 +73,12 @@ side-of-spec =
     enum-told
     enum-known-head
     cast-t6
+    cast-t7
+    cast-t8
     enum-known-head-2
+    cast-t10
+    cast-t11
+    cast-t12
     returns
     returns-2
     returns-3)

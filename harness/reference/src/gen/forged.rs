@@ -159,6 +159,28 @@ pub fn out_of_use(rng: &mut Rng) -> Vec<u8> {
     bytes
 }
 
+/// The bytes of a summary with a level that takes more than 8 bits, though its low byte is
+/// a level: one level of a spoilt summary or a hill, or all of them by as much, which leaves
+/// a hill as long as its levels say.
+pub fn past_a_byte(rng: &mut Rng, mode: Mode) -> Vec<u8> {
+    let levels = levels(rng);
+    let (case, high_bytes) = if rng.one_in(3) {
+        (Case::Spoilt(spoilt(rng, levels.start, levels.end)), &[9, 11][..])
+    } else {
+        let opened = opened(rng, &levels);
+        (Case::Hill(any_hill(rng, mode, &levels, opened)), &[7, 9, 11][..])
+    };
+    let any = 1 + rng.below(255) as u8;
+    let high = rng.pick(&[1, 255, any]);
+    let only = rng.pick(high_bytes);
+    let all = rng.one_in(2);
+    let mut bytes = encode(&Summary { mode, case });
+    for &at in high_bytes.iter().filter(|&&at| all || at == only) {
+        bytes[at] = high;
+    }
+    bytes
+}
+
 /// Summaries that mostly meet: each starts where the one before it ends, but for one
 /// in `stray`.
 pub fn neighbours(rng: &mut Rng, mode: Mode, count: usize, stray: usize) -> Vec<Summary> {

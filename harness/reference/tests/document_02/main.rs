@@ -2,7 +2,8 @@
 //!
 //! Expected values come from document 02, or are written out by hand. Seeds are fixed.
 //! `day_table` and `round_trips` (L1), `batch` and `batch_laws` (L2), `drop_at_value` and
-//! `drop_laws` (L3) only make calls, and `compare` makes the same ones of the library.
+//! `drop_laws` (L3) and `levels` (L4) only make calls, and `compare` makes the same ones of
+//! the library.
 
 use reference::calls;
 
@@ -13,5 +14,6 @@ mod drawn_batches;
 mod drawn_drops;
 mod drop_at_value;
 mod drop_laws;
+mod levels;
 mod round_trips;
 mod tables;
