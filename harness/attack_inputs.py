@@ -156,7 +156,7 @@ INPUTS = {
     "judge/fault_10": call("finish::finish", spoilt(1, 10, 0, 0, 1)),
     "judge/ground_passed": call("finish::finish", hill(1, 2, 0, 1, 1, [0, 0], 0, [(0, 0, 0, 0)])),
     "judge/hill_100001": call("finish::finish", hill(1, 0, 0, 0, 100_001, [], 0)),
-    "judge/hill_start_256": call("work::work", hill(1, 256, 0, 0, 1, [0] * 256, 0) + blank(1)),
+    "judge/hill_start_cut": call("work::work", hill(1, 256, 0, 0, 1, [0] * 256, 0) + blank(1)),
     "judge/one_gram_more": call("finish::finish", hill(1, 0, 0, 0, 1, [], GRAMS + 1)),
     "judge/spoilt_start_256": merge(spoilt(1, 8, 256, 0, 1), blank(1)),
     "merge/hands_back_left": merge(HEAD, TAIL),

@@ -26,7 +26,8 @@ use judge::SpoiltHead;
 use slopes::Counts;
 
 // What a summary that is not blank says before its slopes, in one form for a spoilt one and a hill. `fault` is fault::NONE in a hill; a spoilt
-// one has no peak, and 0 stands there. No level that passes the gate is above 64, so levels have 8 bits here; in bytes and in a head they have 16.
+// one has no peak, and any level may stand there. No level that passes the gate is above 64, so levels have 8 bits here; in bytes and in a head they
+// have 16.
 struct Numbers {
     fault: u8,
     start: u8,

@@ -347,8 +347,11 @@ fn levels_past_a_byte() {
         let high_bytes = if past[2] == 17 { &[9, 11][..] } else { &[7, 9, 11] };
         high_bytes.iter().for_each(|&at| cut[at] = 0);
         assert!(is_summary(&cut) && !is_summary(&past));
-        let answers = [merge_agrees(&past, &other), merge_agrees(&other, &past), row_agrees(&[past, other].concat())];
-        assert!(answers.concat().iter().all(|&answer| answer == -5));
+        for [left, right] in [[&past, &other], [&other, &past]] {
+            let row = [left.as_slice(), right].concat();
+            let answers = [merge_agrees(left, right), row_agrees(&row)].concat();
+            assert!(answers.iter().all(|&answer| answer == -5));
+        }
     }
 }
 

@@ -149,9 +149,9 @@ fn of_summaries(rng: &mut Rng, mode: Mode, mut summaries: Vec<Vec<u8>>) -> Vec<I
         let other = rng.pick(&[mode, Mode::Net, Mode::Heaviest, Mode::Eaten, Mode::Stamp]);
         summaries[place] = encode(&forged::summary(rng, other));
         inputs.push(row(summaries.concat()));
-        for forged in [forged::out_of_use(rng), forged::past_a_byte(rng, mode)] {
+        for wrong in [forged::out_of_use(rng), forged::past_a_byte(rng, mode)] {
             let place = rng.below(summaries.len());
-            let before = std::mem::replace(&mut summaries[place], forged);
+            let before = std::mem::replace(&mut summaries[place], wrong);
             inputs.push(row(summaries.concat()));
             summaries[place] = before;
         }
@@ -188,8 +188,8 @@ fn forged_pieces(rng: &mut Rng) -> Vec<Input> {
     }
     let mut inputs = with_damage(rng, piece(two[0].clone()));
     let [left, right] = [two.remove(0), two.remove(0)];
-    for forged in [forged::out_of_use(rng), forged::past_a_byte(rng, mode)] {
-        inputs.extend([piece(forged.clone()), pieces(left.clone(), forged.clone()), pieces(forged, right.clone())]);
+    for wrong in [forged::out_of_use(rng), forged::past_a_byte(rng, mode)] {
+        inputs.extend([piece(wrong.clone()), pieces(left.clone(), wrong.clone()), pieces(wrong, right.clone())]);
     }
     inputs.extend(with_damage(rng, pieces(left, right)));
     inputs

@@ -1,4 +1,5 @@
-//! Summaries and rows that question 5 accepts, most of which no chunk makes.
+//! Summaries and rows that question 5 accepts, most of which no chunk makes, and two kinds of
+//! bytes that it must not.
 
 use super::logs::{grams, VALUES};
 use super::Rng;

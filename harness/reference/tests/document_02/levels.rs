@@ -41,7 +41,7 @@ fn levels_of_64_stay() {
         assert_eq!(merged(&flat, &hill(mode, [64, 0, 0], 0)), hill(mode, [64, 0, 0], 1));
         // Down all 64 levels and up again: 64 records of 0 grams are closed.
         assert_eq!(merged(&hill(mode, [0, 0, 64], 64), &hill(mode, [64, 0, 0], 0)), whole(mode, 64));
-        // Spoilt ones keep both.
+        // Spoilt ones: the left's start and the right's end.
         let bad = spoilt(mode, 7, 64, 64, 3);
         assert_eq!(merged(&bad, &bad), spoilt(mode, 7, 64, 64, 6));
         assert_eq!(merged(&flat, &spoilt(mode, 8, 64, 64, 3)), spoilt(mode, 8, 64, 64, 4));
@@ -108,7 +108,7 @@ fn assert_5(bytes: &[u8], mode: u16) {
     }
 }
 
-/// 256 and 320 are 0 and 64 in their low bytes, and so are the highest such levels.
+/// Low bytes 0, 1 and 64 under the lowest high byte and the highest; 65,535 has no level even in its low byte.
 const PAST_A_BYTE: [u16; 7] = [256, 257, 320, 65_280, 65_281, 65_344, 65_535];
 
 #[test]
@@ -131,8 +131,10 @@ fn a_hill_with_levels_past_a_byte_gets_5() {
                 assert_5(&hill(mode, levels, 9), mode);
             }
         }
-        // One level, with all the values that it asks for: 256 would pass for 0, and 320 for 64.
-        for levels in [[256, 0, 0], [0, 0, 256], [320, 64, 64], [64, 64, 320], [320, 1, 1], [320, 0, 0], [320, 64, 320]] {
+        // One level or two, with all the values that they ask for: 256 would pass for 0, and 320 for 64.
+        for levels in
+            [[256, 0, 0], [0, 0, 256], [320, 64, 64], [64, 64, 320], [320, 1, 1], [320, 0, 0], [0, 0, 320], [320, 64, 320]]
+        {
             assert_5(&hill(mode, levels, 1000), mode);
         }
         // A peak of 320 would pass for 64 where no value says otherwise.
