@@ -6,26 +6,26 @@ use mathlib.Core.List.{List, [], _∷_, _++_, map, append-assoc, append-nil}
 use Prim.Native.Nat.{ℕ, zero, suc, _+_, _*_, _≤_}
 use native.Mathlib.Omega.{arith}
 use lib.Dec.{leb}
-use lib.IntN.{pos}
 use lib.ListN.{length, drop, length-append, length-drop, length-map}
 use lib.Seq.{drop-at}
 use borrow.Author.Tests.{leb-true, leb-false}
 use Rattle.gate.specs.Outcome.{result}
 use Rattle.number.specs.Bytes.{AllBytes}
 use Rattle.number.specs.FieldLaws.{bytes-nil, bytes-append}
-use Rattle.record.specs.Record.{inRange, recordsOf, before, openBytes, closeBytes, fieldsBytes}
+use Rattle.record.specs.Record.{inRange, recordsOf, before, openBytes, closeBytes, closeFields, fieldsBytes, chunkBytes}
 use Rattle.record.specs.Laws.{and-left, and-right, sound, Shape, full, short, batched, closed, shape, records-nil, records-next}
 use Rattle.record.specs.RangeLaws.{range-parts}
 use Rattle.record.specs.Readable.{First, first-read}
-use Rattle.record.specs.Encoding.{open-length, close-length, open-bytes, close-bytes, read-open, read-close, chunkBytes, chunk-again}
+use Rattle.record.specs.Encoding.{open-length, close-length, open-bytes, close-bytes, read-open, read-close, chunk-again}
 use Rattle.record.specs.declared.Fields.{Fields}
 use Rattle.figure.specs.FourModes.{Amounts}
 use Rattle.hill.specs.Log.{Record, opening, closing, opens, openedOf}
+use Rattle.hill.specs.Levels.{log-pairs}
 use Rattle.chunk.specs.Chunk.{recordOf, chunkOf, IsWellFormed}
 use Rattle.day_table.specs.Table.{TableLine, closesTo, logFrom}
 use Rattle.day_table.specs.Outcomes.{couldHold, allCouldHold, fullBytes, logBytes}
 use Rattle.day_table.specs.Claims.{Full, AllFull, comesBackAs}
-use Rattle.day_table.specs.TableLaws.{Under, log-pairs}
+use Rattle.day_table.specs.TableLaws.{Under}
 
 pub log-bytes : (xs : List (Record Amounts)) → AllBytes (logBytes xs)
 log-bytes [] = bytes-nil
@@ -46,7 +46,7 @@ RecordsInRange (closing d ∷ xs) = (d ≤ 63) × RecordsInRange xs
 -- what is read of a full record
 abbrev pub fieldsOf : Record Amounts → Fields
 fieldsOf (opening d r) = record { kind = 1; length = 18; depth = d; value = r .value; floor = r .floor; ceiling = r .ceiling; batch = 0 }
-fieldsOf (closing d) = record { kind = 2; length = 6; depth = d; value = pos 0; floor = pos 0; ceiling = pos 0; batch = 0 }
+fieldsOf (closing d) = closeFields d
 
 abbrev pub allFields : List (Record Amounts) → List Fields
 allFields [] = []

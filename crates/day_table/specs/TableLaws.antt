@@ -2,25 +2,22 @@
 use mathlib.Core.Path.{_≡_, refl, sym, ap, subst, _∙_}
 use mathlib.Core.Bool.{Bool, true, false, cond, _&&_}
 use mathlib.Core.List.{List, [], _∷_, _++_, map, append-nil}
-use Prim.Native.Nat.{ℕ, zero, suc, _+_, _*_, _≤_, _<_}
+use Prim.Native.Nat.{ℕ, zero, suc, _≤_, _<_}
 use native.Mathlib.Omega.{arith}
 use lib.Dec.{leb, ltb, eqb}
 use lib.ListN.{length, drop}
 use borrow.Author.Tests.{leb-true, leb-false, le-leb, lt-leb, ltb-true, lt-ltb, eqb-true, eq-eqb}
 use Rattle.record.specs.Laws.{and-left, and-right}
 use Rattle.figure.specs.FourModes.{Amounts}
-use Rattle.hill.specs.Verdict.{pass, joint, count, ends}
-use Rattle.hill.specs.VerdictLaws.{low-fst, low-snd, joint-pass, joint-high, joint-same, count-few, ends-pass, refuse-pass}
-use Rattle.hill.specs.Log.{Record, opening, closing, startLevel, endLevel, endOf, openedOf, joints, faultOf, logFault}
+use Rattle.hill.specs.Verdict.{pass}
+use Rattle.hill.specs.VerdictLaws.{refuse-pass}
+use Rattle.hill.specs.Log.{Record, opening, closing, openedOf, logFault}
 use Rattle.hill.specs.Closing.{at, OpensAt, Places}
 use Rattle.hill.specs.Places.{places-same, here-at, here-rest, select}
 use Rattle.hill.specs.HeldPlaces.{isOpen, opened-listed}
-use Rattle.hill.specs.Spell.{endFrom, end-from}
+use Rattle.hill.specs.Spell.{endFrom}
+use Rattle.hill.specs.Levels.{Stays, well-levels, levels-well}
 use Rattle.day_table.specs.Table.{TableLine, tableLine, tableOf, closesTo, logFrom, logOf, nestedAfter, nested}
-
-joint-meets : (a b : ℕ) → a ≡ b → 0 < a → joint a b ≡ pass
-joint-meets zero b e h = absurd (omega arith)
-joint-meets (suc a) b e h = subst (λ c. joint (suc a) c ≡ pass) e (joint-same a)
 
 -- ---- the table of the log is the table
 
@@ -54,22 +51,6 @@ lines-at log n (closing d ∷ xs) e = lines-at log (suc n) xs (here-rest log n (
 -- THE TABLE'S LINES ARE THE OPENED RECORDS, in log order: those that stand at the places of opens.
 pub table-places : (log : List (Record Amounts)) (ps : List ℕ) → Places (λ p. (d : ℕ) × OpensAt log p d) ps → map openOf (tableOf log) ≡ map (at log) ps
 table-places log ps l = sym (lines-at log 0 log refl) ∙ ap (map (at log)) (places-same (opened-listed log) l)
-
--- ---- levels: each record starts where the one before ended, above level 0
-
-abbrev Stays : ℕ → List (Record Amounts) → Type 0
-Stays l [] = Unit {0}
-Stays l (x ∷ xs) = (l ≡ startLevel x) × (0 < l) × Stays (endLevel x) xs
-
-joints-stays : (x : Record Amounts) (xs : List (Record Amounts)) → joints x xs ≡ pass → Stays (endLevel x) xs
-joints-stays x [] v = tt
-joints-stays x (y ∷ ys) v =
-    let j = low-fst (joint (endLevel x) (startLevel y)) (joints y ys) v in
-    (joint-pass (endLevel x) (startLevel y) j, joint-high (endLevel x) (startLevel y) j, joints-stays y ys (low-snd (joint (endLevel x) (startLevel y)) (joints y ys) v))
-
-stays-joints : (x : Record Amounts) (xs : List (Record Amounts)) → Stays (endLevel x) xs → joints x xs ≡ pass
-stays-joints x [] s = refl
-stays-joints x (y ∷ ys) s = rw (joint-meets (endLevel x) (startLevel y) (s .0) (s .1)) (stays-joints y ys (s .2))
 
 -- ---- the log of the table is the log
 
@@ -107,18 +88,13 @@ from-table l (closing d ∷ xs) s e =
     let g : l ≡ suc d = s .0 in
     ap (λ k. logFrom k (tableOf xs)) g ∙ from-close d (tableOf xs) (first-low d xs (s .2)) ∙ ap (λ (ys : List (Record Amounts)). closing d ∷ ys) (from-table d xs (s .2) e)
 
-log-parts : (x : Record Amounts) (xs : List (Record Amounts)) → logFault (x ∷ xs) ≡ pass → (joints x xs ≡ pass) × (startLevel x ≡ 0) × (endOf x xs ≡ 0)
-log-parts x xs v =
-    let e = ends-pass (startLevel x) (endOf x xs) (low-snd (faultOf x xs) (ends (startLevel x) (endOf x xs)) v) in
-    (low-fst (joints x xs) (count (openedOf (x ∷ xs))) (low-fst (faultOf x xs) (ends (startLevel x) (endOf x xs)) v), e .0, e .1)
-
 -- A WELL-FORMED LOG GIVES A TABLE THAT WRITES IT AGAIN: it is the only one with its table.
 pub log-table : (xs : List (Record Amounts)) → logFault xs ≡ pass → logOf (tableOf xs) ≡ xs
 log-table [] v = refl
 log-table (opening d r ∷ xs) v =
-    let p = log-parts (opening d r) xs v in
-    ap (λ (ys : List (Record Amounts)). opening d r ∷ ys) (from-table (suc d) xs (joints-stays (opening d r) xs (p .0)) (end-from (opening d r) xs ∙ p .2))
-log-table (closing d ∷ xs) v = absurd (omega (arith, log-parts (closing d) xs v .1))
+    let p = well-levels (opening d r) xs v in
+    ap (λ (ys : List (Record Amounts)). opening d r ∷ ys) (from-table (suc d) xs (p .stays) (p .end))
+log-table (closing d ∷ xs) v = absurd (omega (arith, well-levels (closing d) xs v .start))
 
 -- ---- question 13, as what must hold
 
@@ -159,28 +135,15 @@ stays-under l (closing d ∷ xs) s = under-more d l (tableOf xs) (omega (arith, 
 pub log-nested : (xs : List (Record Amounts)) → logFault xs ≡ pass → nested (tableOf xs) ≡ true
 log-nested [] v = refl
 log-nested (opening d r ∷ xs) v =
-    let p = log-parts (opening d r) xs v in
-    rw (eq-eqb d 0 (p .1)) (under-after d (tableOf xs) (stays-under (suc d) xs (joints-stays (opening d r) xs (p .0))))
-log-nested (closing d ∷ xs) v = absurd (omega (arith, log-parts (closing d) xs v .1))
+    let p = well-levels (opening d r) xs v in
+    rw (eq-eqb d 0 (p .start)) (under-after d (tableOf xs) (stays-under (suc d) xs (p .stays)))
+log-nested (closing d ∷ xs) v = absurd (omega (arith, well-levels (closing d) xs v .start))
 
 -- It has a line.
 pub log-some : (xs : List (Record Amounts)) → logFault xs ≡ pass → 1 ≤ length (tableOf xs)
 log-some [] v = absurd (refuse-pass v)
 log-some (opening d r ∷ xs) v = omega arith
-log-some (closing d ∷ xs) v = absurd (omega (arith, log-parts (closing d) xs v .1))
-
-stays-count : (l : ℕ) (xs : List (Record Amounts)) → Stays l xs → l + 2 * openedOf xs ≡ endFrom l xs + length xs
-stays-count l [] s = omega arith
-stays-count l (opening d r ∷ xs) s = omega (arith, s .0, stays-count (suc d) xs (s .2))
-stays-count l (closing d ∷ xs) s = omega (arith, s .0, stays-count d xs (s .2))
-
--- Each record that it opens it closes.
-pub log-pairs : (xs : List (Record Amounts)) → logFault xs ≡ pass → length xs ≡ 2 * openedOf xs
-log-pairs [] v = refl
-log-pairs (opening d r ∷ xs) v =
-    let p = log-parts (opening d r) xs v in
-    omega (arith, p .1, stays-count (suc d) xs (joints-stays (opening d r) xs (p .0)), end-from (opening d r) xs, p .2)
-log-pairs (closing d ∷ xs) v = absurd (omega (arith, log-parts (closing d) xs v .1))
+log-some (closing d ∷ xs) v = absurd (omega (arith, well-levels (closing d) xs v .start))
 
 stays-closes : (e l : ℕ) (ys : List (Record Amounts)) → e ≤ l → Stays e ys → Stays l (closesTo l e ++ ys)
 stays-closes e zero ys h s = subst (λ k. Stays k ys) (omega arith) s
@@ -216,12 +179,8 @@ table-opened (closing d ∷ xs) = omega (arith, table-opened xs)
 
 -- A NESTED TABLE WRITES A WELL-FORMED LOG.
 pub nested-log : (x : TableLine) (ls : List TableLine) → nested (x ∷ ls) ≡ true → length (x ∷ ls) ≤ 100_000 → logFault (logOf (x ∷ ls)) ≡ pass
-unfolding ends
 nested-log x ls p few =
     let o : Record Amounts = opening (x .depth) (x .amounts) in
     let n = nested-under x ls p in
     let w = under-stays (suc (x .depth)) ls (n .1) in
-    let j : joints o (logFrom (suc (x .depth)) ls) ≡ pass = stays-joints o (logFrom (suc (x .depth)) ls) (w .0) in
-    let c : count (openedOf (logOf (x ∷ ls))) ≡ pass = count-few _ (omega (arith, table-opened (logOf (x ∷ ls)), ap length (table-log (x ∷ ls)))) in
-    let e : endOf o (logFrom (suc (x .depth)) ls) ≡ 0 = sym (end-from o (logFrom (suc (x .depth)) ls)) ∙ w .1 in
-    rw (j, c, e, n .0)
+    levels-well o (logFrom (suc (x .depth)) ls) (record { start = n .0; stays = w .0; end = w .1 }) (omega (arith, table-opened (logOf (x ∷ ls)), ap length (table-log (x ∷ ls))))

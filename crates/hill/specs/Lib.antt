@@ -26,6 +26,7 @@ pub mod Map
 pub mod TreeLaws
 pub mod Spell
 pub mod WellFormed
+pub mod Levels
 pub mod FigureLaws
 -- Held, opened, subtrees and the values of "Summaries" by places.
 pub mod Places

@@ -6,7 +6,7 @@ use Prim.Native.Nat.{ℕ, _^_, _≤_, _<_}
 use native.Mathlib.Omega.{arith}
 use lib.ListN.{length, drop, length-append, drop-of-length-le}
 use lib.Dec.{lit≤, lit<}
-use lib.IntN.{ℤ, pos}
+use lib.IntN.{ℤ}
 use mir.Syntax.{w32}
 use mir.Val.{SFits, toZ, ofZ}
 use mir.Facts.{fits-ofZ, toZ-ofZ}
@@ -16,7 +16,7 @@ use Rattle.number.specs.Bytes.{AllBytes, leAt, bytesOf, i32At}
 use Rattle.number.specs.Laws.{leAt-lt, field-here, field-past, length-bytesOf}
 use Rattle.number.specs.FieldLaws.{split-field, split-signed, bytes-append, bytes-drop, bytes-bytesOf}
 use Rattle.number.specs.IntegerLaws.{sfits-abs}
-use Rattle.record.specs.Record.{within, inRange, accepted, whole, byShape, readOf, recordsOf, defaultFloor, defaultCeiling, openFront, openBytes, batchBytes, shortBytes, closeBytes, fieldsBytes}
+use Rattle.record.specs.Record.{within, inRange, accepted, whole, byShape, readOf, recordsOf, defaultFloor, defaultCeiling, openFront, openBytes, batchBytes, shortBytes, closeBytes, fieldsBytes, shortFields, closeFields, chunkBytes}
 use Rattle.record.specs.Laws.{within-size, Sound, sound, Shape, full, short, batched, closed, shape}
 use Rattle.record.specs.RangeLaws.{range-parts, close-in-range}
 use Rattle.record.specs.Readable.{First, first-read, none-read}
@@ -31,7 +31,7 @@ open-length d v l h = front-length 18 d v l h
 pub batch-length : (d : ℕ) (v l h : ℤ) (b : ℕ) → length (batchBytes d v l h b) ≡ 22
 batch-length d v l h b = omega (arith, length-append (openFront 22 d v l h) (bytesOf 4 b), front-length 22 d v l h, length-bytesOf 4 b)
 
-short-length : (d : ℕ) (v : ℤ) → length (shortBytes d v) ≡ 10
+pub short-length : (d : ℕ) (v : ℤ) → length (shortBytes d v) ≡ 10
 short-length d v = simp (length-append, length-bytesOf)
 
 pub close-length : (d : ℕ) → length (closeBytes d) ≡ 6
@@ -41,6 +41,9 @@ pub open-bytes : (d : ℕ) (v l h : ℤ) → AllBytes (openBytes d v l h)
 open-bytes d v l h =
     bytes-append (bytesOf 2 18) _ (bytes-bytesOf 2 18) (bytes-append (bytesOf 2 1) _ (bytes-bytesOf 2 1) (bytes-append (bytesOf 2 d) _ (bytes-bytesOf 2 d)
     (bytes-append (bytesOf 4 (ofZ w32 v)) _ (bytes-bytesOf 4 _) (bytes-append (bytesOf 4 (ofZ w32 l)) _ (bytes-bytesOf 4 _) (bytes-bytesOf 4 _)))))
+
+pub short-bytes : (d : ℕ) (v : ℤ) → AllBytes (shortBytes d v)
+short-bytes d v = bytes-append (bytesOf 2 10) _ (bytes-bytesOf 2 10) (bytes-append (bytesOf 2 1) _ (bytes-bytesOf 2 1) (bytes-append (bytesOf 2 d) _ (bytes-bytesOf 2 d) (bytes-bytesOf 4 _)))
 
 pub close-bytes : (d : ℕ) → AllBytes (closeBytes d)
 close-bytes d = bytes-append (bytesOf 2 6) _ (bytes-bytesOf 2 6) (bytes-append (bytesOf 2 2) _ (bytes-bytesOf 2 2) (bytes-bytesOf 2 d))
@@ -104,8 +107,7 @@ module _ (d : ℕ) (v : ℤ) (r : List ℕ) where
   long-short : 10 ≤ length (shortBytes d v ++ r)
   long-short = omega (arith, length-append (shortBytes d v) r, short-length d v)
 
-  pub read-short-open : inRange d v defaultFloor defaultCeiling ≡ true → readOf (shortBytes d v ++ r) ≡
-      result (record { kind = 1; length = 10; depth = d; value = v; floor = defaultFloor; ceiling = defaultCeiling; batch = 0 })
+  pub read-short-open : inRange d v defaultFloor defaultCeiling ≡ true → readOf (shortBytes d v ++ r) ≡ result (shortFields d v)
   unfolding readOf byShape whole accepted
   read-short-open ok =
       let p = range-parts d v defaultFloor defaultCeiling ok in
@@ -120,7 +122,7 @@ module _ (d : ℕ) (r : List ℕ) where
   long-close : 6 ≤ length (closeBytes d ++ r)
   long-close = omega (arith, length-append (closeBytes d) r, close-length d)
 
-  pub read-close : d ≤ 63 → readOf (closeBytes d ++ r) ≡ result (record { kind = 2; length = 6; depth = d; value = pos 0; floor = pos 0; ceiling = pos 0; batch = 0 })
+  pub read-close : d ≤ 63 → readOf (closeBytes d ++ r) ≡ result (closeFields d)
   unfolding readOf byShape whole accepted
   read-close low =
       let e0 : leAt 2 (closeBytes d ++ r) 0 ≡ 6 = simp append-assoc (field-here 2 6 _ (lit< tt)) in
@@ -166,10 +168,6 @@ module _ (s : List ℕ) (all : AllBytes s) where
   read-back f r e = shape-back r f (sound s f e) (shape s f e)
 
 -- ---- the bytes of a readable chunk are those of its records
-
-abbrev pub chunkBytes : List Fields → List ℕ
-chunkBytes [] = []
-chunkBytes (f ∷ fs) = fieldsBytes f ++ chunkBytes fs
 
 pub chunk-again : (fs : List Fields) (b : List ℕ) → AllBytes b → recordsOf b ≡ result fs → chunkBytes fs ≡ b
 chunk-again [] b all e = sym (drop-of-length-le b {i = 0} (omega (arith, none-read b e)))

@@ -59,11 +59,17 @@ fullOpen s = openOf 18 s
 abbrev pub openWithBatch : List ℕ → Fields
 openWithBatch s = openOf 22 s
 
+abbrev pub shortFields : (depth : ℕ) → (value : ℤ) → Fields
+shortFields depth value = record { kind = 1; length = 10; depth = depth; value = value; floor = defaultFloor; ceiling = defaultCeiling; batch = 0 }
+
 abbrev pub shortOpen : List ℕ → Fields
-shortOpen s = record { kind = 1; length = 10; depth = leAt 2 s 4; value = i32At s 6; floor = defaultFloor; ceiling = defaultCeiling; batch = 0 }
+shortOpen s = shortFields (leAt 2 s 4) (i32At s 6)
+
+abbrev pub closeFields : (depth : ℕ) → Fields
+closeFields depth = record { kind = 2; length = 6; depth = depth; value = pos 0; floor = pos 0; ceiling = pos 0; batch = 0 }
 
 abbrev pub close : List ℕ → Fields
-close s = record { kind = 2; length = 6; depth = leAt 2 s 4; value = pos 0; floor = pos 0; ceiling = pos 0; batch = 0 }
+close s = closeFields (leAt 2 s 4)
 
 -- The record f, if its fields are in range.
 unfoldable pub accepted : Fields → Outcome Fields
@@ -133,3 +139,8 @@ fieldsBytes f =
     (cond (eqb (f .length) 18) (openBytes (f .depth) (f .value) (f .floor) (f .ceiling))
     (cond (eqb (f .length) 10) (shortBytes (f .depth) (f .value)) (batchBytes (f .depth) (f .value) (f .floor) (f .ceiling) (f .batch))))
     (closeBytes (f .depth))
+
+-- The bytes of records, one after the other.
+abbrev pub chunkBytes : List Fields → List ℕ
+chunkBytes [] = []
+chunkBytes (f ∷ fs) = fieldsBytes f ++ chunkBytes fs

@@ -3,17 +3,14 @@ use mathlib.Core.Path.{_≡_, refl, sym, ap, subst, _∙_}
 use mathlib.Core.Bool.{Bool, true, false, _&&_}
 use mathlib.Core.Logic.{dite}
 use mathlib.Core.List.{List}
-use Prim.Native.Nat.{ℕ, _*_, _/_, _%_, _≤_, _<_}
+use Prim.Native.Nat.{ℕ, _*_, _/_, _%_, _≤_}
 use native.Mathlib.Decide.{decLt}
 use native.Mathlib.Omega.{arith}
 use lib.Dec.{leb, eqb}
 use lib.ListN.{length}
-use lib.Seq.{sets}
 use borrow.Author.Tests.{le-leb, lt-leb, leb-true, eqb-true}
 use Rattle.gate.specs.Outcome.{Outcome, refused, result, onward, written}
 use Rattle.gate.specs.Laws.{not-result}
-use Rattle.gate.specs.Promises.{Answers, stored-first, answer-fits, answer-short}
-use Rattle.gate.specs.declared.Written.the-variants.{Bytes, Refused}
 use Rattle.record.specs.Laws.{and-left, and-right}
 use Rattle.figure.specs.FourModes.{Amounts}
 use Rattle.hill.specs.Log.{Record, openedOf}
@@ -26,14 +23,6 @@ use Rattle.day_table.specs.TableLaws.{table-opened}
 use Rattle.day_table.specs.LineLaws.{length-lines, length-table}
 use Rattle.day_table.specs.CallLaws.{Taken, unreadable, not-nested, no-line, nested-length}
 use Rattle.table.specs.Contracts.{firstNo, Opens, TableFits}
-
--- ---- bytes that are all stored, or do not fit
-
-pub all-stored : (w before : List ℕ) {after : List ℕ} {n : ℕ} → n ≡ length w → n ≤ length before → after ≡ sets before 0 w → Answers (written (length before) w) before after (Bytes n)
-all-stored w before {after} e h s = answer-fits w before (omega arith) e (stored-first w before after (omega arith) s)
-
-pub too-short-stored : (w before : List ℕ) {n : ℕ} → n ≡ length w → length before < n → Answers (written (length before) w) before before (Refused 12)
-too-short-stored w before e h = answer-short w before (omega arith)
 
 -- ---- questions 3, 13 and 10 by one number
 

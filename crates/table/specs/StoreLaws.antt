@@ -1,4 +1,4 @@
--- The stores of a line, of an open and of a close. Assumes nothing.
+-- The stores of a line and of an open. Assumes nothing.
 use mathlib.Core.Path.{_≡_, ap, _∙_}
 use mathlib.Core.List.{List, _++_, append-assoc}
 use Prim.Native.Nat.{ℕ, _+_}
@@ -9,7 +9,8 @@ use mir.Syntax.{w32}
 use mir.Val.{ofZ}
 use Rattle.number.specs.Bytes.{bytesOf, putAt}
 use Rattle.number.specs.Laws.{stores-next, length-bytesOf}
-use Rattle.record.specs.Record.{openBytes, closeBytes}
+use Rattle.record.specs.Record.{openBytes}
+use Rattle.record_writer.specs.StoreLaws.{head-stores}
 use Rattle.figure.specs.Stored.{amounts}
 use Rattle.day_table.specs.Table.{tableLine}
 use Rattle.day_table.specs.Outcomes.{tableLineBytes}
@@ -28,17 +29,6 @@ line-stores o o₁ o₂ o₃ o₄ i d v f c v′ f′ c′ ev ef ec e₁ e₂ e�
     ∙ stores-next o i (i + 10) ((D ++ W) ++ F) C (simp (length-append, length-bytesOf))
     ∙ simp append-assoc)
 
--- two numbers of 16 bits, and then the rest
-head-stores : (o o₁ o₂ o₃ : List ℕ) (i n k : ℕ) (r : List ℕ) → o₁ ≡ putAt 2 o i n → o₂ ≡ putAt 2 o₁ (i + 2) k → o₃ ≡ sets o₂ (i + 4) r → o₃ ≡ sets o i (bytesOf 2 n ++ (bytesOf 2 k ++ r))
-head-stores o o₁ o₂ o₃ i n k r e₁ e₂ e₃ =
-    e₃ ∙ simp (e₂, e₁)
-    (ap (λ (l : List ℕ). sets l (i + 4) r) (stores-next o i (i + 2) (bytesOf 2 n) (bytesOf 2 k) (simp length-bytesOf))
-    ∙ stores-next o i (i + 4) (bytesOf 2 n ++ bytesOf 2 k) r (simp (length-append, length-bytesOf))
-    ∙ simp append-assoc)
-
 pub open-stores : (o o₁ o₂ o₃ : List ℕ) (i d : ℕ) (v f c v′ f′ c′ : ℤ) → v′ ≡ v → f′ ≡ f → c′ ≡ c
     → o₁ ≡ putAt 2 o i 18 → o₂ ≡ putAt 2 o₁ (i + 2) 1 → o₃ ≡ sets o₂ (i + 4) (tableLineBytes (tableLine d (amounts v′ f′ c′))) → o₃ ≡ sets o i (openBytes d v f c)
 open-stores o o₁ o₂ o₃ i d v f c v′ f′ c′ ev ef ec e₁ e₂ e₃ = head-stores o o₁ o₂ o₃ i 18 1 (tableLineBytes (tableLine d (amounts v f c))) e₁ e₂ (e₃ ∙ rw (ev, ef, ec))
-
-pub close-stores : (o o₁ o₂ o₃ : List ℕ) (i d : ℕ) → o₁ ≡ putAt 2 o i 6 → o₂ ≡ putAt 2 o₁ (i + 2) 2 → o₃ ≡ putAt 2 o₂ (i + 4) d → o₃ ≡ sets o i (closeBytes d)
-close-stores o o₁ o₂ o₃ i d e₁ e₂ e₃ = head-stores o o₁ o₂ o₃ i 6 2 (bytesOf 2 d) e₁ e₂ e₃

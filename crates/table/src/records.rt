@@ -5,7 +5,7 @@ ghost use Prim.Native.Nat.{_+_, _≤_};
 ghost use lib.ListN.{length};
 ghost use lib.Seq.{sets};
 ghost use Rattle.number.specs.Writing.{StoredAt};
-ghost use Rattle.record.specs.Record.{openBytes, closeBytes};
+ghost use Rattle.record.specs.Record.{openBytes};
 ghost use Rattle.day_table.specs.Table.{closesTo, logOf};
 ghost use Rattle.day_table.specs.Outcomes.{tableLines, allCouldHold, logBytes};
 use crate::lines;
@@ -20,16 +20,6 @@ fn write_open(out: &mut [u8], at: usize, depth: u16, value: i32, floor: i32, cei
     lines::write_line(out, at + 4, depth, value, floor, ceiling);
 }
 
-// A close, 6 bytes.
-fn write_close(out: &mut [u8], at: usize, depth: u16)
-    requires { ⌜ at + 6 ≤ length (now out) ⌝ }
-    ensures { λ _. ⌜ now (out .exit) ≡ sets (now (out .entry)) at (closeBytes depth) ⌝ }
-{
-    number::write_u16(out, at, 6);
-    number::write_u16(out, at + 2, 2);
-    number::write_u16(out, at + 4, depth);
-}
-
 // The closes from one level down to another, deepest first. It answers where they end.
 fn write_closes(out: &mut [u8], start: usize, from: u16, to: u16) -> usize
     requires { ⌜ start + length (logBytes (closesTo from to)) ≤ length (now out) ⌝ }
@@ -39,7 +29,7 @@ fn write_closes(out: &mut [u8], start: usize, from: u16, to: u16) -> usize
     let mut level = from;
     while to < level {
         level -= 1;
-        write_close(out, at, level);
+        record_writer::write_close(out, at, level);
         at += 6;
     }
     at

@@ -8,11 +8,12 @@ use native.Mathlib.Decide.{decLt}
 use native.Mathlib.Omega.{arith}
 use lib.Dec.{leb, eqb}
 use lib.ListN.{length}
-use borrow.Author.Tests.{eqb-true}
+use borrow.Author.Tests.{eqb-true, leb-true}
 use Rattle.gate.specs.Outcome.{Outcome, refused, result, question, onward, written}
 use Rattle.gate.specs.Answers.{lengthAnswered}
 use Rattle.number.specs.Bytes.{AllBytes}
 use Rattle.record.specs.Record.{recordsOf}
+use Rattle.record.specs.Laws.{and-right}
 use Rattle.record.specs.declared.Fields.{Fields}
 use Rattle.figure.specs.Mode.{modeOf, modeInUse}
 use Rattle.hill.specs.Summary.{summaryOf}
@@ -24,6 +25,7 @@ use Rattle.summary.specs.Accepted.{IsSummaryIn, encode-fits, encode-decode, dec
 use Rattle.summary.specs.Outcomes.{summaryBytes, mergeBytes, summariseOutcome, mergeOutcome}
 use Rattle.figure.specs.FourModes.{Amounts}
 use Rattle.hill.specs.Log.{Record}
+use Rattle.hill.specs.Row.{joined}
 use Rattle.chunk.specs.Chunk.{chunkOf, wholeLog}
 use Rattle.summary.specs.MergeBytes.{merge-accepted, merge-bytes}
 use Rattle.summary.specs.OutcomeLaws.{chunk-readable}
@@ -37,6 +39,8 @@ use Rattle.runs.specs.CallLaws.{runs-4750}
 use Rattle.day_table.specs.Table.{tableOf}
 use Rattle.day_table.specs.Outcomes.{tableBytes, writeLogOutcome, readTableOutcome}
 use Rattle.day_table.specs.RoundTrips.{written-log, table-short}
+use Rattle.day_list.specs.Days.{smallDays, smallDaysOutcome}
+use Rattle.day_list.specs.Counts.{most-54912}
 use Rattle.tulghimo.specs.Interface.{Short}
 
 short-question : (n : ℕ) (t : Bool) (o : Outcome (List ℕ)) → Short (lengthAnswered o) → Short (lengthAnswered (question n t o))
@@ -122,7 +126,7 @@ short-log table cap = go (writeLogOutcome table cap) refl
     go (refused n) e = tt
     go (result w) e = omega (arith, written-log table cap e .short)
 
--- .. and the table of a log at most 57,344.
+-- .. the table of a log at most 57,344, ..
 pub short-table : (log : List ℕ) (cap : ℕ) → Short (lengthAnswered (readTableOutcome log cap))
 unfolding readTableOutcome
 short-table log cap = go (wholeLog log) refl
@@ -130,3 +134,12 @@ short-table log cap = go (wholeLog log) refl
     go : (o : Outcome (List (Record Amounts))) → wholeLog log ≡ o → Short (lengthAnswered (onward o (λ xs. written cap (tableBytes (tableOf xs)))))
     go (refused n) e = tt
     go (result xs) e = short-written cap (tableBytes (tableOf xs)) (omega (arith, table-short log xs e))
+
+-- .. and all small days at most 54,912.
+pub short-days : (n cap : ℕ) → Short (lengthAnswered (smallDaysOutcome n cap))
+unfolding smallDaysOutcome
+short-days n cap = go (leb 1 n && leb n 8) refl
+  where
+    go : (t : Bool) → leb 1 n && leb n 8 ≡ t → Short (lengthAnswered (question 14 t (written cap (joined (smallDays n)))))
+    go false e = tt
+    go true e = short-written cap (joined (smallDays n)) (omega (arith, most-54912 n (leb-true n 8 (and-right (leb 1 n) (leb n 8) e))))

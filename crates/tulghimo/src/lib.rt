@@ -9,6 +9,7 @@ ghost use Rattle.summary.specs.Outcomes.{summariseOutcome, mergeOutcome, finish
 ghost use Rattle.outcome.specs.Outcomes.{mergeRowOutcome, planOutcome, runsOutcome, workOutcome};
 ghost use Rattle.outcome.specs.Day.{dayOutcome};
 ghost use Rattle.day_table.specs.Outcomes.{writeLogOutcome, readTableOutcome};
+ghost use Rattle.day_list.specs.Days.{smallDaysOutcome};
 ghost use Rattle.work.specs.Answers.{workIn};
 ghost use Rattle.tulghimo.specs.Interface.{statusOf, lengthStatus, Short, fieldsAfter, figureAfter, figuresAfter, workAfter};
 use day::Day;
@@ -192,4 +193,14 @@ pub extern "C" fn tulghimo_read_table(log: &[u8], out: &mut [u8]) -> i64
 {
     let table = table::read_table(log, out);
     status(table)
+}
+
+// All small days with n opened records, one log after another: their length, or -14 or -12 and `out` as it was.
+#[no_mangle]
+pub extern "C" fn tulghimo_small_days(n: u32, out: &mut [u8]) -> i64
+    ensures answer { λ r. ⌜ r ≡ lengthStatus (lengthAnswered (smallDaysOutcome n (length (now (out .entry))))) ⌝ }
+    ensures buffer { λ _. ⌜ now (out .exit) ≡ bufferAfter (smallDaysOutcome n (length (now (out .entry)))) (now (out .entry)) ⌝ }
+{
+    let logs = small_days::small_days(n, out);
+    status(logs)
 }

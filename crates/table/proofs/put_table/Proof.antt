@@ -1,9 +1,10 @@
 -- `table::put_table` meets its contract: the fit is tested before the first store. Assumes nothing.
 use borrow.Author.Needs.{needs}
 use denote.Ref.{now}
+use Rattle.gate.specs.Promises.{all-stored, none-stored}
 use Rattle.day_table.specs.Table.{tableOf}
 use Rattle.day_table.specs.Outcomes.{tableBytes}
-use Rattle.table.specs.CallLaws.{all-stored, too-short-stored, table-total, opens-fit}
+use Rattle.table.specs.CallLaws.{table-total, opens-fit}
 use Rattle.table.proofs.put_table.Statement.{statement}
 use Rattle.table.proofs.put_table.Tie as tie
 
@@ -11,7 +12,7 @@ mul-total : tie.Need-mul-total
 mul-total c = search needs
 
 returns : tie.Need-returns
-returns c xs i = let a = c .before .before .before in too-short-stored (tableBytes (tableOf xs)) (now (a .args .out)) (table-total (a .pre) i) (c .if1 .taken)
+returns c xs i = let a = c .before .before .before in none-stored (tableBytes (tableOf xs)) (now (a .args .out)) (table-total (a .pre) i) (c .if1 .taken)
 
 write-table-requires : tie.Need-write-table-requires
 write-table-requires c κs = opens-fit (c .before .before .before .before .pre) (c .before .if1 .left)

@@ -1,9 +1,9 @@
--- `table::records::write_close` meets its contract. Assumes nothing.
+-- `record_writer::write_close` meets its contract. Assumes nothing.
 use borrow.Author.Needs.{needs}
 use denote.Ref.{now}
-use Rattle.table.specs.StoreLaws.{close-stores}
-use Rattle.table.proofs.records.write_close.Statement.{statement}
-use Rattle.table.proofs.records.write_close.Tie as tie
+use Rattle.record_writer.specs.StoreLaws.{close-stores}
+use Rattle.record_writer.proofs.write_close.Statement.{statement}
+use Rattle.record_writer.proofs.write_close.Tie as tie
 
 write-u16-requires : tie.Need-write-u16-requires
 write-u16-requires c κs = search needs

@@ -1,0 +1,2 @@
+-- Laws of the stores.
+pub mod StoreLaws
