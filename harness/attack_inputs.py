@@ -72,6 +72,10 @@ def read_table(log, room=200):
     return call("table::read_table", log, room=room)
 
 
+def small_days(n, room=200):
+    return call("small_days::small_days", b"", n, room)
+
+
 def halves(mode, floor=0):
     """Log D cut after record 2, its first record with this floor."""
     none = NOTHING if mode in (2, 5) else 0
@@ -201,6 +205,10 @@ INPUTS = {
     "record/floor_over_ceiling": call("record::read_first", D),
     "record/length_11": call("record::read_first", short(0, -5)),
     "record/length_26": call("record::read_first", with_batch(0, 5, 7)),
+    "record_writer/close_as_open": write_log(line(0)),
+    "record_writer/close_of_length_10": write_log(line(0)),
+    "record_writer/short_of_length_18": small_days(1),
+    "record_writer/value_over_depth": small_days(2),
     "row/length_7": call("merge_row::merge_row", 2 * blank(1)),
     "row/length_field_off": call("merge_row::merge_row", blank(1) + HEAD),
     "row_gate/blank_at_ground": call("plan::plan", OPEN + blank(1) + SHUT),
@@ -229,6 +237,26 @@ INPUTS = {
     "slopes/close_ceiling_as_floor": summarise(5, D),
     "slopes/left_level_twice": summarise(1, close(3)),
     "slopes/push_at_the_first": summarise(1, opening(0, 10) + opening(1, 5) + close(1) + opening(1, 7)),
+    "small_days/always_the_first": small_days(3),
+    "small_days/close_at_wrong_depth": small_days(2),
+    "small_days/closes_not_counted": small_days(1),
+    "small_days/count_at_level_1": small_days(2),
+    "small_days/eight_refused": small_days(8, 54_912),
+    "small_days/first_missing": small_days(3),
+    "small_days/first_twice": small_days(3),
+    "small_days/fits_refused": small_days(8, 54_912),
+    "small_days/last_missing": small_days(8, 54_912),
+    "small_days/logs_over_each_other": small_days(3),
+    "small_days/one_open_too_many": small_days(3),
+    "small_days/outside_12": small_days(0),
+    "small_days/rest_over_the_open": small_days(1),
+    "small_days/root_at_1": small_days(1),
+    "small_days/row_for_column": small_days(3),
+    "small_days/short_14": small_days(8, 54_911),
+    "small_days/takes_9": small_days(9),
+    "small_days/twelve_first": small_days(9, 0),
+    "small_days/two_open": small_days(1),
+    "small_days/value_0": small_days(2),
     "summarise/always_blank": summarise(1, D),
     "summarise/first_chunk_only": summarise(1, D[36:]),
     "summarise/peak_over_1": summarise(1, D[36:]),
@@ -239,7 +267,6 @@ INPUTS = {
     "table/close_at_wrong_depth": write_log(line(0), line(1)),
     "table/close_missing_at_a_fall": write_log(*D_LINES),
     "table/close_missing_at_the_end": write_log(line(0)),
-    "table/close_of_length_10": write_log(line(0)),
     "table/closes_not_counted": write_log(line(0)),
     "table/default_floor_forgotten": read_table(short(0, 1) + close(0)),
     "table/each_fault_11": read_table(D[:71]),
@@ -282,6 +309,8 @@ INPUTS = {
     "tulghimo/refusal_positive": call("tulghimo::tulghimo_read_record", b""),
     "tulghimo/runs_always_one": call("tulghimo::tulghimo_runs", NESTED),
     "tulghimo/runs_refused": call("tulghimo::tulghimo_runs", HEAD + TAIL),
+    "tulghimo/small_days_always_one": call("tulghimo::tulghimo_small_days", b"", 2),
+    "tulghimo/small_days_refused": call("tulghimo::tulghimo_small_days", b"", 1),
     "tulghimo/status_always_12": call("tulghimo::tulghimo_merge_row", 65 * blank(1)),
     "tulghimo/summarise_always_net": call("tulghimo::tulghimo_summarise", D, 4),
     "tulghimo/summarise_refused": call("tulghimo::tulghimo_summarise", D, 1),

@@ -54,6 +54,7 @@ ARMS = {
         }""",
     "table::write_log": WRITTEN.format("table::write_log(&input, &mut out)"),
     "table::read_table": WRITTEN.format("table::read_table(&input, &mut out)"),
+    "small_days::small_days": WRITTEN.format("small_days::small_days(number as u32, &mut out)"),
     "day::figures": """match day::figures(&input) {
             day::Day::Figures(f) => format!("{} {} {} {}", f.net, f.heaviest, f.eaten, f.stamp),
             day::Day::Refused(n) => format!("refused {n}"),
@@ -67,7 +68,8 @@ ARMS = {
 }
 # The C functions: those that write bytes, and those that store numbers, with how many.
 LENGTHS = {"summarise": "&input, number as u32", "merge": "&input[..number], &input[number..]",
-           "merge_row": "&input", "plan": "&input", "runs": "&input", "write_log": "&input", "read_table": "&input"}
+           "merge_row": "&input", "plan": "&input", "runs": "&input", "write_log": "&input", "read_table": "&input",
+           "small_days": "number as u32"}
 NUMBERS = {"read_record": 7, "finish": 1, "work": 3, "day": 4}
 ARMS |= {f"tulghimo::tulghimo_{name}": f"""answered(tulghimo::tulghimo_{name}({lent}, &mut out), &out)"""
          for name, lent in LENGTHS.items()}

@@ -27,7 +27,7 @@ TIMEOUT_SECONDS = 300
 
 # The tests that take no time; the others follow where these notice nothing.
 QUICK = ["--", "paper::", "gate::", "figures::", "records::", "question_5::", "rows::pieces",
-         "rows::halves", "day_table::", "batch::", "drop_at_value::", "levels::"]
+         "rows::halves", "day_table::", "batch::", "drop_at_value::", "levels::", "small_days::"]
 
 # Records: bytes, reading, ranges.
 RECORDS = [
@@ -431,8 +431,62 @@ DROPS = [
      "[Mode::Net, Mode::Heaviest, Mode::Stamp, Mode::Eaten]", "the day program prints it third"),
 ]
 
+# Document 02, L5: all small days.
+SMALL_DAYS = [
+    ("small_days.rs", "(1..=8).contains(&n)", "(1..=7).contains(&n)", "n = 8 is taken"),
+    ("small_days.rs", "(1..=8).contains(&n)", "(2..=8).contains(&n)", "n = 1 is taken"),
+    ("small_days.rs", "(1..=8).contains(&n)", "(1..=9).contains(&n)", "n = 9 gets 14"),
+    ("small_days.rs", "(1..=8).contains(&n)", "(0..=8).contains(&n)", "n = 0 gets 14"),
+    ("small_days.rs", "(1..=8).contains(&n) {\n        Ok(n)",
+     "(1..=8).contains(&(n % 256)) {\n        Ok(n % 256)",
+     "impostor: n cut to 8 bits before it is looked at"),
+    ("small_days.rs", "Err(14)", "Err(13)", "outside 1 to 8 gets 14"),
+    ("small_days.rs",
+     "first.is_open() => Ordering::Less,\n        Some(_) => Ordering::Greater,",
+     "first.is_open() => Ordering::Greater,\n        Some(_) => Ordering::Less,",
+     "an open before a close"),
+    ("small_days.rs", ".find(|(a, b)|", ".rfind(|(a, b)|", "the first record that differs decides"),
+    ("small_days.rs", "    logs.sort_by(|one, other| order(one, other));\n", "", "that is the order"),
+    ("small_days.rs", "    logs\n}", "    logs.pop();\n    logs\n}", "none is missing: the last"),
+    ("small_days.rs", "    logs\n}", "    if n == 8 {\n        logs.remove(0);\n    }\n    logs\n}",
+     "none is missing: the first of n = 8"),
+    ("small_days.rs", "    logs\n}", "    if n == 7 {\n        logs.remove(66);\n    }\n    logs\n}",
+     "none is missing: one in the middle of n = 7"),
+    ("small_days.rs", "    logs\n}", "    logs.insert(0, logs[0].clone());\n    logs\n}",
+     "each log is there just once: the first"),
+    ("small_days.rs", "    logs\n}",
+     "    if n == 8 {\n        logs[300] = logs[299].clone();\n    }\n    logs\n}",
+     "each log is there just once: one in place of the next"),
+    ("small_days.rs", "value: 1,", "value: 0,", "each value 1"),
+    ("small_days.rs", "value: 1,", "value: 1 + (depth > 6) as i64,", "each value 1, the deepest too"),
+    ("small_days.rs", "encode_short(open.depth, open.value)", "crate::record::encode_full(open)",
+     "short open records"),
+    ("small_days.rs", "opened(records) == u64::from(n)", "opened(records) <= u64::from(n)",
+     "n opened records, not fewer"),
+    ("small_days.rs", "fault(records).is_none() && ", "", "well-formed logs (any sequence)"),
+    ("small_days.rs", "fault(records).is_none()", "fault(records).is_none_or(|fault| fault == 8)",
+     "well-formed logs (level 0 between)"),
+    ("small_days.rs", "fault(records).is_none()", "fault(records).is_none_or(|fault| fault == 11)",
+     "well-formed logs (one that does not end)"),
+    ("calls.rs", "    let n = small_days::question_14(n)?;\n",
+     "    if capacity < 16 {\n        return Err(12);\n    }\n"
+     "    let n = small_days::question_14(n)?;\n", "small days: 14 before 12"),
+    ("calls.rs", "question_12(encode_logs(&all_logs(n)), capacity)", "Ok(encode_logs(&all_logs(n)))",
+     "small days put 12"),
+    ("calls.rs", "question_12(encode_logs(&all_logs(n)), capacity)",
+     "question_12(encode_logs(&all_logs(n)), capacity + 1)",
+     "small days: a buffer one byte short gets 12"),
+    ("calls.rs", "question_12(encode_logs(&all_logs(n)), capacity)",
+     "question_12(encode_logs(&all_logs(n)), capacity.saturating_sub(1))",
+     "small days: an exact buffer is enough"),
+    ("calls.rs", "question_12(encode_logs(&all_logs(n)), capacity)",
+     "Ok(encode_logs(&all_logs(n)).chunks(16 * n as usize).take(capacity / (16 * n as usize))"
+     ".flatten().copied().collect())",
+     "impostor: as many small days as fit"),
+]
+
 TABLE = (RECORDS + LOG + MODES + SUMMARIES + MERGING + ACCEPTING + PLANS + CALLS + DAY_TABLE + BATCH
-         + DROPS)
+         + DROPS + SMALL_DAYS)
 
 
 def cargo(workspace, *arguments):

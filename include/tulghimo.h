@@ -44,8 +44,9 @@ enum tulghimo_refusal {
     TULGHIMO_REFUSED_NO_RECORD = 10,        /* there is no record, or no line */
     TULGHIMO_REFUSED_NOT_WHOLE = 11,        /* the log does not begin and end at level 0 */
     TULGHIMO_REFUSED_BUFFER_TOO_SHORT = 12, /* the result does not fit the lent buffer */
-    TULGHIMO_REFUSED_NOT_NESTED = 13        /* a table's depths are not those of a log: the first is not 0, a later one is 0, or one
+    TULGHIMO_REFUSED_NOT_NESTED = 13,       /* a table's depths are not those of a log: the first is not 0, a later one is 0, or one
                                                is more than one above the line before it */
+    TULGHIMO_REFUSED_OPENED_COUNT = 14      /* n is outside 1 to 8 */
 };
 
 /* Lengths in bytes. A buffer of the longest is never too short; the longest chunk and the longest table taken are lengths of
@@ -61,7 +62,8 @@ enum tulghimo_length {
     TULGHIMO_TABLE_LINE = 14, /* depth: 16 bits; value, floor and ceiling: signed, 32 bits each */
     TULGHIMO_LONGEST_TABLE_TAKEN = 2730 * TULGHIMO_TABLE_LINE, /* by tulghimo_write_log */
     TULGHIMO_LONGEST_LOG_WRITTEN = 2730 * (18 + 6),            /* an open and a close for each line */
-    TULGHIMO_LONGEST_TABLE_READ = 4096 * TULGHIMO_TABLE_LINE   /* of a log of 65,536 bytes: 4,096 short opens and their closes */
+    TULGHIMO_LONGEST_TABLE_READ = 4096 * TULGHIMO_TABLE_LINE,  /* of a log of 65,536 bytes: 4,096 short opens and their closes */
+    TULGHIMO_LONGEST_SMALL_DAYS = 429 * 8 * (10 + 6)           /* 429 logs of 8 short opens and their closes */
 };
 
 /* The first record of a chunk: 0 and kind (1 open, 2 close), length, depth, value, floor, ceiling and batch (the last four 0 for a
@@ -114,6 +116,11 @@ int64_t tulghimo_write_log(const uint8_t *table, size_t n, uint8_t *out, size_t 
  * and the ceiling 1,000,000,000, one with a batch without it. Its length, or -2, -3, -7, -8, -10, -11 or -12. (No log of this length
  * has enough records for -9.) */
 int64_t tulghimo_read_table(const uint8_t *log, size_t n, uint8_t *out, size_t cap);
+
+/* All well-formed logs with n opened records, n from 1 to 8, one after another: short open records (length 10), each value 1. Two are
+ * compared record by record, an open before a close, and the one that comes first stands first. There are 1, 1, 2, 5, 14, 42, 132 and
+ * 429 of them, each of 16 * n bytes and there just once. Their length, or -14 or -12. */
+int64_t tulghimo_small_days(uint32_t n, uint8_t *out, size_t cap);
 
 #ifdef __cplusplus
 }

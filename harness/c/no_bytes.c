@@ -57,6 +57,8 @@ static void nothing_in(void) {
     is("write_log, a buffer", tulghimo_write_log(NULL, 0, out, sizeof out), -10);
     is("read_table", tulghimo_read_table(NULL, 0, NULL, 0), -10);
     is("read_table, a buffer", tulghimo_read_table(NULL, 0, out, sizeof out), -10);
+    is("small_days, n = 0", tulghimo_small_days(0, NULL, 0), -14);
+    is("small_days, n = 0, a buffer", tulghimo_small_days(0, out, sizeof out), -14);
     untouched("numbers", numbers, 7);
     is("the blank in the buffer", memcmp(out, blanks, sizeof out), 0);
 }
@@ -73,6 +75,9 @@ static void nowhere_out(void) {
     is("runs without a line", tulghimo_runs(closed, sizeof closed, NULL, 0), 0);
     is("write_log of a line", tulghimo_write_log(one_line, sizeof one_line, NULL, 0), -12);
     is("read_table of a log", tulghimo_read_table(whole_log, sizeof whole_log, NULL, 0), -12);
+    is("small_days, n = 1", tulghimo_small_days(1, NULL, 0), -12);
+    is("small_days, n = 8", tulghimo_small_days(8, NULL, 0), -12);
+    is("small_days, n = 9", tulghimo_small_days(9, NULL, 0), -14);
 }
 
 int main(void) {

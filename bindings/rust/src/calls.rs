@@ -6,7 +6,7 @@ use crate::{raw, Figures, Kind, Line, Mode, Record, Refusal, Run, TableLine, Wor
 fn answer(status: i64) -> Result<usize, Refusal> {
     match usize::try_from(status) {
         Ok(number) => Ok(number),
-        Err(_) => Err(Refusal::from_number(-status).expect("a refusal has a number from 1 to 13")),
+        Err(_) => Err(Refusal::from_number(-status).expect("a refusal has a number from 1 to 14")),
     }
 }
 
@@ -227,4 +227,23 @@ pub fn write_log(lines: &[TableLine]) -> Result<Vec<u8>, Refusal> {
 pub fn read_table(log: &[u8]) -> Result<Vec<TableLine>, Refusal> {
     let table = written(raw::LONGEST_TABLE_READ, |out| raw::read_table(log, out))?;
     Ok(table.chunks_exact(TableLine::LENGTH).map(TableLine::read).collect())
+}
+
+/// All well-formed logs with n opened records, n from 1 to 8, one after another: short open records, each value 1. Two are compared
+/// record by record, an open before a close, and the one that comes first stands first. Each log has 16 × n bytes. Refused: 14.
+///
+/// ```
+/// use tulghimo::{day, small_days, Refusal};
+///
+/// // Three records in a line, then two within the first.
+/// let logs = small_days(3)?;
+/// let lines: Vec<_> = logs.chunks(16 * 3).map(|log| day(log).map(|figures| figures.heaviest)).collect();
+/// assert_eq!(lines, [Ok(3), Ok(2)]);
+///
+/// assert_eq!(small_days(8)?.chunks(16 * 8).count(), 429);
+/// assert_eq!(small_days(9), Err(Refusal::OpenedCount));
+/// # Ok::<(), Refusal>(())
+/// ```
+pub fn small_days(n: u32) -> Result<Vec<u8>, Refusal> {
+    written(raw::LONGEST_SMALL_DAYS, |out| raw::small_days(n, out))
 }

@@ -23,6 +23,9 @@ pub const LONGEST_LOG_WRITTEN: usize = 2_730 * crate::TableLine::LOG_LENGTH;
 /// for the close.
 pub const LONGEST_TABLE_READ: usize = 4_096 * crate::TableLine::LENGTH;
 
+/// No logs written by [`small_days`] are longer, in bytes: of 8 records, of 10 bytes and 6 for the close, there are 429.
+pub const LONGEST_SMALL_DAYS: usize = 429 * 8 * (10 + 6);
+
 mod ffi {
     extern "C" {
         pub fn tulghimo_read_record(chunk: *const u8, n: usize, fields: *mut i64) -> i64;
@@ -36,6 +39,7 @@ mod ffi {
         pub fn tulghimo_day(log: *const u8, n: usize, figures: *mut i64) -> i64;
         pub fn tulghimo_write_log(table: *const u8, n: usize, out: *mut u8, cap: usize) -> i64;
         pub fn tulghimo_read_table(log: *const u8, n: usize, out: *mut u8, cap: usize) -> i64;
+        pub fn tulghimo_small_days(n: u32, out: *mut u8, cap: usize) -> i64;
     }
 }
 
@@ -103,4 +107,10 @@ pub fn write_log(table: &[u8], out: &mut [u8]) -> i64 {
 pub fn read_table(log: &[u8], out: &mut [u8]) -> i64 {
     // SAFETY: each slice has as many bytes as it is said to have, and the lent one is not borrowed elsewhere.
     unsafe { ffi::tulghimo_read_table(log.as_ptr(), log.len(), out.as_mut_ptr(), out.len()) }
+}
+
+/// Writes all logs with n opened records of value 1 into `out`, n from 1 to 8: the length written, or minus the refusal (14 or 12).
+pub fn small_days(n: u32, out: &mut [u8]) -> i64 {
+    // SAFETY: the slice has as many bytes as it is said to have, and is not borrowed elsewhere.
+    unsafe { ffi::tulghimo_small_days(n, out.as_mut_ptr(), out.len()) }
 }

@@ -16,10 +16,10 @@ macro_rules! refusals {
 
         impl Refusal {
             /// All refusals, in the order of their numbers.
-            pub const ALL: [Refusal; 13] = [$(Refusal::$name),*];
+            pub const ALL: [Refusal; 14] = [$(Refusal::$name),*];
 
-            /// The question that got a "no", in document 01's words, 1 with document 02's modes; 13 is document 02's, as a question.
-            /// What a day table is asked under 2, 3 and 10 is told by the reason.
+            /// The question that got a "no", in document 01's words, 1 with document 02's modes; 13 and 14 are document 02's, as
+            /// questions. What a day table is asked under 2, 3 and 10 is told by the reason.
             pub fn question(self) -> &'static str {
                 match self { $(Refusal::$name => $question,)* }
             }
@@ -48,15 +48,16 @@ refusals! {
     NotNested = 13,
         "Is the first depth 0, no later one 0, and none more than one above the line before it?",
         "a table's depths are not those of a log";
+    OpenedCount = 14, "Is n 1 to 8?", "n is outside 1 to 8";
 }
 
 impl Refusal {
-    /// The question's number, 1 to 13.
+    /// The question's number, 1 to 14.
     pub fn number(self) -> u8 {
         self as u8
     }
 
-    /// The refusal with a number, if it is 1 to 13.
+    /// The refusal with a number, if it is 1 to 14.
     pub fn from_number(number: i64) -> Option<Refusal> {
         Refusal::ALL.into_iter().find(|refusal| i64::from(refusal.number()) == number)
     }
@@ -85,12 +86,12 @@ mod tests {
     use super::Refusal;
 
     #[test]
-    fn numbers_are_1_to_13_in_order() {
+    fn numbers_are_1_to_14_in_order() {
         let numbers: Vec<u8> = Refusal::ALL.iter().map(|refusal| refusal.number()).collect();
-        assert_eq!(numbers, (1..=13).collect::<Vec<u8>>());
-        for number in -1..=15 {
+        assert_eq!(numbers, (1..=14).collect::<Vec<u8>>());
+        for number in -1..=16 {
             let found = Refusal::from_number(number).map(|refusal| i64::from(refusal.number()));
-            assert_eq!(found, (1..=13).contains(&number).then_some(number));
+            assert_eq!(found, (1..=14).contains(&number).then_some(number));
         }
     }
 }

@@ -7,20 +7,24 @@
 //! pattern is regular. In each of 200 rounds each call is put once to each log, the library first and the recursion first in turns. A time is
 //! the sum of each log's best.
 //!
-//! Then merging, the plan, the runs and the work (`rows.rs`), and the day table (`tables.rs`). Buffers are lent once and not cleared between
-//! calls.
+//! Then merging, the plan, the runs and the work (`rows.rs`), the day table (`tables.rs`), and all small days (`small_days.rs`). Buffers are
+//! lent once and not cleared between calls.
 //!
-//! Run with `cargo run --release -p bench`, for one part alone with `cargo run --release -p bench -- rows`, `beside` or `tables`.
+//! Run with `cargo run --release -p bench`, for one part alone with `cargo run --release -p bench -- rows`, `beside`, `tables` or
+//! `small_days`.
 
 mod beside;
 mod chunks;
 mod peer;
 mod rows;
+mod small_days;
 mod tables;
 
 fn main() {
     let part = std::env::args().nth(1);
-    for (name, bench) in [("beside", beside::bench as fn()), ("rows", rows::bench), ("tables", tables::bench)] {
+    let parts =
+        [("beside", beside::bench as fn()), ("rows", rows::bench), ("tables", tables::bench), ("small_days", small_days::bench)];
+    for (name, bench) in parts {
         if part.as_ref().is_none_or(|part| part == name) {
             bench();
         }

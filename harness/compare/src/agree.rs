@@ -11,13 +11,18 @@ use tulghimo::raw;
 /// As long as the longest result: the log of 2,730 lines.
 const AMPLE: usize = 65_520;
 
-/// A call that writes bytes. It puts question 12 last, so the reference is asked once.
+/// A call that writes bytes, with buffers around the length of its result.
 fn bytes(ample: Result<Vec<u8>, u8>, call: impl Fn(&mut [u8]) -> i64) -> Vec<i64> {
-    let agree = |capacity| {
+    in_buffers(&ample, &capacities(&ample), call)
+}
+
+/// A call that writes bytes, with buffers of these lengths. It puts question 12 last, so the reference is asked once.
+fn in_buffers(ample: &Result<Vec<u8>, u8>, lengths: &[usize], call: impl Fn(&mut [u8]) -> i64) -> Vec<i64> {
+    let agree = |&capacity: &usize| {
         let expected = ample.clone().and_then(|result| question_12(result, capacity));
         LentBytes::new(capacity).check(&expected, &call)
     };
-    capacities(&ample).into_iter().map(agree).collect()
+    lengths.iter().map(agree).collect()
 }
 
 /// A call that writes `N` numbers.
@@ -70,6 +75,13 @@ pub fn write_log(table: &[u8]) -> Vec<i64> {
 
 pub fn read_table(log: &[u8]) -> Vec<i64> {
     bytes(calls::read_table(log, AMPLE), |out| raw::read_table(log, out))
+}
+
+/// With buffers around the length of the result, and with one of the given length.
+pub fn small_days(n: u32, capacity: usize) -> Vec<i64> {
+    let ample = calls::small_days(n, AMPLE);
+    let lengths = [capacities(&ample), vec![capacity]].concat();
+    in_buffers(&ample, &lengths, |out| raw::small_days(n, out))
 }
 
 /// What the library says of two chunks, which must be the same: 0, or minus its refusal.

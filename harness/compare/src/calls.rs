@@ -62,6 +62,10 @@ pub fn read_table(log: &[u8], capacity: usize) -> Result<Vec<u8>, u8> {
     LentBytes::new(capacity).lend(|out| raw::read_table(log, out))
 }
 
+pub fn small_days(n: u32, capacity: usize) -> Result<Vec<u8>, u8> {
+    LentBytes::new(capacity).lend(|out| raw::small_days(n, out))
+}
+
 /// The day program, as `rt check day_program` makes it.
 pub fn program() -> PathBuf {
     Path::new(env!("CARGO_MANIFEST_DIR")).join("../../target/bin/day_program")

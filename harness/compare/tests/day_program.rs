@@ -57,6 +57,16 @@ fn random_logs_and_damaged_ones() {
 }
 
 #[test]
+fn all_small_days() {
+    for n in 1..=5 {
+        let logs = calls::small_days(n, 54_912).expect("n from 1 to 8");
+        logs.chunks_exact(16 * n as usize).for_each(agree);
+    }
+    // All after one another are no log: three records in a line, and two within one.
+    assert_eq!(day_text(&calls::small_days(3, 96).expect("n from 1 to 8")), b"refused 8\n");
+}
+
+#[test]
 fn input_that_cannot_be_read_is_told_on_standard_error() {
     let folder = std::fs::File::open(env!("CARGO_MANIFEST_DIR")).expect("a folder");
     let output = Command::new(program()).stdin(Stdio::from(folder)).output().expect("the program ends");

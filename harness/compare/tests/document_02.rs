@@ -16,3 +16,5 @@ mod drop_laws;
 mod levels;
 #[path = "../../reference/tests/document_02/round_trips.rs"]
 mod round_trips;
+#[path = "../../reference/tests/document_02/small_days.rs"]
+mod small_days;

@@ -134,6 +134,13 @@ fn forged_rows_and_damaged_ones() {
     }
 }
 
+#[test]
+fn all_small_days() {
+    for n in [0, 1, 2, 3, 4, 5, 6, 7, 8, 9, 257, 65_544, u32::MAX] {
+        assert_eq!(by_number(tulghimo::small_days(n)), calls::small_days(n, AMPLE), "n = {n}");
+    }
+}
+
 /// A name as C writes it: TooLong, TOO_LONG.
 fn in_capitals(name: &str) -> String {
     let letter = |c: char| if c.is_uppercase() { format!("_{c}") } else { c.to_uppercase().to_string() };
@@ -160,6 +167,7 @@ fn the_header_has_the_same_numbers() {
     assert!(header.contains(&format!("TULGHIMO_LONGEST_SUMMARY = {},", raw::LONGEST_SUMMARY)));
     assert_eq!((raw::LONGEST_PLAN, raw::LONGEST_RUNS), (1500, 4750));
     assert_eq!((raw::LONGEST_TABLE_TAKEN, raw::LONGEST_LOG_WRITTEN, raw::LONGEST_TABLE_READ), (38_220, 65_520, 57_344));
+    assert_eq!(raw::LONGEST_SMALL_DAYS, 54_912);
     for constant in [
         "LONGEST_CHUNK = 65536,",
         "LINE = 12,",
@@ -170,7 +178,8 @@ fn the_header_has_the_same_numbers() {
         "TABLE_LINE = 14,",
         "LONGEST_TABLE_TAKEN = 2730 * TULGHIMO_TABLE_LINE,",
         "LONGEST_LOG_WRITTEN = 2730 * (18 + 6),",
-        "LONGEST_TABLE_READ = 4096 * TULGHIMO_TABLE_LINE ",
+        "LONGEST_TABLE_READ = 4096 * TULGHIMO_TABLE_LINE,",
+        "LONGEST_SMALL_DAYS = 429 * 8 * (10 + 6) ",
     ] {
         assert!(header.contains(&format!("TULGHIMO_{constant}")), "{constant}");
     }

@@ -1,6 +1,7 @@
 //! The calls under test, and what each is given.
 
 use compare::agree;
+use reference::bytes::unsigned;
 use std::fmt;
 
 /// What a call takes.
@@ -18,9 +19,12 @@ pub enum Takes {
     Table,
     /// Two chunks that differ in batches only, and a mode.
     Twins,
+    /// A number n, and the length of a buffer.
+    Number,
 }
 
-/// What a call is given. `second` is the right one of two pieces or the other of two chunks, and empty elsewhere.
+/// What a call is given. `second` is the right one of two pieces or the other of two chunks, and empty elsewhere. An n stands in place
+/// of the mode, and the length of a buffer, 16 bits, in place of a chunk.
 #[derive(Clone, Debug, PartialEq, Eq)]
 pub struct Input {
     pub takes: Takes,
@@ -60,6 +64,12 @@ pub const CALLS: &[Call] = &[
         takes: Takes::Chunk,
         refuses: &[2, 3, 7, 8, 10, 11, 12],
         compare: |given| agree::read_table(&given.first),
+    },
+    Call {
+        name: "small_days",
+        takes: Takes::Number,
+        refuses: &[14, 12],
+        compare: |given| agree::small_days(given.mode, unsigned(&given.first) as usize),
     },
     Call {
         name: "batches",

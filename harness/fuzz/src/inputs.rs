@@ -39,10 +39,15 @@ fn twins(rng: &mut Rng, mode: u32, bytes: Vec<u8>) -> Input {
     Input { takes: Takes::Twins, mode, first: bytes, second }
 }
 
+/// An n, and a buffer of a length.
+fn number(n: u32, capacity: u16) -> Input {
+    Input { takes: Takes::Number, mode: n, first: capacity.to_le_bytes().to_vec(), second: Vec::new() }
+}
+
 /// The inputs that a seed gives.
 pub fn inputs(seed: u64) -> Vec<Input> {
     let rng = &mut Rng::new(seed);
-    match rng.below(13) {
+    match rng.below(14) {
         0 => whole_log(rng),
         1 => faulty_log(rng),
         2 | 3 => cut_log(rng),
@@ -53,6 +58,7 @@ pub fn inputs(seed: u64) -> Vec<Input> {
         9 => refused_table(rng),
         10 => one_record(rng),
         11 => other_batches(rng),
+        12 => small_days(rng),
         _ => noise(rng),
     }
 }
@@ -248,6 +254,19 @@ fn other_batches(rng: &mut Rng) -> Vec<Input> {
     inputs
 }
 
+/// An n from 1 to 8, now and then a large one; and any other, next to these or one of them with a bit more. A buffer of any length,
+/// or of about the length that some n takes.
+fn small_days(rng: &mut Rng) -> Vec<Input> {
+    let n = if rng.one_in(25) { 7 + rng.below(2) } else { 1 + rng.below(6) } as u32;
+    let any = rng.bits() as u32;
+    let other = rng.pick(&[0, 9, 10, n + 8, n + 16, n + 256, n + 65_536, n + (1 << 31), n << 8, u32::MAX, any]);
+    let length = rng.pick(&[0, 16, 32, 96, 320, 1_120, 4_032, 14_784, 54_912]);
+    let near = (length + rng.below(5)).saturating_sub(2);
+    let any = rng.below(65_536);
+    let capacity = rng.pick(&[near, near, any]) as u16;
+    vec![number(n, capacity), number(other, capacity)]
+}
+
 /// Bytes without any order, short and long.
 fn noise(rng: &mut Rng) -> Vec<Input> {
     let longest = rng.pick(&[8, 24, 80]);
@@ -293,6 +312,18 @@ mod tests {
             }
         }
         assert!([above, below, bound, free].iter().all(|&count| count > 20), "{above} {below} {bound} {free}");
+    }
+
+    #[test]
+    fn every_n_from_0_to_9_is_tried_and_some_with_more_bits() {
+        let (mut tried, mut with_more_bits) = ([0; 10], 0);
+        for input in (0..8000).flat_map(inputs).filter(|input| input.takes == Takes::Number) {
+            match tried.get_mut(input.mode as usize) {
+                Some(count) => *count += 1,
+                None => with_more_bits += usize::from((1..=8).contains(&(input.mode % 256))),
+            }
+        }
+        assert!(tried.iter().all(|&count| count > 5) && with_more_bits > 50, "{tried:?} {with_more_bits}");
     }
 
     #[test]

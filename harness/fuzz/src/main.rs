@@ -2,7 +2,7 @@
 //! batches only, on which its calls must agree among themselves.
 //!
 //!     cargo run --release -p fuzz -- [--seconds N] [--seed S] [--threads T] [--rounds R]
-//!     cargo run --release -p fuzz -- --replay CALL MODE BYTES BYTES
+//!     cargo run --release -p fuzz -- --replay CALL MODE BYTES BYTES      (for small_days n, the length of a buffer and a dash)
 //!
 //! Rounds go by rising seed from S on until N seconds have passed, R rounds are made or too many differences are found. A
 //! difference is printed with the words that replay it, and makes the exit status 1.

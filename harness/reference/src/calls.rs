@@ -13,6 +13,7 @@ use crate::plan::{encode_plan, plan_by_levels};
 use crate::record::{encode_all, read_first, First, Record, CLOSE, OPEN};
 use crate::row;
 use crate::run::{encode_run, run_of};
+use crate::small_days::{self, all_logs, encode_logs};
 use crate::summary::{self, summary_of, Summary};
 use crate::table::{self, encode_table, log_of, table_of};
 use crate::tree::log_figure;
@@ -119,6 +120,13 @@ pub fn write_log(table: &[u8], capacity: usize) -> Result<Vec<u8>, u8> {
 pub fn read_table(log: &[u8], capacity: usize) -> Result<Vec<u8>, u8> {
     let records = whole_log(log)?;
     question_12(encode_table(&table_of(&records)), capacity)
+}
+
+/// Document 02, L5: "write all well-formed logs with n opened records". "14, before all
+/// else"; 12.
+pub fn small_days(n: u32, capacity: usize) -> Result<Vec<u8>, u8> {
+    let n = small_days::question_14(n)?;
+    question_12(encode_logs(&all_logs(n)), capacity)
 }
 
 /// The records of a whole log, by questions 2, 3 and 7 to 11.

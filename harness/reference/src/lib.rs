@@ -20,6 +20,7 @@
 //! | L1                         | [`table`], [`calls`]                     |
 //! | L2                         | [`record`], [`calls`]                    |
 //! | L3                         | [`mode`], [`layout`], [`run`]            |
+//! | L5                         | [`small_days`], [`calls`]                |
 //!
 //! [`gen`] makes the inputs that tests try: logs, cuts, merge lists, day tables,
 //! damaged bytes and summaries that no chunk makes.
@@ -37,6 +38,7 @@ pub mod record;
 pub mod replay;
 pub mod row;
 pub mod run;
+pub mod small_days;
 pub mod summary;
 pub mod table;
 pub mod tree;

@@ -2,8 +2,8 @@
 //!
 //! Expected values come from document 02, or are written out by hand. Seeds are fixed.
 //! `day_table` and `round_trips` (L1), `batch` and `batch_laws` (L2), `drop_at_value` and
-//! `drop_laws` (L3) and `levels` (L4) only make calls, and `compare` makes the same ones of
-//! the library.
+//! `drop_laws` (L3), `levels` (L4) and `small_days` (L5) only make calls, and `compare` makes
+//! the same ones of the library.
 
 use reference::calls;
 
@@ -16,4 +16,5 @@ mod drop_at_value;
 mod drop_laws;
 mod levels;
 mod round_trips;
+mod small_days;
 mod tables;
