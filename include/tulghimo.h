@@ -46,7 +46,7 @@ enum tulghimo_refusal {
     TULGHIMO_REFUSED_BUFFER_TOO_SHORT = 12, /* the result does not fit the lent buffer */
     TULGHIMO_REFUSED_NOT_NESTED = 13,       /* a table's depths are not those of a log: the first is not 0, a later one is 0, or one
                                                is more than one above the line before it */
-    TULGHIMO_REFUSED_OPENED_COUNT = 14      /* n is outside 1 to 8 */
+    TULGHIMO_REFUSED_OPENED_COUNT = 14      /* the number of opened records asked for is not 1 to 8 */
 };
 
 /* Lengths in bytes. A buffer of the longest is never too short; the longest chunk and the longest table taken are lengths of
@@ -119,7 +119,7 @@ int64_t tulghimo_read_table(const uint8_t *log, size_t n, uint8_t *out, size_t c
 
 /* All well-formed logs with n opened records, n from 1 to 8, one after another: short open records (length 10), each value 1. Two are
  * compared record by record, an open before a close, and the one that comes first stands first. There are 1, 1, 2, 5, 14, 42, 132 and
- * 429 of them, each of 16 * n bytes and there just once. Their length, or -14 or -12. */
+ * 429 of them, each of 16 * n bytes and there just once. Their length in all, or -14 or -12. */
 int64_t tulghimo_small_days(uint32_t n, uint8_t *out, size_t cap);
 
 #ifdef __cplusplus

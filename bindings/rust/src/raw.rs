@@ -109,7 +109,8 @@ pub fn read_table(log: &[u8], out: &mut [u8]) -> i64 {
     unsafe { ffi::tulghimo_read_table(log.as_ptr(), log.len(), out.as_mut_ptr(), out.len()) }
 }
 
-/// Writes all logs with n opened records of value 1 into `out`, n from 1 to 8: the length written, or minus the refusal (14 or 12).
+/// Writes all well-formed logs with n opened records into `out`, n from 1 to 8, each record short and of value 1: the length written, or
+/// minus the refusal (14 or 12).
 pub fn small_days(n: u32, out: &mut [u8]) -> i64 {
     // SAFETY: the slice has as many bytes as it is said to have, and is not borrowed elsewhere.
     unsafe { ffi::tulghimo_small_days(n, out.as_mut_ptr(), out.len()) }

@@ -48,7 +48,9 @@ refusals! {
     NotNested = 13,
         "Is the first depth 0, no later one 0, and none more than one above the line before it?",
         "a table's depths are not those of a log";
-    OpenedCount = 14, "Is n 1 to 8?", "n is outside 1 to 8";
+    OpenedCount = 14,
+        "Are 1 to 8 opened records asked for?",
+        "the number of opened records asked for is not 1 to 8";
 }
 
 impl Refusal {

@@ -32,15 +32,19 @@ pub record IsWellFormed (log : List ℕ) (xs : List (Record Amounts)) : Type 0 w
   pub records-are : chunkOf fields ≡ xs
   pub fine : logFault xs ≡ pass
 
--- ---- document 02, L2: "figures and summaries ignore" the batch
-
--- Two chunks of readable records that are the same, as far as `view` shows them.
-pub record SameAs {A : Type 0} (view : Fields → A) (a b : List ℕ) : Type 0 where
+-- Two chunks of readable records, of which R holds.
+pub record ReadAs (R : (left right : List Fields) → Type 0) (a b : List ℕ) : Type 0 where
   pub left : List Fields
   pub right : List Fields
   pub left-read : recordsOf a ≡ result left
   pub right-read : recordsOf b ≡ result right
-  pub same : map view left ≡ map view right
+  pub holds : R left right
+
+-- ---- document 02, L2: "figures and summaries ignore" the batch
+
+-- Two chunks of readable records that are the same, as far as `view` shows them.
+abbrev pub SameAs : {A : Type 0} → (view : Fields → A) → (a b : List ℕ) → Type 0
+SameAs view = ReadAs (λ left right. map view left ≡ map view right)
 
 -- What all calls but reading take of them is the same.
 abbrev pub SameRecords : (a b : List ℕ) → Type 0

@@ -98,10 +98,10 @@ batches-aside d = record {
   right = d .right;
   left-read = d .left-read;
   right-read = d .right-read;
-  same = sym (without-batches (d .left)) ∙ ap chunkOf (d .same) ∙ without-batches (d .right);
+  holds = sym (without-batches (d .left)) ∙ ap chunkOf (d .holds) ∙ without-batches (d .right);
 }
 
 -- .. and the gate on a whole log sees nothing else
 pub same-log : {a b : List ℕ} → SameRecords a b → length a ≤ 65_536 → length b ≤ 65_536 → wholeLog a ≡ wholeLog b
 unfolding wholeLog
-same-log {a} {b} r m n = rw (le-leb (length a) 65_536 m, le-leb (length b) 65_536 n, r .left-read, r .right-read, r .same)
+same-log {a} {b} r m n = rw (le-leb (length a) 65_536 m, le-leb (length b) 65_536 n, r .left-read, r .right-read, r .holds)

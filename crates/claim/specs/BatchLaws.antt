@@ -52,7 +52,7 @@ module _ (mode : ℕ) (log places : List ℕ) (buffers : List (List ℕ)) (i : I
 
 module _ (a b : List ℕ) (r : SameRecords a b) where
   records-same : recordsRead a ≡ recordsRead b
-  records-same = found a (r .left) (r .left-read) ∙ r .same ∙ sym (found b (r .right) (r .right-read))
+  records-same = found a (r .left) (r .left-read) ∙ r .holds ∙ sym (found b (r .right) (r .right-read))
 
   summaries-same : (mode : ℕ) → stretchBytes mode a ≡ stretchBytes mode b
   unfolding stretchBytes
@@ -60,7 +60,7 @@ module _ (a b : List ℕ) (r : SameRecords a b) where
 
   summarise-same : length a ≤ 65_536 → length b ≤ 65_536 → (mode cap : ℕ) → summariseOutcome a mode cap ≡ summariseOutcome b mode cap
   unfolding summariseOutcome
-  summarise-same m n mode cap = rw (le-leb (length a) 65_536 m, le-leb (length b) 65_536 n, r .left-read, r .right-read, r .same)
+  summarise-same m n mode cap = rw (le-leb (length a) 65_536 m, le-leb (length b) 65_536 n, r .left-read, r .right-read, r .holds)
 
   pub same-answers : length a ≤ 65_536 → length b ≤ 65_536 → SameAnswers a b
   unfolding dayOutcome readTableOutcome
@@ -73,7 +73,7 @@ module _ (a b : List ℕ) (r : SameRecords a b) where
 
   says-same : (mode : ℕ) → logSays mode a ≡ logSays mode b
   unfolding logSays
-  says-same mode = rw (r .left-read, r .right-read, r .same)
+  says-same mode = rw (r .left-read, r .right-read, r .holds)
 
   pub same-claim : (mode : ℕ) → SameClaim mode a b
   same-claim mode = record {
@@ -112,7 +112,7 @@ module _ (x y : List ℕ) {fs gs : List Fields} (p : recordsOf x ≡ result fs) 
     right = fs ++ (g ∷ gs);
     left-read = record-between w f e n;
     right-read = record-between w′ g e′ n′;
-    same = map-append withoutBatch fs (f ∷ gs) ∙ ap (λ (r : Fields). map withoutBatch fs ++ (r ∷ map withoutBatch gs)) k ∙ sym (map-append withoutBatch fs (g ∷ gs));
+    holds = map-append withoutBatch fs (f ∷ gs) ∙ ap (λ (r : Fields). map withoutBatch fs ++ (r ∷ map withoutBatch gs)) k ∙ sym (map-append withoutBatch fs (g ∷ gs));
   }
 
   module _ (d : ℕ) (v l h : ℤ) (ok : inRange d v l h ≡ true) where

@@ -13,8 +13,9 @@ use Rattle.figure.specs.FourModes.{Amounts}
 use Rattle.hill.specs.Verdict.{pass}
 use Rattle.hill.specs.Log.{Record, logFault}
 use Rattle.hill.specs.Summary.{summaryOf}
+use Rattle.hill.specs.Sorted.{Sorted}
 use Rattle.hill.specs.Row.{joined}
-use Rattle.join_plan.specs.Plan.{Line, Before, Sorted, planOfRow}
+use Rattle.join_plan.specs.Plan.{Line, Before, planOfRow}
 use Rattle.join_plan.specs.ByRecords.{Joined, IsPlan}
 use Rattle.join_plan.specs.Joins.{Joins}
 use Rattle.join_plan.specs.PlanExact.{planOf-some}
@@ -63,7 +64,7 @@ module _ (i j : ℕ) where
   not-again x y (inl b) f g = omega (arith, f .1, g .1)
   not-again x y (inr b) f g = omega (arith, f .0, g .0)
 
-  one-for : (ls : List Line) → Sorted ls → length (linesFor i j ls) ≤ 1
+  one-for : (ls : List Line) → Sorted Before ls → length (linesFor i j ls) ≤ 1
   one-for [] s = omega arith
   one-for (x ∷ ls) s = go (isFor x) refl (one-for ls (s .1))
     where

@@ -1,5 +1,5 @@
 -- How many small days there are, and how many bytes they take. Assumes nothing.
-use mathlib.Core.Path.{_≡_, refl, _∙_}
+use mathlib.Core.Path.{_≡_, refl, ap, _∙_}
 use mathlib.Core.List.{List, [], _∷_, map, List·Memᴰ, List·Memᴰ·head, List·Memᴰ·tail}
 use Prim.Native.Nat.{ℕ, zero, suc, _*_, _≤_}
 use native.Mathlib.Omega.{arith}
@@ -7,13 +7,18 @@ use native.Mathlib.Nat.{mul-suc, mul-le-mul}
 use lib.Dec.{lit≤}
 use lib.ListN.{length, length-append}
 use Rattle.hill.specs.Row.{joined}
-use Rattle.day_list.specs.Days.{rests, days, smallDays}
-use Rattle.day_list.specs.DayLaws.{small-long}
+use Rattle.day_list.specs.Days.{ways, days, smallDays}
+use Rattle.day_list.specs.Claims.{AreSmallDays}
+use Rattle.day_list.specs.DayLaws.{only-small-days, small-long}
 
 -- "The counts are 1, 1, 2, 5, 14, 42, 132, 429, .."
 pub counts : map (λ n. length (smallDays n)) (1 ∷ 2 ∷ 3 ∷ 4 ∷ 5 ∷ 6 ∷ 7 ∷ 8 ∷ []) ≡ 1 ∷ 1 ∷ 2 ∷ 5 ∷ 14 ∷ 42 ∷ 132 ∷ 429 ∷ []
-unfolding smallDays days rests
+unfolding smallDays days ways
 counts = refl
+
+-- of any such list
+pub counted : (n : ℕ) → n ≤ 64 → (logs : List (List ℕ)) → AreSmallDays n logs → length logs ≡ length (smallDays n)
+counted n few logs h = ap length (only-small-days n few logs h)
 
 joined-long : (k : ℕ) (logs : List (List ℕ)) → ((log : List ℕ) → List·Memᴰ log logs → length log ≡ k) → length (joined logs) ≡ k * length logs
 joined-long k [] h = omega arith
@@ -22,17 +27,16 @@ joined-long k (log ∷ logs) h =
     let b : length (joined logs) ≡ k * length logs = joined-long k logs (λ x m. h x (List·Memᴰ·tail m)) in
     length-append log (joined logs) ∙ rw (a, b, mul-suc k (length logs)) (omega arith)
 
--- 16 bytes for each record of each log
+-- 16 bytes for each record that a log opens
 pub total : (n : ℕ) → n ≤ 64 → length (joined (smallDays n)) ≡ 16 * n * length (smallDays n)
 total n few = joined-long (16 * n) (smallDays n) (small-long n few)
 
--- ".. so n = 8 takes 54,912 bytes."
 pub totals : map (λ n. length (joined (smallDays n))) (1 ∷ 2 ∷ 3 ∷ 4 ∷ 5 ∷ 6 ∷ 7 ∷ 8 ∷ []) ≡ 16 ∷ 32 ∷ 96 ∷ 320 ∷ 1_120 ∷ 4_032 ∷ 14_784 ∷ 54_912 ∷ []
-unfolding smallDays days rests
+unfolding smallDays days ways
 totals = rw (total 1 (lit≤ tt), total 2 (lit≤ tt), total 3 (lit≤ tt), total 4 (lit≤ tt), total 5 (lit≤ tt), total 6 (lit≤ tt), total 7 (lit≤ tt), total 8 (lit≤ tt))
 
 most-429 : (n : ℕ) → n ≤ 8 → length (smallDays n) ≤ 429
-unfolding smallDays days rests
+unfolding smallDays days ways
 most-429 zero h = lit≤ tt
 most-429 (suc zero) h = lit≤ tt
 most-429 (suc (suc zero)) h = lit≤ tt

@@ -1,29 +1,30 @@
--- The list of small days by their bytes: just the logs that are wanted, each once, in order; there is no other such list. Assumes nothing.
+-- The list of small days by their bytes: just the logs that are wanted, each no-duplicates, in order; there is no other such list. Assumes nothing.
 use mathlib.Core.Path.{_≡_, refl, sym, ap, subst, _∙_}
+use mathlib.Core.Bool.{true}
 use mathlib.Core.Logic.{inl, inr}
-use mathlib.Core.List.{List, [], _∷_, _++_, map, List·Memᴰ, Memᴰ·map, Memᴰ·of-map}
+use mathlib.Core.List.{List, [], _∷_, map, List·Memᴰ, Memᴰ·map, Memᴰ·of-map}
 use Prim.Native.Nat.{ℕ, suc, _+_, _*_, _≤_}
 use native.Mathlib.Omega.{arith}
 use lib.ListN.{length, drop, length-append, length-map}
-use lib.Seq.{drop-at}
 use lib.IntN.{pos}
 use borrow.Author.Tests.{le-leb}
 use Rattle.gate.specs.Outcome.{result}
 use Rattle.number.specs.Bytes.{AllBytes, leAt}
 use Rattle.number.specs.FieldLaws.{bytes-nil, bytes-append}
-use Rattle.record.specs.Record.{inRange, within, readOf, recordsOf, before, shortFields, closeFields, fieldsBytes, chunkBytes}
-use Rattle.record.specs.Laws.{Shape, full, short, batched, closed, shape, records-nil, records-next}
+use Rattle.record.specs.Record.{inRange, within, defaultFloor, defaultCeiling, recordsOf, shortFields, closeFields, fieldsBytes, chunkBytes}
+use Rattle.record.specs.Laws.{Shape, full, short, batched, closed, shape}
 use Rattle.record.specs.Readable.{First, first-read}
-use Rattle.record.specs.Encoding.{short-length, short-bytes, close-length, close-bytes, read-short-open, read-close, chunk-again}
+use Rattle.record.specs.Encoding.{short-length, short-bytes, close-length, close-bytes, chunk-again, ReadsBack, short-back, close-back, AllReadBack, chunk-read}
 use Rattle.record.specs.declared.Fields.{Fields}
 use Rattle.hill.specs.Log.{openedOf, logFault}
-use Rattle.hill.specs.Levels.{Stays, log-pairs}
+use Rattle.hill.specs.Sorted.{Sorted}
+use Rattle.hill.specs.SortedLaws.{sorted-map, sorted-no-duplicates, sorted-unique}
+use Rattle.hill.specs.Levels.{MeetsAbove, log-pairs}
 use Rattle.chunk.specs.Chunk.{recordOf, chunkOf, wholeLog}
 use Rattle.chunk.specs.Laws.{log-is}
 use Rattle.day_list.specs.Days.{openOne, days, smallDays}
-use Rattle.day_list.specs.Claims.{AllOnes, IsSmallDay, Before, Precedes, Rising, AreSmallDays}
-use Rattle.day_list.specs.OrderLaws.{rising-map, rising-once, rising-unique}
-use Rattle.day_list.specs.RestLaws.{Plain, one, end, AllPlain, IsDay, root-first, day-sound, day-complete, day-order}
+use Rattle.day_list.specs.Claims.{AllShortOnes, IsSmallDay, Lexicographic, Precedes, AreSmallDays}
+use Rattle.day_list.specs.WayLaws.{Plain, opens, closes, AllPlain, IsDay, root-first, day-sound, day-complete, day-order}
 
 -- ---- the bytes of a small day are read back, ..
 
@@ -32,52 +33,48 @@ abbrev Shallow : List Fields → Type 0
 Shallow [] = Unit {0}
 Shallow (f ∷ fs) = (f .depth ≤ 63) × Shallow fs
 
-plain-read : (f : Fields) (r : List ℕ) → Plain f → f .depth ≤ 63 → readOf (fieldsBytes f ++ r) ≡ result f
+in-range : (d : ℕ) → d ≤ 63 → inRange d (pos 1) defaultFloor defaultCeiling ≡ true
 unfolding inRange within
-plain-read f r (one d) h = read-short-open d (pos 1) r (rw (le-leb d 63 h))
-plain-read f r (end d) h = read-close d r h
+in-range d h = rw (le-leb d 63 h)
 
-plain-length : (f : Fields) → Plain f → length (fieldsBytes f) ≡ f .length
-plain-length f (one d) = short-length d (pos 1)
-plain-length f (end d) = close-length d
+plain-back : (f : Fields) → Plain f → f .depth ≤ 63 → ReadsBack f
+plain-back f (opens d) h = short-back d (pos 1) (in-range d h)
+plain-back f (closes d) h = close-back d h
+
+all-back : (fs : List Fields) → AllPlain fs → Shallow fs → AllReadBack fs
+all-back [] p s = tt
+all-back (f ∷ fs) p s = (plain-back f (p .0) (s .0), all-back fs (p .1) (s .1))
 
 plain-bytes : (f : Fields) → Plain f → AllBytes (fieldsBytes f)
-plain-bytes f (one d) = short-bytes d (pos 1)
-plain-bytes f (end d) = close-bytes d
+plain-bytes f (opens d) = short-bytes d (pos 1)
+plain-bytes f (closes d) = close-bytes d
 
 chunk-bytes : (fs : List Fields) → AllPlain fs → AllBytes (chunkBytes fs)
 chunk-bytes [] p = bytes-nil
 chunk-bytes (f ∷ fs) p = bytes-append (fieldsBytes f) (chunkBytes fs) (plain-bytes f (p .0)) (chunk-bytes fs (p .1))
 
-chunk-read : (fs : List Fields) → AllPlain fs → Shallow fs → recordsOf (chunkBytes fs) ≡ result fs
-chunk-read [] p s = records-nil
-chunk-read (f ∷ fs) p s =
-    records-next (fieldsBytes f ++ chunkBytes fs) f (plain-read f (chunkBytes fs) (p .0) (s .0))
-    ∙ ap (λ (b : List ℕ). before f (recordsOf b)) (drop-at (fieldsBytes f) (chunkBytes fs) (f .length) (plain-length f (p .0)))
-    ∙ ap (before f) (chunk-read fs (p .1) (s .1))
-
 -- a log of at most 64 opened records is shallow
-rest-shallow : (fs : List Fields) (l : ℕ) → Stays l (chunkOf fs) → AllPlain fs → l + openedOf (chunkOf fs) ≤ 64 → Shallow fs
-rest-shallow [] l s p h = tt
-rest-shallow (f ∷ fs) l s (one d, p) h = (omega (arith, s .0), rest-shallow fs (suc d) (s .2) p (omega (arith, s .0)))
-rest-shallow (f ∷ fs) l s (end d, p) h = (omega (arith, s .0), rest-shallow fs d (s .2) p (omega (arith, s .0)))
+way-shallow : (fs : List Fields) (l : ℕ) → MeetsAbove l (chunkOf fs) → AllPlain fs → l + openedOf (chunkOf fs) ≤ 64 → Shallow fs
+way-shallow [] l s p h = tt
+way-shallow (f ∷ fs) l s (opens d, p) h = (omega (arith, s .0), way-shallow fs (suc d) (s .2) p (omega (arith, s .0)))
+way-shallow (f ∷ fs) l s (closes d, p) h = (omega (arith, s .0), way-shallow fs d (s .2) p (omega (arith, s .0)))
 
 day-shallow : (n : ℕ) → n ≤ 64 → (fs : List Fields) → IsDay n fs → Shallow fs
 day-shallow n few [] h = tt
 day-shallow n few (f ∷ fs) h =
     let r = root-first n f fs h in
     let d : f .depth ≡ 0 = ap (λ (g : Fields). g .depth) (r .root) in
-    (omega arith, rest-shallow fs 1 (r .levels .stays) (h .plain .1) (omega (arith, r .others)))
+    (omega arith, way-shallow fs 1 (r .levels .above) (h .plain .1) (omega (arith, r .others)))
 
 day-read : (n : ℕ) → n ≤ 64 → (fs : List Fields) → IsDay n fs → recordsOf (chunkBytes fs) ≡ result fs
-day-read n few fs h = chunk-read fs (h .plain) (day-shallow n few fs h)
+day-read n few fs h = chunk-read fs (all-back fs (h .plain) (day-shallow n few fs h))
 
--- ---- .. and it is one; what is read of one is plain
+-- ---- .. and are a small day's; and a small day's records are plain
 
-plain-ones : (fs : List Fields) → AllPlain fs → AllOnes fs
+plain-ones : (fs : List Fields) → AllPlain fs → AllShortOnes fs
 plain-ones [] p = tt
-plain-ones (f ∷ fs) (one d, p) = ((λ _. (refl, refl)), plain-ones fs p)
-plain-ones (f ∷ fs) (end d, p) = ((λ e. absurd (omega arith)), plain-ones fs p)
+plain-ones (f ∷ fs) (opens d, p) = ((λ _. (refl, refl)), plain-ones fs p)
+plain-ones (f ∷ fs) (closes d, p) = ((λ e. absurd (omega arith)), plain-ones fs p)
 
 pub day-is : (n : ℕ) → n ≤ 64 → (fs : List Fields) → IsDay n fs → IsSmallDay n (chunkBytes fs)
 day-is n few fs h = record {
@@ -90,11 +87,11 @@ day-is n few fs h = record {
 
 ones-plain : (s : List ℕ) (f : Fields) → Shape s f → (f .kind ≡ 1 → (f .length ≡ 10) × (f .value ≡ pos 1)) → Plain f
 ones-plain s f (full e0 e2) h = absurd (omega (arith, h refl .0))
-ones-plain s f (short e0 e2) h = subst (λ v. Plain (shortFields (leAt 2 s 4) v)) (sym (h refl .1)) (one (leAt 2 s 4))
+ones-plain s f (short e0 e2) h = subst (λ v. Plain (shortFields (leAt 2 s 4) v)) (sym (h refl .1)) (opens (leAt 2 s 4))
 ones-plain s f (batched e0 e2) h = absurd (omega (arith, h refl .0))
-ones-plain s f (closed e0 e2) h = end (leAt 2 s 4)
+ones-plain s f (closed e0 e2) h = closes (leAt 2 s 4)
 
-all-plain : (fs : List Fields) (b : List ℕ) → recordsOf b ≡ result fs → AllOnes fs → AllPlain fs
+all-plain : (fs : List Fields) (b : List ℕ) → recordsOf b ≡ result fs → AllShortOnes fs → AllPlain fs
 all-plain [] b e h = tt
 all-plain (f ∷ fs) b e h =
     let w : First b f fs = first-read b f fs e in
@@ -107,27 +104,19 @@ is-day n b h =
 
 -- ---- the order of logs by their bytes
 
-before-irreflexive : (fs : List Fields) → Before fs fs → ⊥
-before-irreflexive [] b = b
-before-irreflexive (f ∷ fs) (inl b) = omega (arith, b .0, b .1)
-before-irreflexive (f ∷ fs) (inr b) = before-irreflexive fs (b .1)
-
-before-asymmetric : (fs gs : List Fields) → Before fs gs → Before gs fs → ⊥
-before-asymmetric [] gs a b = a
-before-asymmetric (f ∷ fs) [] a b = a
-before-asymmetric (f ∷ fs) (g ∷ gs) (inl a) (inl b) = omega (arith, a .0, b .1)
-before-asymmetric (f ∷ fs) (g ∷ gs) (inl a) (inr b) = omega (arith, a .0, a .1, ap (λ (h : Fields). h .kind) (b .0))
-before-asymmetric (f ∷ fs) (g ∷ gs) (inr a) (inl b) = omega (arith, b .0, b .1, ap (λ (h : Fields). h .kind) (a .0))
-before-asymmetric (f ∷ fs) (g ∷ gs) (inr a) (inr b) = before-asymmetric fs gs (a .1) (b .1)
-
-irreflexive : (a : List ℕ) → Precedes a a → ⊥
-irreflexive a p = let e : p .left ≡ p .right = cc (p .left-read, p .right-read) in before-irreflexive (p .right) (subst (λ fs. Before fs (p .right)) e (p .before))
+lexicographic-asymmetric : (fs gs : List Fields) → Lexicographic fs gs → Lexicographic gs fs → ⊥
+lexicographic-asymmetric [] gs a b = a
+lexicographic-asymmetric (f ∷ fs) [] a b = a
+lexicographic-asymmetric (f ∷ fs) (g ∷ gs) (inl a) (inl b) = omega (arith, a .0, b .1)
+lexicographic-asymmetric (f ∷ fs) (g ∷ gs) (inl a) (inr b) = omega (arith, a .0, a .1, ap (λ (h : Fields). h .kind) (b .0))
+lexicographic-asymmetric (f ∷ fs) (g ∷ gs) (inr a) (inl b) = omega (arith, b .0, b .1, ap (λ (h : Fields). h .kind) (a .0))
+lexicographic-asymmetric (f ∷ fs) (g ∷ gs) (inr a) (inr b) = lexicographic-asymmetric fs gs (a .1) (b .1)
 
 asymmetric : (a b : List ℕ) → Precedes a b → Precedes b a → ⊥
 asymmetric a b p q =
     let e : q .right ≡ p .left = cc (q .right-read, p .left-read) in
     let f : q .left ≡ p .right = cc (q .left-read, p .right-read) in
-    before-asymmetric (p .left) (p .right) (p .before) (subst (Before (p .right)) e (subst (λ fs. Before fs (q .right)) f (q .before)))
+    lexicographic-asymmetric (p .left) (p .right) (p .holds) (subst (Lexicographic (p .right)) e (subst (λ fs. Lexicographic fs (q .right)) f (q .holds)))
 
 -- ---- both
 
@@ -145,23 +134,23 @@ module _ (n : ℕ) (few : n ≤ 64) where
       let fs = h .formed .fields in
       subst (λ (b : List ℕ). List·Memᴰ b (map chunkBytes (days n))) (chunk-again fs log (h .bytes) (h .formed .read)) (Memᴰ·map chunkBytes (day-complete n fs (is-day n log h)))
 
-  small-order : Rising Precedes (smallDays n)
+  small-order : Sorted Precedes (smallDays n)
   unfolding smallDays
-  small-order = rising-map Precedes chunkBytes Before (days n) (λ fs gs i j b. record { left = fs; right = gs; left-read = day-read n few fs (day-in fs i); right-read = day-read n few gs (day-in gs j); before = b }) (day-order n)
+  small-order = sorted-map Precedes chunkBytes Lexicographic (days n) (λ fs gs i j b. record { left = fs; right = gs; left-read = day-read n few fs (day-in fs i); right-read = day-read n few gs (day-in gs j); holds = b }) (day-order n)
 
-  -- ALL SMALL DAYS: just the logs that are wanted, each once, in order; ..
+  -- ALL SMALL DAYS: just the logs that are wanted, each no-duplicates, in order; ..
   pub are-small-days : AreSmallDays n (smallDays n)
-  are-small-days = record { each = λ log. (small-sound log, small-complete log); once = rising-once Precedes irreflexive (smallDays n) small-order; in-order = small-order }
+  are-small-days = record { each = λ log. (small-sound log, small-complete log); once = sorted-no-duplicates Precedes asymmetric (smallDays n) small-order; in-order = small-order }
 
   -- .. and there is no other such list.
   pub only-small-days : (logs : List (List ℕ)) → AreSmallDays n logs → logs ≡ smallDays n
-  only-small-days logs h = rising-unique Precedes irreflexive asymmetric logs (smallDays n) (h .in-order) small-order (λ log. ((λ m. small-complete log (h .each log .0 m)), (λ m. h .each log .1 (small-sound log m))))
+  only-small-days logs h = sorted-unique Precedes asymmetric logs (smallDays n) (h .in-order) small-order (λ log. ((λ m. small-complete log (h .each log .0 m)), (λ m. h .each log .1 (small-sound log m))))
 
   -- 16 bytes for each record that is opened
   plain-long : (fs : List Fields) → AllPlain fs → length (chunkBytes fs) ≡ 6 * length fs + 4 * openedOf (chunkOf fs)
   plain-long [] p = refl
-  plain-long (f ∷ fs) (one d, p) = omega (arith, length-append (fieldsBytes (openOne d)) (chunkBytes fs), short-length d (pos 1), plain-long fs p)
-  plain-long (f ∷ fs) (end d, p) = omega (arith, length-append (fieldsBytes (closeFields d)) (chunkBytes fs), close-length d, plain-long fs p)
+  plain-long (f ∷ fs) (opens d, p) = omega (arith, length-append (fieldsBytes (openOne d)) (chunkBytes fs), short-length d (pos 1), plain-long fs p)
+  plain-long (f ∷ fs) (closes d, p) = omega (arith, length-append (fieldsBytes (closeFields d)) (chunkBytes fs), close-length d, plain-long fs p)
 
   day-long : (fs : List Fields) → IsDay n fs → length (chunkBytes fs) ≡ 16 * n
   day-long fs h = omega (arith, plain-long fs (h .plain), log-pairs (chunkOf fs) (h .fine), length-map fs recordOf, h .opened)

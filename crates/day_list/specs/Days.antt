@@ -15,16 +15,16 @@ openOne depth = shortFields depth (pos 1)
 
 -- How a log can go on from a level with `left` records still to open. At level 0 it is over. Above, "an open before a close": first all the ways that
 -- open a record, then all that close one.
-unfoldable pub rests : (left level : ℕ) → List (List Fields)
-rests zero zero = [] ∷ []
-rests (suc left) zero = []
-rests zero (suc level) = map (λ fs. closeFields level ∷ fs) (rests zero level)
-rests (suc left) (suc level) = map (λ fs. openOne (suc level) ∷ fs) (rests left (suc (suc level))) ++ map (λ fs. closeFields level ∷ fs) (rests (suc left) level)
+unfoldable pub ways : (left level : ℕ) → List (List Fields)
+ways zero zero = [] ∷ []
+ways (suc left) zero = []
+ways zero (suc level) = map (λ fs. closeFields level ∷ fs) (ways zero level)
+ways (suc left) (suc level) = map (λ fs. openOne (suc level) ∷ fs) (ways left (suc (suc level))) ++ map (λ fs. closeFields level ∷ fs) (ways (suc left) level)
 
 -- The logs that open n records, by their records: the first opens one at depth 0.
 unfoldable pub days : ℕ → List (List Fields)
 days zero = []
-days (suc n) = map (λ fs. openOne 0 ∷ fs) (rests n 1)
+days (suc n) = map (λ fs. openOne 0 ∷ fs) (ways n 1)
 
 -- Their bytes, log by log. `DayLaws.are-small-days` says which logs these are, and `only-small-days` that there is no other such list.
 unfoldable pub smallDays : ℕ → List (List ℕ)

@@ -8,7 +8,7 @@ use lib.Dec.{eqb}
 use lib.ListN.{length}
 use Rattle.gate.specs.Outcome.{refused, result, written}
 use Rattle.number.specs.Bytes.{AllBytes}
-use Rattle.record.specs.Record.{readOf, recordsOf}
+use Rattle.record.specs.Record.{readOf, recordsOf, fullFields}
 use Rattle.record.specs.declared.Fields.{Fields}
 use Rattle.figure.specs.FourModes.{Amounts}
 use Rattle.hill.specs.Log.{Record}
@@ -54,7 +54,7 @@ pub record WritesAgain (log : List ℕ) : Type 0 where
 
 -- "All other calls drop it" (document 02, L2): an open record comes back from the day table with length 18 and without a batch; a close as it was.
 abbrev pub comesBackAs : Fields → Fields
-comesBackAs f = cond (eqb (f .kind) 1) (record { kind = 1; length = 18; depth = f .depth; value = f .value; floor = f .floor; ceiling = f .ceiling; batch = 0 }) f
+comesBackAs f = cond (eqb (f .kind) 1) (fullFields (f .depth) (f .value) (f .floor) (f .ceiling)) f
 
 -- ".. so from the day table the same bytes come back only for records of length 18": of a log and its records, the table that it gives, the log that this
 -- writes, each where it fits, and when that is the same.
@@ -70,7 +70,7 @@ pub record ComesBack (log : List ℕ) (fs : List Fields) : Type 0 where
 
 -- The bytes begin with a readable full open record that has the line's fields.
 abbrev pub HoldsLine : List ℕ → TableLine → Type 0
-HoldsLine b x = readOf b ≡ result (record { kind = 1; length = 18; depth = x .depth; value = x .amounts .value; floor = x .amounts .floor; ceiling = x .amounts .ceiling; batch = 0 })
+HoldsLine b x = readOf b ≡ result (fullFields (x .depth) (x .amounts .value) (x .amounts .floor) (x .amounts .ceiling))
 
 -- Some well-formed log has these lines, in their order.
 pub record SomeLog (ls : List TableLine) : Type 0 where

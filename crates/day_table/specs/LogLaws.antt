@@ -7,16 +7,15 @@ use Prim.Native.Nat.{ℕ, zero, suc, _+_, _*_, _≤_}
 use native.Mathlib.Omega.{arith}
 use lib.Dec.{leb}
 use lib.ListN.{length, drop, length-append, length-drop, length-map}
-use lib.Seq.{drop-at}
 use borrow.Author.Tests.{leb-true, leb-false}
 use Rattle.gate.specs.Outcome.{result}
 use Rattle.number.specs.Bytes.{AllBytes}
 use Rattle.number.specs.FieldLaws.{bytes-nil, bytes-append}
-use Rattle.record.specs.Record.{inRange, recordsOf, before, openBytes, closeBytes, closeFields, fieldsBytes, chunkBytes}
-use Rattle.record.specs.Laws.{and-left, and-right, sound, Shape, full, short, batched, closed, shape, records-nil, records-next}
+use Rattle.record.specs.Record.{inRange, recordsOf, openBytes, closeBytes, fullFields, closeFields, fieldsBytes, chunkBytes}
+use Rattle.record.specs.Laws.{and-left, and-right, sound, Shape, full, short, batched, closed, shape}
 use Rattle.record.specs.RangeLaws.{range-parts}
 use Rattle.record.specs.Readable.{First, first-read}
-use Rattle.record.specs.Encoding.{open-length, close-length, open-bytes, close-bytes, read-open, read-close, chunk-again}
+use Rattle.record.specs.Encoding.{open-length, close-length, open-bytes, close-bytes, chunk-again, AllReadBack, open-back, close-back, chunk-read}
 use Rattle.record.specs.declared.Fields.{Fields}
 use Rattle.figure.specs.FourModes.{Amounts}
 use Rattle.hill.specs.Log.{Record, opening, closing, opens, openedOf}
@@ -45,7 +44,7 @@ RecordsInRange (closing d ∷ xs) = (d ≤ 63) × RecordsInRange xs
 
 -- what is read of a full record
 abbrev pub fieldsOf : Record Amounts → Fields
-fieldsOf (opening d r) = record { kind = 1; length = 18; depth = d; value = r .value; floor = r .floor; ceiling = r .ceiling; batch = 0 }
+fieldsOf (opening d r) = fullFields d (r .value) (r .floor) (r .ceiling)
 fieldsOf (closing d) = closeFields d
 
 abbrev pub allFields : List (Record Amounts) → List Fields
@@ -57,16 +56,18 @@ chunk-fields [] = refl
 chunk-fields (opening d r ∷ xs) = ap (λ (ys : List (Record Amounts)). opening d r ∷ ys) (chunk-fields xs)
 chunk-fields (closing d ∷ xs) = ap (λ (ys : List (Record Amounts)). closing d ∷ ys) (chunk-fields xs)
 
+log-chunk : (xs : List (Record Amounts)) → logBytes xs ≡ chunkBytes (allFields xs)
+log-chunk [] = refl
+log-chunk (opening d r ∷ xs) = ap (λ (t : List ℕ). openBytes d (r .value) (r .floor) (r .ceiling) ++ t) (log-chunk xs)
+log-chunk (closing d ∷ xs) = ap (λ (t : List ℕ). closeBytes d ++ t) (log-chunk xs)
+
+all-back : (xs : List (Record Amounts)) → RecordsInRange xs → AllReadBack (allFields xs)
+all-back [] f = tt
+all-back (opening d r ∷ xs) f = (open-back d (r .value) (r .floor) (r .ceiling) (f .0), all-back xs (f .1))
+all-back (closing d ∷ xs) f = (close-back d (f .0), all-back xs (f .1))
+
 pub log-read : (xs : List (Record Amounts)) → RecordsInRange xs → recordsOf (logBytes xs) ≡ result (allFields xs)
-log-read [] f = records-nil
-log-read (opening d r ∷ xs) f =
-    records-next (openBytes d (r .value) (r .floor) (r .ceiling) ++ logBytes xs) (fieldsOf (opening d r)) (read-open d (r .value) (r .floor) (r .ceiling) (logBytes xs) (f .0))
-    ∙ ap (λ (s : List ℕ). before (fieldsOf (opening d r)) (recordsOf s)) (drop-at (openBytes d (r .value) (r .floor) (r .ceiling)) (logBytes xs) 18 (open-length d (r .value) (r .floor) (r .ceiling)))
-    ∙ ap (before (fieldsOf (opening d r))) (log-read xs (f .1))
-log-read (closing d ∷ xs) f =
-    records-next (closeBytes d ++ logBytes xs) (fieldsOf (closing d)) (read-close d (logBytes xs) (f .0))
-    ∙ ap (λ (s : List ℕ). before (fieldsOf (closing d)) (recordsOf s)) (drop-at (closeBytes d) (logBytes xs) 6 (close-length d))
-    ∙ ap (before (fieldsOf (closing d))) (log-read xs (f .1))
+log-read xs f = ap recordsOf (log-chunk xs) ∙ chunk-read (allFields xs) (all-back xs f)
 
 -- ---- full records that were read are written again
 

@@ -16,7 +16,7 @@ use Rattle.hill.specs.Closing.{at, OpensAt, Places}
 use Rattle.hill.specs.Places.{places-same, here-at, here-rest, select}
 use Rattle.hill.specs.HeldPlaces.{isOpen, opened-listed}
 use Rattle.hill.specs.Spell.{endFrom}
-use Rattle.hill.specs.Levels.{Stays, well-levels, levels-well}
+use Rattle.hill.specs.Levels.{MeetsAbove, well-levels, levels-well}
 use Rattle.day_table.specs.Table.{TableLine, tableLine, tableOf, closesTo, logFrom, logOf, nestedAfter, nested}
 
 -- ---- the table of the log is the table
@@ -70,7 +70,7 @@ low-more : (l m : ℕ) (ls : List TableLine) → l ≤ m → FirstLow l ls → F
 low-more l m [] h f = tt
 low-more l m (x ∷ ls) h f = omega (arith, f)
 
-first-low : (l : ℕ) (xs : List (Record Amounts)) → Stays l xs → FirstLow l (tableOf xs)
+first-low : (l : ℕ) (xs : List (Record Amounts)) → MeetsAbove l xs → FirstLow l (tableOf xs)
 first-low l [] s = tt
 first-low l (opening d r ∷ xs) s = omega (arith, s .0)
 first-low l (closing d ∷ xs) s = low-more d l (tableOf xs) (omega (arith, s .0)) (first-low d xs (s .2))
@@ -79,7 +79,7 @@ from-close : (l : ℕ) (ls : List TableLine) → FirstLow l ls → logFrom (suc 
 from-close l [] f = closes-one 0 l (omega arith)
 from-close l (x ∷ ls) f = ap (λ (cs : List (Record Amounts)). cs ++ (opening (x .depth) (x .amounts) ∷ logFrom (suc (x .depth)) ls)) (closes-one (x .depth) l f)
 
-from-table : (l : ℕ) (xs : List (Record Amounts)) → Stays l xs → endFrom l xs ≡ 0 → logFrom l (tableOf xs) ≡ xs
+from-table : (l : ℕ) (xs : List (Record Amounts)) → MeetsAbove l xs → endFrom l xs ≡ 0 → logFrom l (tableOf xs) ≡ xs
 from-table l [] s e = closes-none 0 l (omega (arith, e))
 from-table l (opening d r ∷ xs) s e =
     ap (λ (cs : List (Record Amounts)). cs ++ (opening d r ∷ logFrom (suc d) (tableOf xs))) (closes-none d l (omega (arith, s .0)))
@@ -93,7 +93,7 @@ pub log-table : (xs : List (Record Amounts)) → logFault xs ≡ pass → logOf 
 log-table [] v = refl
 log-table (opening d r ∷ xs) v =
     let p = well-levels (opening d r) xs v in
-    ap (λ (ys : List (Record Amounts)). opening d r ∷ ys) (from-table (suc d) xs (p .stays) (p .end))
+    ap (λ (ys : List (Record Amounts)). opening d r ∷ ys) (from-table (suc d) xs (p .above) (p .end))
 log-table (closing d ∷ xs) v = absurd (omega (arith, well-levels (closing d) xs v .start))
 
 -- ---- question 13, as what must hold
@@ -126,17 +126,17 @@ under-more : (l m : ℕ) (ls : List TableLine) → l ≤ m → Under l ls → Un
 under-more l m [] h n = tt
 under-more l m (x ∷ ls) h n = (n .0, omega (arith, n .1), n .2)
 
-stays-under : (l : ℕ) (xs : List (Record Amounts)) → Stays l xs → Under l (tableOf xs)
-stays-under l [] s = tt
-stays-under l (opening d r ∷ xs) s = (omega (arith, s .0, s .1), omega (arith, s .0), stays-under (suc d) xs (s .2))
-stays-under l (closing d ∷ xs) s = under-more d l (tableOf xs) (omega (arith, s .0)) (stays-under d xs (s .2))
+above-under : (l : ℕ) (xs : List (Record Amounts)) → MeetsAbove l xs → Under l (tableOf xs)
+above-under l [] s = tt
+above-under l (opening d r ∷ xs) s = (omega (arith, s .0, s .1), omega (arith, s .0), above-under (suc d) xs (s .2))
+above-under l (closing d ∷ xs) s = under-more d l (tableOf xs) (omega (arith, s .0)) (above-under d xs (s .2))
 
 -- THE TABLE OF A WELL-FORMED LOG passes 13.
 pub log-nested : (xs : List (Record Amounts)) → logFault xs ≡ pass → nested (tableOf xs) ≡ true
 log-nested [] v = refl
 log-nested (opening d r ∷ xs) v =
     let p = well-levels (opening d r) xs v in
-    rw (eq-eqb d 0 (p .start)) (under-after d (tableOf xs) (stays-under (suc d) xs (p .stays)))
+    rw (eq-eqb d 0 (p .start)) (under-after d (tableOf xs) (above-under (suc d) xs (p .above)))
 log-nested (closing d ∷ xs) v = absurd (omega (arith, well-levels (closing d) xs v .start))
 
 -- It has a line.
@@ -145,13 +145,13 @@ log-some [] v = absurd (refuse-pass v)
 log-some (opening d r ∷ xs) v = omega arith
 log-some (closing d ∷ xs) v = absurd (omega (arith, well-levels (closing d) xs v .start))
 
-stays-closes : (e l : ℕ) (ys : List (Record Amounts)) → e ≤ l → Stays e ys → Stays l (closesTo l e ++ ys)
-stays-closes e zero ys h s = subst (λ k. Stays k ys) (omega arith) s
-stays-closes e (suc l) ys h s = go (leb e l) refl (stays-closes e l ys)
+above-closes : (e l : ℕ) (ys : List (Record Amounts)) → e ≤ l → MeetsAbove e ys → MeetsAbove l (closesTo l e ++ ys)
+above-closes e zero ys h s = subst (λ k. MeetsAbove k ys) (omega arith) s
+above-closes e (suc l) ys h s = go (leb e l) refl (above-closes e l ys)
   where
-    go : (t : Bool) → leb e l ≡ t → (e ≤ l → Stays e ys → Stays l (closesTo l e ++ ys)) → Stays (suc l) (cond t (closing l ∷ closesTo l e) [] ++ ys)
+    go : (t : Bool) → leb e l ≡ t → (e ≤ l → MeetsAbove e ys → MeetsAbove l (closesTo l e ++ ys)) → MeetsAbove (suc l) (cond t (closing l ∷ closesTo l e) [] ++ ys)
     go true t ih = (refl, omega arith, ih (leb-true e l t) s)
-    go false t ih = let g : e ≡ suc l = omega (arith, leb-false e l t) in subst (λ k. Stays k ys) g s
+    go false t ih = let g : e ≡ suc l = omega (arith, leb-false e l t) in subst (λ k. MeetsAbove k ys) g s
 
 end-closes : (e l : ℕ) (ys : List (Record Amounts)) → e ≤ l → endFrom l (closesTo l e ++ ys) ≡ endFrom e ys
 end-closes e zero ys h = let g : 0 ≡ e = omega arith in ap (λ k. endFrom k ys) g
@@ -161,14 +161,14 @@ end-closes e (suc l) ys h = go (leb e l) refl (end-closes e l ys)
     go true t ih = ih (leb-true e l t)
     go false t ih = let g : suc l ≡ e = omega (arith, leb-false e l t) in ap (λ k. endFrom k ys) g
 
-under-stays : (l : ℕ) (ls : List TableLine) → Under l ls → Stays l (logFrom l ls) × (endFrom l (logFrom l ls) ≡ 0)
-under-stays l [] n = (
-  subst (λ ys. Stays l ys) (append-nil (closesTo l 0)) (stays-closes 0 l [] (omega arith) tt),
+under-above : (l : ℕ) (ls : List TableLine) → Under l ls → MeetsAbove l (logFrom l ls) × (endFrom l (logFrom l ls) ≡ 0)
+under-above l [] n = (
+  subst (λ ys. MeetsAbove l ys) (append-nil (closesTo l 0)) (above-closes 0 l [] (omega arith) tt),
   ap (endFrom l) (sym (append-nil (closesTo l 0))) ∙ end-closes 0 l [] (omega arith),
 )
-under-stays l (x ∷ ls) n =
-    let w = under-stays (suc (x .depth)) ls (n .2) in (
-      stays-closes (x .depth) l (opening (x .depth) (x .amounts) ∷ logFrom (suc (x .depth)) ls) (n .1) (refl, n .0, w .0),
+under-above l (x ∷ ls) n =
+    let w = under-above (suc (x .depth)) ls (n .2) in (
+      above-closes (x .depth) l (opening (x .depth) (x .amounts) ∷ logFrom (suc (x .depth)) ls) (n .1) (refl, n .0, w .0),
       end-closes (x .depth) l (opening (x .depth) (x .amounts) ∷ logFrom (suc (x .depth)) ls) (n .1) ∙ w .1,
     )
 
@@ -182,5 +182,5 @@ pub nested-log : (x : TableLine) (ls : List TableLine) → nested (x ∷ ls) ≡
 nested-log x ls p few =
     let o : Record Amounts = opening (x .depth) (x .amounts) in
     let n = nested-under x ls p in
-    let w = under-stays (suc (x .depth)) ls (n .1) in
-    levels-well o (logFrom (suc (x .depth)) ls) (record { start = n .0; stays = w .0; end = w .1 }) (omega (arith, table-opened (logOf (x ∷ ls)), ap length (table-log (x ∷ ls))))
+    let w = under-above (suc (x .depth)) ls (n .1) in
+    levels-well o (logFrom (suc (x .depth)) ls) (record { start = n .0; above = w .0; end = w .1 }) (omega (arith, table-opened (logOf (x ∷ ls)), ap length (table-log (x ∷ ls))))

@@ -43,11 +43,11 @@ module _ (w before : List ℕ) where
   answer-short h = rw (too-short (length before) w h) record { answered = refl; buffer = refl }
 
   -- all of them stored, n being their number, or none
-  pub all-stored : {after : List ℕ} {n : ℕ} → n ≡ length w → n ≤ length before → after ≡ sets before 0 w → Answers (written (length before) w) before after (Bytes n)
-  all-stored {after} e h s = answer-fits (omega arith) e (stored-first w before after (omega arith) s)
+  pub bytes-stored : {after : List ℕ} {n : ℕ} → n ≡ length w → n ≤ length before → after ≡ sets before 0 w → Answers (written (length before) w) before after (Bytes n)
+  bytes-stored {after} e h s = answer-fits (omega arith) e (stored-first w before after (omega arith) s)
 
-  pub none-stored : {n : ℕ} → n ≡ length w → length before < n → Answers (written (length before) w) before before (Refused 12)
-  none-stored e h = answer-short (omega arith)
+  pub bytes-too-long : {n : ℕ} → n ≡ length w → length before < n → Answers (written (length before) w) before before (Refused 12)
+  bytes-too-long e h = answer-short (omega arith)
 
 -- other bytes that are the same
 pub answer-same : {w v before after : List ℕ} {r : Written} → w ≡ v → Answers (written (length before) w) before after r → Answers (written (length before) v) before after r

@@ -1,10 +1,11 @@
 -- Who closes whom, who holds whom, and the levels reached, by places in the log. Definitions only.
 use mathlib.Core.Path.{_≡_}
 use mathlib.Core.Logic.{_≢_, _⊎_}
-use mathlib.Core.List.{List, [], _∷_, List·Memᴰ}
+use mathlib.Core.List.{List, List·Memᴰ}
 use Prim.Native.Nat.{ℕ, suc, _<_}
 use lib.ListN.{length, getD}
 use Rattle.hill.specs.Log.{Record, opening, closing, startLevel, endLevel}
+use Rattle.hill.specs.Sorted.{Sorted}
 
 module _ {R : Type 0} where
   -- The record at place k of a log, counted from 0. Past the end it is a close, so that an open stands inside the log.
@@ -45,13 +46,8 @@ pub record Loose {R : Type 0} (chunk : List (Record R)) (l q : ℕ) : Type 0 whe
   pub closed : Closed chunk q l
   pub free : (p d : ℕ) → Holds chunk p q d → ⊥
 
--- Places in log order.
-abbrev pub Rising : List ℕ → Type 0
-Rising [] = Unit {0}
-Rising (p ∷ ps) = ((q : ℕ) → List·Memᴰ q ps → p < q) × Rising ps
-
 -- The places with P are exactly ps, in log order.
 pub record Places (P : ℕ → Type 0) (ps : List ℕ) : Type 0 where
-  pub rising : Rising ps
+  pub rising : Sorted _<_ ps
   pub all : (p : ℕ) → P p → List·Memᴰ p ps
   pub only : (p : ℕ) → List·Memᴰ p ps → P p

@@ -8,31 +8,32 @@ use Rattle.hill.specs.Verdict.{pass, joint, count, ends}
 use Rattle.hill.specs.VerdictLaws.{low-fst, low-snd, joint-pass, joint-high, joint-same, count-few, ends-pass}
 use Rattle.hill.specs.Log.{Record, opening, closing, startLevel, endLevel, endOf, openedOf, joints, faultOf, logFault}
 use Rattle.hill.specs.Spell.{endFrom, end-from}
+use Rattle.hill.specs.WellFormed.{log-joints}
 
 joint-meets : (a b : ℕ) → a ≡ b → 0 < a → joint a b ≡ pass
 joint-meets zero b e h = absurd (omega arith)
 joint-meets (suc a) b e h = subst (λ c. joint (suc a) c ≡ pass) e (joint-same a)
 
 module _ {R : Type 0} where
-  -- From level l on, each record starts where the one before ended, above level 0.
-  abbrev pub Stays : ℕ → List (Record R) → Type 0
-  Stays l [] = Unit {0}
-  Stays l (x ∷ xs) = (l ≡ startLevel x) × (0 < l) × Stays (endLevel x) xs
+  -- Records that meet from level l on, no level between them 0.
+  abbrev pub MeetsAbove : ℕ → List (Record R) → Type 0
+  MeetsAbove l [] = Unit {0}
+  MeetsAbove l (x ∷ xs) = (l ≡ startLevel x) × (0 < l) × MeetsAbove (endLevel x) xs
 
-  joints-stays : (x : Record R) (xs : List (Record R)) → joints x xs ≡ pass → Stays (endLevel x) xs
-  joints-stays x [] v = tt
-  joints-stays x (y ∷ ys) v =
+  joints-above : (x : Record R) (xs : List (Record R)) → joints x xs ≡ pass → MeetsAbove (endLevel x) xs
+  joints-above x [] v = tt
+  joints-above x (y ∷ ys) v =
       let j = low-fst (joint (endLevel x) (startLevel y)) (joints y ys) v in
-      (joint-pass (endLevel x) (startLevel y) j, joint-high (endLevel x) (startLevel y) j, joints-stays y ys (low-snd (joint (endLevel x) (startLevel y)) (joints y ys) v))
+      (joint-pass (endLevel x) (startLevel y) j, joint-high (endLevel x) (startLevel y) j, joints-above y ys (low-snd (joint (endLevel x) (startLevel y)) (joints y ys) v))
 
-  stays-joints : (x : Record R) (xs : List (Record R)) → Stays (endLevel x) xs → joints x xs ≡ pass
-  stays-joints x [] s = refl
-  stays-joints x (y ∷ ys) s = rw (joint-meets (endLevel x) (startLevel y) (s .0) (s .1)) (stays-joints y ys (s .2))
+  above-joints : (x : Record R) (xs : List (Record R)) → MeetsAbove (endLevel x) xs → joints x xs ≡ pass
+  above-joints x [] s = refl
+  above-joints x (y ∷ ys) s = rw (joint-meets (endLevel x) (startLevel y) (s .0) (s .1)) (above-joints y ys (s .2))
 
   -- What a well-formed log keeps to: its first record opens at depth 0, and the others go on from level 1 and end at level 0.
   pub record FromRoot (x : Record R) (xs : List (Record R)) : Type 0 where
     pub start : startLevel x ≡ 0
-    pub stays : Stays (endLevel x) xs
+    pub above : MeetsAbove (endLevel x) xs
     pub end : endFrom (endLevel x) xs ≡ 0
 
   pub well-levels : (x : Record R) (xs : List (Record R)) → logFault (x ∷ xs) ≡ pass → FromRoot x xs
@@ -40,7 +41,7 @@ module _ {R : Type 0} where
       let e = ends-pass (startLevel x) (endOf x xs) (low-snd (faultOf x xs) (ends (startLevel x) (endOf x xs)) v) in
       record {
         start = e .0;
-        stays = joints-stays x xs (low-fst (joints x xs) (count (openedOf (x ∷ xs))) (low-fst (faultOf x xs) (ends (startLevel x) (endOf x xs)) v));
+        above = joints-above x xs (log-joints x xs v);
         end = end-from x xs ∙ e .1;
       }
 
@@ -49,17 +50,17 @@ module _ {R : Type 0} where
   unfolding ends
   levels-well x xs h few =
       let z : endOf x xs ≡ 0 = sym (end-from x xs) ∙ h .end in
-      rw (stays-joints x xs (h .stays), count-few (openedOf (x ∷ xs)) few, z, h .start)
+      rw (above-joints x xs (h .above), count-few (openedOf (x ∷ xs)) few, z, h .start)
 
-  stays-count : (l : ℕ) (xs : List (Record R)) → Stays l xs → l + 2 * openedOf xs ≡ endFrom l xs + length xs
-  stays-count l [] s = omega arith
-  stays-count l (opening d r ∷ xs) s = omega (arith, s .0, stays-count (suc d) xs (s .2))
-  stays-count l (closing d ∷ xs) s = omega (arith, s .0, stays-count d xs (s .2))
+  above-count : (l : ℕ) (xs : List (Record R)) → MeetsAbove l xs → l + 2 * openedOf xs ≡ endFrom l xs + length xs
+  above-count l [] s = omega arith
+  above-count l (opening d r ∷ xs) s = omega (arith, s .0, above-count (suc d) xs (s .2))
+  above-count l (closing d ∷ xs) s = omega (arith, s .0, above-count d xs (s .2))
 
   -- Each record that it opens it closes.
   pub log-pairs : (xs : List (Record R)) → logFault xs ≡ pass → length xs ≡ 2 * openedOf xs
   log-pairs [] v = refl
   log-pairs (opening d r ∷ xs) v =
       let p = well-levels (opening d r) xs v in
-      omega (arith, p .start, stays-count (suc d) xs (p .stays), p .end)
+      omega (arith, p .start, above-count (suc d) xs (p .above), p .end)
   log-pairs (closing d ∷ xs) v = absurd (omega (arith, well-levels (closing d) xs v .start))

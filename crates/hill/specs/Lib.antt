@@ -1,7 +1,8 @@
--- Definitions that a reader must believe, in reading order: the questions and "the lowest"; records, levels and faults; who closes and who holds whom;
--- the questions by places; trees and the recursion; a record's figure; a chunk's summary; merging; finishing; rows; accepted summaries.
+-- Definitions that a reader must believe, in reading order: the questions and "the lowest"; records, levels and faults; sorted lists; who closes and who
+-- holds whom; the questions by places; trees and the recursion; a record's figure; a chunk's summary; merging; finishing; rows; accepted summaries.
 pub mod Verdict
 pub mod Log
+pub mod Sorted
 pub mod Closing
 pub mod Questions
 pub mod Tree
@@ -26,9 +27,11 @@ pub mod Map
 pub mod TreeLaws
 pub mod Spell
 pub mod WellFormed
-pub mod Levels
 pub mod FigureLaws
--- Held, opened, subtrees and the values of "Summaries" by places.
+-- A log by its levels alone.
+pub mod Levels
+-- Sorted lists; held, opened, subtrees and the values of "Summaries" by places.
+pub mod SortedLaws
 pub mod Places
 pub mod HeldPlaces
 pub mod Crossings

@@ -2,39 +2,18 @@
 use mathlib.Core.Path.{_≡_, refl, ap, sym, _∙_}
 use mathlib.Core.Logic.{_⊎_, inl, inr, ⊎-elim}
 use mathlib.Core.Bool.{Bool, true, false, cond}
-use mathlib.Core.List.{List, [], _∷_, List·Memᴰ, List·Memᴰ·head, List·Memᴰ·tail, List·Memᴰ·not-nil, List·Memᴰ·cases-cons}
+use mathlib.Core.List.{List, [], _∷_, List·Memᴰ·head, List·Memᴰ·tail, List·Memᴰ·not-nil, List·Memᴰ·cases-cons}
 use Prim.Native.Nat.{ℕ, suc, _+_, _≤_, _<_}
 use native.Mathlib.Nat.{add-zero, eq-or-lt-of-le}
 use native.Mathlib.Omega.{arith}
 use lib.ListN.{length, drop, getD, length-drop}
 use lib.Seq.{getD-drop, drop-drop}
 use Rattle.hill.specs.Log.{Record, closing}
-use Rattle.hill.specs.Closing.{at, Rising, Places}
-
--- Rising lists with the same members are the same.
-rising-same : (ps qs : List ℕ) → Rising ps → Rising qs → ((k : ℕ) → List·Memᴰ k ps → List·Memᴰ k qs) → ((k : ℕ) → List·Memᴰ k qs → List·Memᴰ k ps) → ps ≡ qs
-rising-same [] [] a b f g = refl
-rising-same [] (q ∷ qs) a b f g = absurd (List·Memᴰ·not-nil (g q (List·Memᴰ·head refl)))
-rising-same (p ∷ ps) [] a b f g = absurd (List·Memᴰ·not-nil (f p (List·Memᴰ·head refl)))
-rising-same (p ∷ ps) (q ∷ qs) a b f g =
-    rw (
-      heads,
-      rising-same ps qs (a .1) (b .1)
-          (λ k m. ⊎-elim (λ (e : k ≡ q). absurd (omega (arith, a .0 k m, heads))) (λ n. n) (List·Memᴰ·cases-cons (f k (List·Memᴰ·tail m))))
-          (λ k m. ⊎-elim (λ (e : k ≡ p). absurd (omega (arith, b .0 k m, heads))) (λ n. n) (List·Memᴰ·cases-cons (g k (List·Memᴰ·tail m)))),
-    )
-  where
-    least : p ≤ q
-    least = ⊎-elim (λ (e : q ≡ p). omega arith) (λ m. omega (arith, a .0 q m)) (List·Memᴰ·cases-cons (g q (List·Memᴰ·head refl)))
-
-    greatest : q ≤ p
-    greatest = ⊎-elim (λ (e : p ≡ q). omega arith) (λ m. omega (arith, b .0 p m)) (List·Memᴰ·cases-cons (f p (List·Memᴰ·head refl)))
-
-    heads : p ≡ q
-    heads = omega (arith, least, greatest)
+use Rattle.hill.specs.SortedLaws.{sorted-unique}
+use Rattle.hill.specs.Closing.{at, Places}
 
 pub places-same : {P : ℕ → Type 0} {ps qs : List ℕ} → Places P ps → Places P qs → ps ≡ qs
-places-same {P} {ps} {qs} a b = rising-same ps qs (a .rising) (b .rising) (λ k m. b .all k (a .only k m)) (λ k m. a .all k (b .only k m))
+places-same {P} {ps} {qs} a b = sorted-unique _<_ (λ p q h k. omega arith) ps qs (a .rising) (b .rising) (λ k. ((λ m. b .all k (a .only k m)), (λ m. a .all k (b .only k m))))
 
 -- The same places by another description.
 pub places-iff : {P Q : ℕ → Type 0} {ps : List ℕ} → ((p : ℕ) → P p → Q p) → ((p : ℕ) → Q p → P p) → Places P ps → Places Q ps

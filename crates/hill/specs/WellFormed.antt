@@ -16,7 +16,7 @@ module _ {R : Type 0} where
       low-fst (joint (endLevel a) (startLevel b)) (joints b zs) (low-snd (joint (endLevel x) (startLevel a)) (joints a (b ∷ zs)) v)
   inner x (y ∷ ys) a b zs v = inner y ys a b zs (low-snd (joint (endLevel x) (startLevel y)) (joints y (ys ++ (a ∷ (b ∷ zs)))) v)
 
-  log-joints : (x : Record R) (xs : List (Record R)) → logFault (x ∷ xs) ≡ pass → joints x xs ≡ pass
+  pub log-joints : (x : Record R) (xs : List (Record R)) → logFault (x ∷ xs) ≡ pass → joints x xs ≡ pass
   log-joints x xs v = low-fst (joints x xs) (count (openedOf (x ∷ xs))) (low-fst (faultOf x xs) (ends (startLevel x) (endOf x xs)) v)
 
   -- A well-formed log is the traversal of its forest, ..

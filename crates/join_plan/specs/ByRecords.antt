@@ -5,9 +5,10 @@ use mathlib.Core.Logic.{_≢_, _⊎_, _↔_}
 use mathlib.Core.List.{List, [], _∷_, List·Memᴰ}
 use lib.ListN.{length}
 use Rattle.hill.specs.Log.{Record}
+use Rattle.hill.specs.Sorted.{Sorted}
 use Rattle.hill.specs.Closing.{ClosedBy}
 use Rattle.hill.specs.Row.{joined}
-use Rattle.join_plan.specs.Plan.{Line, Sorted}
+use Rattle.join_plan.specs.Plan.{Line, Before}
 
 -- the place in the log, which is `joined cs`, where chunk i begins
 unfoldable pub place : {R : Type 0} → List (List (Record R)) → ℕ → ℕ
@@ -34,7 +35,7 @@ module _ {R : Type 0} (cs : List (List (Record R))) where
   -- the plan of the cut log: "just the lines described", by rising j, then falling i
   pub record IsPlan (ls : List Line) : Type 0 where
     pub lines : (l : Line) → List·Memᴰ l ls ↔ PlanLine l
-    pub sorted : Sorted ls
+    pub sorted : Sorted Before ls
 
   -- the record at place q closes one that was opened in another chunk
   abbrev pub Crossing : (q : ℕ) → Type 0

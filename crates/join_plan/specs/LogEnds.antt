@@ -6,11 +6,12 @@ use mathlib.Core.List.{List, [], _∷_, _++_, map, List·Memᴰ, List·Memᴰ·h
 use native.Mathlib.Decide.{decLt}
 use native.Mathlib.Omega.{arith}
 use lib.ListN.{length, length-append}
-use Rattle.join_plan.specs.Plan.{Line, rowOf, Before, Sorted, planOf}
+use Rattle.join_plan.specs.Plan.{Line, rowOf, Before, planOf}
 use Rattle.join_plan.specs.Joins.{Joins}
 use Rattle.join_plan.specs.ScanExact.{before-asym, line-unique}
 use Rattle.join_plan.specs.PlanExact.{planOf-exact, planOf-sorted, planOf-some}
 use Rattle.hill.specs.Log.{Record, opening, closing, startLevel, endLevel}
+use Rattle.hill.specs.Sorted.{Sorted}
 use Rattle.hill.specs.Closing.{at, OpensAt, ClosedBy}
 use Rattle.hill.specs.Row.{joined}
 use Rattle.join_plan.specs.ByRecords.{place, InChunk, Joined}
@@ -19,11 +20,11 @@ use Rattle.join_plan.specs.LogJoins.{place-le, joins-exact}
 use Rattle.join_plan.specs.LogPlan.{log-plan, row-of}
 
 -- the line that all others of a sorted list stand before is its last
-last-line : (ls : List Line) (l : Line) → Sorted ls → List·Memᴰ l ls → ((y : Line) → List·Memᴰ y ls → (y ≡ l) ⊎ Before y l) → (init : List Line) × (ls ≡ init ++ (l ∷ []))
+last-line : (ls : List Line) (l : Line) → Sorted Before ls → List·Memᴰ l ls → ((y : Line) → List·Memᴰ y ls → (y ≡ l) ⊎ Before y l) → (init : List Line) × (ls ≡ init ++ (l ∷ []))
 last-line [] l s m h = absurd (List·Memᴰ·not-nil m)
 last-line (x ∷ ls) l s m h = ⊎-elim (head ls s h) (λ k. let (init, e) = last-line ls l (s .1) k (λ y z. h y (List·Memᴰ·tail z)) in (x ∷ init, ap (λ v. x ∷ v) e)) (List·Memᴰ·cases-cons m)
   where
-    head : (ls : List Line) → Sorted (x ∷ ls) → ((y : Line) → List·Memᴰ y (x ∷ ls) → (y ≡ l) ⊎ Before y l) → l ≡ x → (init : List Line) × (x ∷ ls ≡ init ++ (l ∷ []))
+    head : (ls : List Line) → Sorted Before (x ∷ ls) → ((y : Line) → List·Memᴰ y (x ∷ ls) → (y ≡ l) ⊎ Before y l) → l ≡ x → (init : List Line) × (x ∷ ls ≡ init ++ (l ∷ []))
     head [] s h e = ([], ap (λ v. v ∷ []) (sym e))
     head (y ∷ ls) s h e =
         let b : Before l y = subst (λ v. Before v y) (sym e) (s .0 y (List·Memᴰ·head refl)) in

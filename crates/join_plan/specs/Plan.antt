@@ -3,7 +3,7 @@ use Prim.Native.Nat.{ℕ, zero, suc, _+_, _-_, _<_}
 use mathlib.Core.Path.{_≡_}
 use mathlib.Core.Logic.{_⊎_}
 use mathlib.Core.Bool.{Bool, true, false, _&&_, cond}
-use mathlib.Core.List.{List, [], _∷_, _++_, map, List·Memᴰ, flatMap}
+use mathlib.Core.List.{List, [], _∷_, _++_, map, flatMap}
 use lib.ListN.{length, getD, take, drop}
 use lib.Dec.{leb, ltb}
 use Rattle.hill.specs.Summary.{Summary, blank as blankSummary, part, spoilt, whole, rise, fall}
@@ -92,10 +92,6 @@ unfoldable pub folded : List Line → ℕ
 folded [] = 0
 folded (l ∷ ls) = l .highest - l .lowest + 1 + folded ls
 
--- that order as a property: each line stands before all that follow it, so no two chunks have two lines
+-- that order as a property: in a plan each line stands before all that follow it (`Sorted Before`), so no two chunks have two lines
 abbrev pub Before : Line → Line → Type 0
 Before x y = (x .j < y .j) ⊎ ((x .j ≡ y .j) × (y .i < x .i))
-
-abbrev pub Sorted : List Line → Type 0
-Sorted [] = Unit {0}
-Sorted (x ∷ l) = ((y : Line) → List·Memᴰ y l → Before x y) × Sorted l

@@ -9,7 +9,8 @@ use native.Mathlib.Omega.{arith}
 use lib.ListN.{length, take}
 use lib.Dec.{leb, ltb}
 use borrow.Author.Tests.{leb-true, le-leb, ltb-true, lt-ltb}
-use Rattle.join_plan.specs.Plan.{Levels, blank, hill, Line, leftOpen, closesEarlier, belowPeaks, rowOf, chunksBetween, upTo, downFrom, select, depthsJoined, lastOf, lineFor, planOf, Sorted}
+use Rattle.hill.specs.Sorted.{Sorted}
+use Rattle.join_plan.specs.Plan.{Levels, blank, hill, Line, leftOpen, closesEarlier, belowPeaks, rowOf, chunksBetween, upTo, downFrom, select, depthsJoined, lastOf, lineFor, planOf, Before}
 use Rattle.join_plan.specs.Scan.{lineIf, lineOf, passed, walk, linesTo, plan, scanOf}
 use Rattle.join_plan.specs.Joins.{Opens, Closes, Above, Joins, IsLine, levelAt, Meets}
 use Rattle.join_plan.specs.ScanExact.{Within, passed-iff, closes-inside, scanOf-exact, scanOf-some, scanOf-sorted, scanOf-only}
@@ -207,11 +208,11 @@ module _ (row : List Levels) where
   planOf-some i j d h = rw planOf-scan (scanOf-some row i j d h)
 
   -- the lines go by rising j, then falling i
-  pub planOf-sorted : Sorted (planOf row)
+  pub planOf-sorted : Sorted Before (planOf row)
   planOf-sorted = rw planOf-scan (scanOf-sorted row)
 
   -- and no other list has just those lines in that order
-  pub planOf-only : (ls : List Line) → Sorted ls → ((l : Line) → List·Memᴰ l ls ↔ IsLine (rowOf row) l) → ls ≡ planOf row
+  pub planOf-only : (ls : List Line) → Sorted Before ls → ((l : Line) → List·Memᴰ l ls ↔ IsLine (rowOf row) l) → ls ≡ planOf row
   planOf-only ls s h = scanOf-only row ls s h ∙ sym planOf-scan
 
 -- On a row that meets, a record left open by chunk i that no chunk between closes is closed in j exactly if its depth is not below j's peak: there the

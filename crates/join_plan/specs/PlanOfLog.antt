@@ -9,10 +9,11 @@ use Rattle.algebra.specs.Algebra.{Algebra, Laws}
 use Rattle.hill.specs.Verdict.{pass}
 use Rattle.hill.specs.Log.{Record, logFault}
 use Rattle.hill.specs.Summary.{summaryOf}
+use Rattle.hill.specs.SortedLaws.{sorted-unique}
 use Rattle.hill.specs.Row.{joined}
-use Rattle.join_plan.specs.Plan.{Line, joins, folded, planOfRow}
+use Rattle.join_plan.specs.Plan.{Line, Before, joins, folded, planOfRow}
 use Rattle.join_plan.specs.ByRecords.{InChunk, IsPlan, Crossing, Tally}
-use Rattle.join_plan.specs.ScanExact.{sorted-unique}
+use Rattle.join_plan.specs.ScanExact.{before-asym}
 use Rattle.join_plan.specs.LogLevels.{log-well-formed, levels-of-log}
 use Rattle.join_plan.specs.LogPlan.{log-plan, log-bound}
 use Rattle.join_plan.specs.LogFolded.{folded-crossing}
@@ -20,7 +21,7 @@ use Rattle.join_plan.specs.LogEnds.{log-none, log-last}
 
 -- the plan of a cut log is one list
 pub plan-unique : {R : Type 0} (cs : List (List (Record R))) (ls ms : List Line) → IsPlan cs ls → IsPlan cs ms → ls ≡ ms
-plan-unique cs ls ms a b = sorted-unique ls ms (a .sorted) (b .sorted) (λ l. (λ m. b .lines l .1 (a .lines l .0 m), λ m. a .lines l .1 (b .lines l .0 m)))
+plan-unique cs ls ms a b = sorted-unique Before before-asym ls ms (a .sorted) (b .sorted) (λ l. (λ m. b .lines l .1 (a .lines l .0 m), λ m. a .lines l .1 (b .lines l .0 m)))
 
 -- a tally is one number
 pub tally-unique : (P : ℕ → Type 0) (n c d : ℕ) → Tally P n c → Tally P n d → c ≡ d

@@ -2,12 +2,14 @@
 use Prim.Native.Nat.{ℕ, zero, suc, _≤_, _<_, min, max}
 use mathlib.Core.Path.{_≡_, refl, sym, _∙_, subst}
 use mathlib.Core.Logic.{inl, inr, ⊎-elim, _↔_, dite}
-use mathlib.Core.List.{List, [], _∷_, _++_, List·Memᴰ, List·Memᴰ·head, List·Memᴰ·tail, Memᴰ·cast, Memᴰ·append-left, Memᴰ·append-right}
-use mathlib.Core.List.{List·Memᴰ·append-cases, List·Memᴰ·eq-of-singleton, List·Memᴰ·not-nil, List·Memᴰ·cases-cons}
+use mathlib.Core.List.{List, List·Memᴰ, List·Memᴰ·head, Memᴰ·cast, Memᴰ·append-left, Memᴰ·append-right}
+use mathlib.Core.List.{List·Memᴰ·append-cases, List·Memᴰ·eq-of-singleton, List·Memᴰ·not-nil}
 use native.Mathlib.Decide.{decLt}
 use native.Mathlib.Omega.{arith}
 use lib.ListN.{length, List·getD-eq-default}
-use Rattle.join_plan.specs.Plan.{Levels, blank, hill, Line, rowOf, Before, Sorted}
+use Rattle.hill.specs.Sorted.{Sorted}
+use Rattle.hill.specs.SortedLaws.{sorted-append, sorted-unique}
+use Rattle.join_plan.specs.Plan.{Levels, blank, hill, Line, rowOf, Before}
 use Rattle.join_plan.specs.Scan.{lineIf, lineOf, passed, walk, linesTo, plan, scanOf}
 use Rattle.join_plan.specs.Joins.{Opens, Closes, Above, LeftOpen, Joins, For, IsLine}
 
@@ -167,39 +169,32 @@ module _ (row : ℕ → Levels) where
           let a = plan-complete n (l .i) (l .j) (l .lowest) (h .0) (h .1 .depths (l .lowest) .1 (omega (arith, h .1 .some))) in
           Memᴰ·cast (line-unique l (a .0) (h .1) (plan-sound n (a .0) (a .1) .1) (sym (a .2)) (sym (a .3))) (a .1)
 
-sorted-append : (a b : List Line) → Sorted a → Sorted b → ((x y : Line) → List·Memᴰ x a → List·Memᴰ y b → Before x y) → Sorted (a ++ b)
-sorted-append [] b s t h = t
-sorted-append (x ∷ a) b s t h = (
-  λ y k. ⊎-elim (s .0 y) (h x y (List·Memᴰ·head refl)) (List·Memᴰ·append-cases a k),
-  sorted-append a b (s .1) t (λ u v k. h u v (List·Memᴰ·tail k)),
-)
-
-lineOf-sorted : (c : Levels) (i j p m : ℕ) → Sorted (lineOf c i j p m)
+lineOf-sorted : (c : Levels) (i j p m : ℕ) → Sorted Before (lineOf c i j p m)
 unfolding lineOf lineIf
 lineOf-sorted blank i j p m = tt
 lineOf-sorted (hill s q e) i j p m = go (decLt (max q p) (min e m))
   where
-    go : (t : Dec (max q p < min e m)) → Sorted (lineIf i j (max q p) (min e m) t)
+    go : (t : Dec (max q p < min e m)) → Sorted Before (lineIf i j (max q p) (min e m) t)
     go (no n) = tt
     go (yes y) = (λ y k. absurd (List·Memᴰ·not-nil k), tt)
 
 module _ (row : ℕ → Levels) where
-  walk-sorted : (j p m n : ℕ) → Sorted (walk row j p m n)
+  walk-sorted : (j p m n : ℕ) → Sorted Before (walk row j p m n)
   unfolding walk
   walk-sorted j p m zero = tt
-  walk-sorted j p m (suc n) = sorted-append (lineOf (row n) n j p m) (walk row j p (passed (row n) m) n) (lineOf-sorted (row n) n j p m) (walk-sorted j p (passed (row n) m) n)
+  walk-sorted j p m (suc n) = sorted-append Before (lineOf (row n) n j p m) (walk row j p (passed (row n) m) n) (lineOf-sorted (row n) n j p m) (walk-sorted j p (passed (row n) m) n)
       (λ x y h k. let a = lineOf-sound (row n) n j p m x h in let b = walk-sound row j p (passed (row n) m) n y k in inr (omega (arith, a .1, b .1), omega (arith, a .0, b .0)))
 
-  linesTo-sorted : (c : Levels) (j : ℕ) → Sorted (linesTo row c j)
+  linesTo-sorted : (c : Levels) (j : ℕ) → Sorted Before (linesTo row c j)
   unfolding linesTo
   linesTo-sorted blank j = tt
   linesTo-sorted (hill s p e) j = walk-sorted j p s j
 
   -- the plan goes by rising j, then falling i
-  pub plan-sorted : (n : ℕ) → Sorted (plan row n)
+  pub plan-sorted : (n : ℕ) → Sorted Before (plan row n)
   unfolding plan
   plan-sorted zero = tt
-  plan-sorted (suc n) = sorted-append (plan row n) (linesTo row (row n) n) (plan-sorted n) (linesTo-sorted (row n) n)
+  plan-sorted (suc n) = sorted-append Before (plan row n) (linesTo row (row n) n) (plan-sorted n) (linesTo-sorted (row n) n)
       (λ x y h k. let a = plan-sound row n x h in let b = linesTo-sound row (row n) n y k in inl (omega (arith, a .0, b .1)))
 
 -- Before has no loop of one or two
@@ -208,24 +203,6 @@ before-asym x y (inl a) (inl b) = omega arith
 before-asym x y (inl a) (inr b) = omega arith
 before-asym x y (inr a) (inl b) = omega arith
 before-asym x y (inr a) (inr b) = omega arith
-
--- two sorted lists with the same members are one
-pub sorted-unique : (a b : List Line) → Sorted a → Sorted b → ((x : Line) → List·Memᴰ x a ↔ List·Memᴰ x b) → a ≡ b
-sorted-unique [] [] s t h = refl
-sorted-unique [] (y ∷ b) s t h = absurd (List·Memᴰ·not-nil (h y .1 (List·Memᴰ·head refl)))
-sorted-unique (x ∷ a) [] s t h = absurd (List·Memᴰ·not-nil (h x .0 (List·Memᴰ·head refl)))
-sorted-unique (x ∷ a) (y ∷ b) s t h = λ k. heads k ∷ sorted-unique a b (s .1) (t .1) tails k
-  where
-    heads : x ≡ y
-    heads = ⊎-elim (λ e. e) (λ p. ⊎-elim (λ e. sym e) (λ q. absurd (before-asym x y (s .0 y q) (t .0 x p)))
-        (List·Memᴰ·cases-cons (h y .1 (List·Memᴰ·head refl)))) (List·Memᴰ·cases-cons (h x .0 (List·Memᴰ·head refl)))
-
-    -- a member of the one tail is in the other, since it is not the head
-    step : (u v : Line) (c d : List Line) → u ≡ v → ((z : Line) → List·Memᴰ z c → Before u z) → (z : Line) → List·Memᴰ z c → List·Memᴰ z (v ∷ d) → List·Memᴰ z d
-    step u v c d e f z m n = ⊎-elim (λ g. let b : Before u u = subst (λ w. Before u w) (g ∙ sym e) (f z m) in absurd (before-asym u u b b)) (λ n′. n′) (List·Memᴰ·cases-cons n)
-
-    tails : (z : Line) → List·Memᴰ z a ↔ List·Memᴰ z b
-    tails z = (λ m. step x y a b heads (s .0) z m (h z .0 (List·Memᴰ·tail m)), λ m. step y x b a (sym heads) (t .0) z m (h z .1 (List·Memᴰ·tail m)))
 
 module _ (row : List Levels) where
   pub closes-inside : (j d : ℕ) → Closes (rowOf row j) d → j < length row
@@ -244,10 +221,10 @@ module _ (row : List Levels) where
   unfolding scanOf
   scanOf-some i j d h = plan-complete (rowOf row) (length row) i j d (closes-inside j d (h .1)) h
 
-  pub scanOf-sorted : Sorted (scanOf row)
+  pub scanOf-sorted : Sorted Before (scanOf row)
   unfolding scanOf
   scanOf-sorted = plan-sorted (rowOf row) (length row)
 
   -- and no other list is so
-  pub scanOf-only : (ls : List Line) → Sorted ls → ((l : Line) → List·Memᴰ l ls ↔ IsLine (rowOf row) l) → ls ≡ scanOf row
-  scanOf-only ls s h = sorted-unique ls (scanOf row) s scanOf-sorted (λ l. (λ m. scanOf-exact l .1 (h l .0 m), λ m. h l .1 (scanOf-exact l .0 m)))
+  pub scanOf-only : (ls : List Line) → Sorted Before ls → ((l : Line) → List·Memᴰ l ls ↔ IsLine (rowOf row) l) → ls ≡ scanOf row
+  scanOf-only ls s h = sorted-unique Before before-asym ls (scanOf row) s scanOf-sorted (λ l. (λ m. scanOf-exact l .1 (h l .0 m), λ m. h l .1 (scanOf-exact l .0 m)))

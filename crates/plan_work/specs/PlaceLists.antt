@@ -2,10 +2,11 @@
 use mathlib.Core.Path.{_≡_, refl, ap, sym, subst}
 use mathlib.Core.Logic.{_⊎_, inl, inr, ⊎-elim}
 use mathlib.Core.List.{List, [], _∷_, map, List·Memᴰ, List·Memᴰ·head, List·Memᴰ·tail, List·Memᴰ·not-nil, List·Memᴰ·cases-cons}
-use Prim.Native.Nat.{ℕ, _+_, _-_, _≤_}
+use Prim.Native.Nat.{ℕ, _+_, _-_, _≤_, _<_}
 use native.Mathlib.Omega.{arith}
 use Rattle.algebra.specs.Algebra.{Algebra, Laws, Commutative}
-use Rattle.hill.specs.Closing.{Places, Rising}
+use Rattle.hill.specs.Sorted.{Sorted}
+use Rattle.hill.specs.Closing.{Places}
 use Rattle.hill.specs.Figure.{combined}
 
 -- The members of a list of places that have P, and those that have not.
@@ -66,19 +67,19 @@ module _ {P : ℕ → Type 0} (test : (q : ℕ) → Dec (P q)) where
       go (yes h) ih (inr n) = ⊎-elim (λ a. inl (List·Memᴰ·tail a)) inr (ih n)
       go (no h) ih (inr n) = ⊎-elim inl (λ b. inr (List·Memᴰ·tail b)) (ih n)
 
-  those-rising : (qs : List ℕ) → Rising qs → Rising (those qs)
+  those-rising : (qs : List ℕ) → Sorted _<_ qs → Sorted _<_ (those qs)
   those-rising [] s = tt
   those-rising (p ∷ qs) s = go (test p) (those-rising qs (s .1))
     where
-      go : (d : Dec (P p)) → Rising (those qs) → Rising (pick d (those qs))
+      go : (d : Dec (P p)) → Sorted _<_ (those qs) → Sorted _<_ (pick d (those qs))
       go (yes h) ih = (λ q m. s .0 q (those-mem q qs m .0), ih)
       go (no h) ih = ih
 
-  others-rising : (qs : List ℕ) → Rising qs → Rising (others qs)
+  others-rising : (qs : List ℕ) → Sorted _<_ qs → Sorted _<_ (others qs)
   others-rising [] s = tt
   others-rising (p ∷ qs) s = go (test p) (others-rising qs (s .1))
     where
-      go : (d : Dec (P p)) → Rising (others qs) → Rising (leave d (others qs))
+      go : (d : Dec (P p)) → Sorted _<_ (others qs) → Sorted _<_ (leave d (others qs))
       go (yes h) ih = ih
       go (no h) ih = (λ q m. s .0 q (others-mem q qs m .0), ih)
 
@@ -109,7 +110,7 @@ module _ (a : ℕ) where
   mem-from q [] m = absurd (List·Memᴰ·not-nil m)
   mem-from q (p ∷ qs) m = ⊎-elim (λ (e : q ≡ p). List·Memᴰ·head (ap (λ k. k - a) e)) (λ n. List·Memᴰ·tail (mem-from q qs n)) (List·Memᴰ·cases-cons m)
 
-  from-rising : (qs : List ℕ) → ((q : ℕ) → List·Memᴰ q qs → a ≤ q) → Rising qs → Rising (from qs)
+  from-rising : (qs : List ℕ) → ((q : ℕ) → List·Memᴰ q qs → a ≤ q) → Sorted _<_ qs → Sorted _<_ (from qs)
   from-rising [] f s = tt
   from-rising (p ∷ qs) f s = (
     λ k m. let w = from-mem k qs m in omega (arith, w .2, s .0 (w .0) (w .1), f p (List·Memᴰ·head refl)),

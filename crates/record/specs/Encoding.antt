@@ -5,6 +5,7 @@ use mathlib.Core.List.{List, [], _∷_, _++_, append-assoc}
 use Prim.Native.Nat.{ℕ, _^_, _≤_, _<_}
 use native.Mathlib.Omega.{arith}
 use lib.ListN.{length, drop, length-append, drop-of-length-le}
+use lib.Seq.{drop-at}
 use lib.Dec.{lit≤, lit<}
 use lib.IntN.{ℤ}
 use mir.Syntax.{w32}
@@ -16,8 +17,8 @@ use Rattle.number.specs.Bytes.{AllBytes, leAt, bytesOf, i32At}
 use Rattle.number.specs.Laws.{leAt-lt, field-here, field-past, length-bytesOf}
 use Rattle.number.specs.FieldLaws.{split-field, split-signed, bytes-append, bytes-drop, bytes-bytesOf}
 use Rattle.number.specs.IntegerLaws.{sfits-abs}
-use Rattle.record.specs.Record.{within, inRange, accepted, whole, byShape, readOf, recordsOf, defaultFloor, defaultCeiling, openFront, openBytes, batchBytes, shortBytes, closeBytes, fieldsBytes, shortFields, closeFields, chunkBytes}
-use Rattle.record.specs.Laws.{within-size, Sound, sound, Shape, full, short, batched, closed, shape}
+use Rattle.record.specs.Record.{within, inRange, accepted, whole, byShape, readOf, before, recordsOf, defaultFloor, defaultCeiling, openFront, openBytes, batchBytes, shortBytes, closeBytes, fieldsBytes, fullFields, shortFields, closeFields, chunkBytes}
+use Rattle.record.specs.Laws.{within-size, Sound, sound, Shape, full, short, batched, closed, shape, records-nil, records-next}
 use Rattle.record.specs.RangeLaws.{range-parts, close-in-range}
 use Rattle.record.specs.Readable.{First, first-read, none-read}
 use Rattle.record.specs.declared.Fields.{Fields}
@@ -84,7 +85,7 @@ front-read n d v l h r small ok =
     }
 
 module _ (d : ℕ) (v l h : ℤ) (r : List ℕ) (ok : inRange d v l h ≡ true) where
-  pub read-open : readOf (openBytes d v l h ++ r) ≡ result (record { kind = 1; length = 18; depth = d; value = v; floor = l; ceiling = h; batch = 0 })
+  pub read-open : readOf (openBytes d v l h ++ r) ≡ result (fullFields d v l h)
   unfolding readOf byShape whole accepted
   read-open =
       let f = front-read 18 d v l h r (lit< tt) ok in
@@ -174,3 +175,29 @@ chunk-again [] b all e = sym (drop-of-length-le b {i = 0} (omega (arith, none-re
 chunk-again (f ∷ fs) b all e =
     let w : First b f fs = first-read b f fs e in
     ap (λ (t : List ℕ). fieldsBytes f ++ t) (chunk-again fs (drop (f .length) b) (bytes-drop (f .length) b all) (w .rest)) ∙ bytes-again b all f (w .here)
+
+-- ---- and the bytes of records that are read back, each whatever follows it, are read back
+
+pub record ReadsBack (f : Fields) : Type 0 where
+  pub long : length (fieldsBytes f) ≡ f .length
+  pub reads : (r : List ℕ) → readOf (fieldsBytes f ++ r) ≡ result f
+
+pub open-back : (d : ℕ) (v l h : ℤ) → inRange d v l h ≡ true → ReadsBack (fullFields d v l h)
+open-back d v l h ok = record { long = open-length d v l h; reads = λ r. read-open d v l h r ok }
+
+pub short-back : (d : ℕ) (v : ℤ) → inRange d v defaultFloor defaultCeiling ≡ true → ReadsBack (shortFields d v)
+short-back d v ok = record { long = short-length d v; reads = λ r. read-short-open d v r ok }
+
+pub close-back : (d : ℕ) → d ≤ 63 → ReadsBack (closeFields d)
+close-back d low = record { long = close-length d; reads = λ r. read-close d r low }
+
+abbrev pub AllReadBack : List Fields → Type 0
+AllReadBack [] = Unit {0}
+AllReadBack (f ∷ fs) = ReadsBack f × AllReadBack fs
+
+pub chunk-read : (fs : List Fields) → AllReadBack fs → recordsOf (chunkBytes fs) ≡ result fs
+chunk-read [] h = records-nil
+chunk-read (f ∷ fs) h =
+    records-next (fieldsBytes f ++ chunkBytes fs) f (h .0 .reads (chunkBytes fs))
+    ∙ ap (λ (b : List ℕ). before f (recordsOf b)) (drop-at (fieldsBytes f) (chunkBytes fs) (f .length) (h .0 .long))
+    ∙ ap (before f) (chunk-read fs (h .1))

@@ -59,6 +59,9 @@ fullOpen s = openOf 18 s
 abbrev pub openWithBatch : List ℕ → Fields
 openWithBatch s = openOf 22 s
 
+abbrev pub fullFields : (depth : ℕ) → (value floor ceiling : ℤ) → Fields
+fullFields depth value floor ceiling = record { kind = 1; length = 18; depth = depth; value = value; floor = floor; ceiling = ceiling; batch = 0 }
+
 abbrev pub shortFields : (depth : ℕ) → (value : ℤ) → Fields
 shortFields depth value = record { kind = 1; length = 10; depth = depth; value = value; floor = defaultFloor; ceiling = defaultCeiling; batch = 0 }
 

@@ -6,7 +6,7 @@ ghost use lib.Seq.{sets};
 ghost use Rattle.record.specs.Record.{shortBytes, closeBytes};
 
 // A short open record, 10 bytes.
-pub fn write_short(out: &mut [u8], at: usize, depth: u16, value: i32)
+pub fn write_short_open(out: &mut [u8], at: usize, depth: u16, value: i32)
     requires { ⌜ at + 10 ≤ length (now out) ⌝ }
     ensures { λ _. ⌜ now (out .exit) ≡ sets (now (out .entry)) at (shortBytes depth value) ⌝ }
 {

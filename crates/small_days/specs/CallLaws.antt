@@ -9,7 +9,7 @@ use mir.Val.{Fits}
 use Rattle.record.specs.Record.{chunkBytes}
 use Rattle.hill.specs.Row.{joined}
 use Rattle.day_list.specs.Days.{days, smallDays}
-use Rattle.day_list.specs.RestLaws.{openingWays, days-are}
+use Rattle.day_list.specs.WayLaws.{openingWays, days-are}
 use Rattle.day_list.specs.Counts.{total}
 use Rattle.small_days.specs.Contracts.{Small}
 

@@ -4,7 +4,7 @@ use mathlib.Core.List.{List, []}
 use Prim.Native.Nat.{ℕ, _+_, _≤_, _<_}
 use lib.ListN.{length, getD}
 use Rattle.record.specs.Record.{chunkBytes}
-use Rattle.day_list.specs.Days.{rests, smallDays}
+use Rattle.day_list.specs.Days.{ways, smallDays}
 
 -- n is from 1 to 8, and so many logs open n records.
 pub record Small (n count : ℕ) : Type 0 where
@@ -20,10 +20,10 @@ pub record DayFits (n rank start room : ℕ) : Type 0 where
   pub fits : start + length (getD (smallDays n) rank []) ≤ room
 
 -- The bytes of a log from level 1 on, and that they fit into a buffer.
-abbrev pub restBytes : (left rank : ℕ) → List ℕ
-restBytes left rank = chunkBytes (getD (rests left 1) rank [])
+abbrev pub wayBytes : (left rank : ℕ) → List ℕ
+wayBytes left rank = chunkBytes (getD (ways left 1) rank [])
 
-pub record RestFits (left rank start room : ℕ) : Type 0 where
+pub record WayFits (left rank start room : ℕ) : Type 0 where
   pub few : left ≤ 7
-  pub there : rank < length (rests left 1)
-  pub fits : start + length (restBytes left rank) ≤ room
+  pub there : rank < length (ways left 1)
+  pub fits : start + length (wayBytes left rank) ≤ room

@@ -11,9 +11,9 @@ use Rattle.number.specs.Writing.{Writing, StoredAt}
 use Rattle.record.specs.Record.{shortBytes, closeBytes, closeFields, chunkBytes}
 use Rattle.record.specs.Encoding.{short-length, close-length}
 use Rattle.hill.specs.Row.{joined}
-use Rattle.day_list.specs.Days.{openOne, rests, days, smallDays}
-use Rattle.day_list.specs.RestLaws.{openingWays, closingWays, rests-over, rests-none, rests-on, days-are}
-use Rattle.small_days.specs.Contracts.{Small, DayFits, restBytes, RestFits}
+use Rattle.day_list.specs.Days.{openOne, ways, days, smallDays}
+use Rattle.day_list.specs.WayLaws.{openingWays, closingWays, ways-over, ways-none, ways-on, days-are}
+use Rattle.small_days.specs.Contracts.{Small, DayFits, wayBytes, WayFits}
 
 getD-map : {A B : Type 0} (f : A → B) (l : List A) (n : ℕ) (a : A) (b : B) → n < length l → getD (map f l) n b ≡ f (getD l n a)
 getD-map f [] n a b h = absurd (omega arith)
@@ -22,40 +22,40 @@ getD-map f (x ∷ l) (suc n) a b h = getD-map f l n a b (omega arith)
 
 -- ---- the ways to go on from a level: those with an open come first
 
-opening-length : (left level : ℕ) → length (openingWays (suc left) level) ≡ length (rests left (suc level))
-opening-length left level = length-map (rests left (suc level)) (λ fs. openOne level ∷ fs)
+opening-length : (left level : ℕ) → length (openingWays (suc left) level) ≡ length (ways left (suc level))
+opening-length left level = length-map (ways left (suc level)) (λ fs. openOne level ∷ fs)
 
 -- the first record of the way with `before` others before it, and the rest
-opening-first : (left level before : ℕ) → before < length (openingWays left level) → (0 < left) × (before < length (rests (left - 1) (suc level))) × (getD (openingWays left level) before [] ≡ openOne level ∷ getD (rests (left - 1) (suc level)) before [])
+opening-first : (left level before : ℕ) → before < length (openingWays left level) → (0 < left) × (before < length (ways (left - 1) (suc level))) × (getD (openingWays left level) before [] ≡ openOne level ∷ getD (ways (left - 1) (suc level)) before [])
 opening-first zero level before h = absurd (omega arith)
 opening-first (suc left) level before h =
     let e : suc left - 1 ≡ left = omega arith in
-    let b : before < length (rests left (suc level)) = omega (arith, opening-length left level) in
-    (omega arith, rw e b, rw e (getD-map (λ fs. openOne level ∷ fs) (rests left (suc level)) before [] [] b))
+    let b : before < length (ways left (suc level)) = omega (arith, opening-length left level) in
+    (omega arith, rw e b, rw e (getD-map (λ fs. openOne level ∷ fs) (ways left (suc level)) before [] [] b))
 
--- ---- a log w from level 1 on, written up to a level, with so many records left to open
+-- ---- the bytes w of a way from level 1 on, written up to a level with so many records left to open
 
-pub record RestSoFar (w : List ℕ) (start : ℕ) (buffer : List ℕ) (at left level before : ℕ) (out : List ℕ) : Type 0 where
+pub record WaySoFar (w : List ℕ) (start : ℕ) (buffer : List ℕ) (at left level before : ℕ) (out : List ℕ) : Type 0 where
   pub low : left + level ≤ 8
-  pub there : before < length (rests left level)
-  pub records : Writing w start buffer (chunkBytes (getD (rests left level) before [])) at out
+  pub there : before < length (ways left level)
+  pub records : Writing w start buffer (chunkBytes (getD (ways left level) before [])) at out
 
-pub rest-begun : (left rank start : ℕ) (buffer : List ℕ) → RestFits left rank start (length buffer) → RestSoFar (restBytes left rank) start buffer start left 1 rank buffer
-rest-begun left rank start buffer h = record { low = omega (arith, h .few); there = h .there; records = writing.begin (restBytes left rank) start buffer (h .fits) }
+pub way-begun : (left rank start : ℕ) (buffer : List ℕ) → WayFits left rank start (length buffer) → WaySoFar (wayBytes left rank) start buffer start left 1 rank buffer
+way-begun left rank start buffer h = record { low = omega (arith, h .few); there = h .there; records = writing.begin (wayBytes left rank) start buffer (h .fits) }
 
-module _ {w : List ℕ} {start : ℕ} {buffer : List ℕ} {at left level before : ℕ} {out : List ℕ} (i : RestSoFar w start buffer at left level before out) (high : 0 < level) where
+module _ {w : List ℕ} {start : ℕ} {buffer : List ℕ} {at left level before : ℕ} {out : List ℕ} (i : WaySoFar w start buffer at left level before out) (high : 0 < level) where
   -- the level is above another
-  rests-here : rests left level ≡ openingWays left level ++ closingWays left (level - 1)
-  rests-here = go level high
+  ways-here : ways left level ≡ openingWays left level ++ closingWays left (level - 1)
+  ways-here = go level high
     where
-      go : (l : ℕ) → 0 < l → rests left l ≡ openingWays left l ++ closingWays left (l - 1)
+      go : (l : ℕ) → 0 < l → ways left l ≡ openingWays left l ++ closingWays left (l - 1)
       go zero h = absurd (omega arith)
-      go (suc l) h = let e : suc l - 1 ≡ l = omega arith in rw e (rests-on left l)
+      go (suc l) h = let e : suc l - 1 ≡ l = omega arith in rw e (ways-on left l)
 
   module _ (m : before < length (openingWays left level)) where
-    open-rest : chunkBytes (getD (rests left level) before []) ≡ shortBytes level (pos 1) ++ chunkBytes (getD (rests (left - 1) (suc level)) before [])
+    open-rest : chunkBytes (getD (ways left level) before []) ≡ shortBytes level (pos 1) ++ chunkBytes (getD (ways (left - 1) (suc level)) before [])
     open-rest =
-        ap (λ l. chunkBytes (getD l before [])) rests-here
+        ap (λ l. chunkBytes (getD l before [])) ways-here
         ∙ ap chunkBytes (List·getD-append (openingWays left level) (closingWays left (level - 1)) [] before m)
         ∙ ap chunkBytes (opening-first left level before m .2)
 
@@ -65,7 +65,7 @@ module _ {w : List ℕ} {start : ℕ} {buffer : List ℕ} {at left level before 
     pub open-fits : at + 10 ≤ length out
     open-fits = omega (arith, writing.fits (i .records) (shortBytes level (pos 1)) _ open-rest, short-length level (pos 1))
 
-    pub open-written : {out′ : List ℕ} {level′ : ℕ} → level′ ≡ suc level → out′ ≡ sets out at (shortBytes level (pos 1)) → RestSoFar w start buffer (at + 10) (left - 1) level′ before out′
+    pub open-written : {out′ : List ℕ} {level′ : ℕ} → level′ ≡ suc level → out′ ≡ sets out at (shortBytes level (pos 1)) → WaySoFar w start buffer (at + 10) (left - 1) level′ before out′
     open-written e s = rw e (record {
       low = omega (arith, i .low, some-left);
       there = opening-first left level before m .1;
@@ -73,27 +73,27 @@ module _ {w : List ℕ} {start : ℕ} {buffer : List ℕ} {at left level before 
     })
 
   module _ (m : length (openingWays left level) ≤ before) where
-    abbrev ways : ℕ
-    ways = length (openingWays left level)
+    abbrev opening : ℕ
+    opening = length (openingWays left level)
 
-    rests-long : length (rests left level) ≡ ways + length (rests left (level - 1))
-    rests-long = ap length rests-here ∙ length-append (openingWays left level) (closingWays left (level - 1)) ∙ ap (λ k. ways + k) (length-map (rests left (level - 1)) (λ fs. closeFields (level - 1) ∷ fs))
+    ways-long : length (ways left level) ≡ opening + length (ways left (level - 1))
+    ways-long = ap length ways-here ∙ length-append (openingWays left level) (closingWays left (level - 1)) ∙ ap (λ k. opening + k) (length-map (ways left (level - 1)) (λ fs. closeFields (level - 1) ∷ fs))
 
-    below : before - ways < length (rests left (level - 1))
-    below = omega (arith, i .there, rests-long)
+    below : before - opening < length (ways left (level - 1))
+    below = omega (arith, i .there, ways-long)
 
-    close-rest : chunkBytes (getD (rests left level) before []) ≡ closeBytes (level - 1) ++ chunkBytes (getD (rests left (level - 1)) (before - ways) [])
+    close-rest : chunkBytes (getD (ways left level) before []) ≡ closeBytes (level - 1) ++ chunkBytes (getD (ways left (level - 1)) (before - opening) [])
     close-rest =
-        let e : ways + (before - ways) ≡ before = omega arith in
-        ap (λ l. chunkBytes (getD l before [])) rests-here
+        let e : opening + (before - opening) ≡ before = omega arith in
+        ap (λ l. chunkBytes (getD l before [])) ways-here
         ∙ ap (λ k. chunkBytes (getD (openingWays left level ++ closingWays left (level - 1)) k [])) (sym e)
-        ∙ ap chunkBytes (getD-append-add (openingWays left level) (closingWays left (level - 1)) (before - ways) [])
-        ∙ ap chunkBytes (getD-map (λ fs. closeFields (level - 1) ∷ fs) (rests left (level - 1)) (before - ways) [] [] below)
+        ∙ ap chunkBytes (getD-append-add (openingWays left level) (closingWays left (level - 1)) (before - opening) [])
+        ∙ ap chunkBytes (getD-map (λ fs. closeFields (level - 1) ∷ fs) (ways left (level - 1)) (before - opening) [] [] below)
 
     pub close-fits : at + 6 ≤ length out
     close-fits = omega (arith, writing.fits (i .records) (closeBytes (level - 1)) _ close-rest, close-length (level - 1))
 
-    pub close-written : {out′ : List ℕ} {before′ : ℕ} → before′ ≡ before - ways → out′ ≡ sets out at (closeBytes (level - 1)) → RestSoFar w start buffer (at + 6) left (level - 1) before′ out′
+    pub close-written : {out′ : List ℕ} {before′ : ℕ} → before′ ≡ before - opening → out′ ≡ sets out at (closeBytes (level - 1)) → WaySoFar w start buffer (at + 6) left (level - 1) before′ out′
     close-written e s = rw e (record {
       low = omega (arith, i .low);
       there = below;
@@ -101,15 +101,15 @@ module _ {w : List ℕ} {start : ℕ} {buffer : List ℕ} {at left level before 
     })
 
 -- at level 0 the log is over
-over : (left before : ℕ) → before < length (rests left 0) → getD (rests left 0) before [] ≡ []
-over zero zero h = ap (λ l. getD l 0 []) rests-over
-over zero (suc k) h = absurd (omega (arith, ap length rests-over))
-over (suc left) before h = absurd (omega (arith, ap length (rests-none left)))
+over : (left before : ℕ) → before < length (ways left 0) → getD (ways left 0) before [] ≡ []
+over zero zero h = ap (λ l. getD l 0 []) ways-over
+over zero (suc k) h = absurd (omega (arith, ap length ways-over))
+over (suc left) before h = absurd (omega (arith, ap length (ways-none left)))
 
-pub rest-written : {w : List ℕ} {start : ℕ} {buffer : List ℕ} {at left level before : ℕ} {out : List ℕ} → RestSoFar w start buffer at left level before out → level ≤ 0 → StoredAt w start buffer out at
-rest-written {left = left} {level = level} {before = before} i z =
+pub way-written : {w : List ℕ} {start : ℕ} {buffer : List ℕ} {at left level before : ℕ} {out : List ℕ} → WaySoFar w start buffer at left level before out → level ≤ 0 → StoredAt w start buffer out at
+way-written {left = left} {level = level} {before = before} i z =
     let e : level ≡ 0 = omega arith in
-    writing.done (i .records) (ap (λ l. chunkBytes (getD (rests left l) before [])) e ∙ ap chunkBytes (over left before (subst (λ l. before < length (rests left l)) e (i .there))))
+    writing.done (i .records) (ap (λ l. chunkBytes (getD (ways left l) before [])) e ∙ ap chunkBytes (over left before (subst (λ l. before < length (ways left l)) e (i .there))))
 
 -- ---- a log: the first open, and the rest
 
@@ -118,7 +118,7 @@ module _ (n rank start : ℕ) (buffer : List ℕ) (h : DayFits n rank start (len
   unfolding smallDays
   there-day = omega (arith, h .there, length-map (days n) chunkBytes)
 
-  root : (rank < length (rests (n - 1) 1)) × (getD (smallDays n) rank [] ≡ shortBytes 0 (pos 1) ++ restBytes (n - 1) rank)
+  root : (rank < length (ways (n - 1) 1)) × (getD (smallDays n) rank [] ≡ shortBytes 0 (pos 1) ++ wayBytes (n - 1) rank)
   unfolding smallDays
   root =
       let w = opening-first n 0 rank (subst (λ l. rank < length l) (days-are n) there-day) in
@@ -131,14 +131,14 @@ module _ (n rank start : ℕ) (buffer : List ℕ) (h : DayFits n rank start (len
   root-fits = omega (arith, writing.fits begun (shortBytes 0 (pos 1)) _ (root .1), short-length 0 (pos 1))
 
   module _ {out : List ℕ} (s : out ≡ sets buffer start (shortBytes 0 (pos 1))) where
-    opened : Writing (getD (smallDays n) rank []) start buffer (restBytes (n - 1) rank) (start + 10) out
+    opened : Writing (getD (smallDays n) rank []) start buffer (wayBytes (n - 1) rank) (start + 10) out
     opened = writing.next begun (shortBytes 0 (pos 1)) (root .1) s (omega (arith, short-length 0 (pos 1)))
 
-    pub rest-fits : RestFits (n - 1) rank (start + 10) (length out)
-    rest-fits = record { few = omega (arith, h .few); there = root .0; fits = writing.fits opened (restBytes (n - 1) rank) [] (sym (append-nil (restBytes (n - 1) rank))) }
+    pub way-fits : WayFits (n - 1) rank (start + 10) (length out)
+    way-fits = record { few = omega (arith, h .few); there = root .0; fits = writing.fits opened (wayBytes (n - 1) rank) [] (sym (append-nil (wayBytes (n - 1) rank))) }
 
-    pub day-written : {out′ : List ℕ} {r : ℕ} → StoredAt (restBytes (n - 1) rank) (start + 10) out out′ r → StoredAt (getD (smallDays n) rank []) start buffer out′ r
-    day-written t = writing.done (writing.next opened (restBytes (n - 1) rank) (sym (append-nil (restBytes (n - 1) rank))) (t .buffer) (t .ends)) refl
+    pub day-written : {out′ : List ℕ} {r : ℕ} → StoredAt (wayBytes (n - 1) rank) (start + 10) out out′ r → StoredAt (getD (smallDays n) rank []) start buffer out′ r
+    day-written t = writing.done (writing.next opened (wayBytes (n - 1) rank) (sym (append-nil (wayBytes (n - 1) rank))) (t .buffer) (t .ends)) refl
 
 -- ---- all logs, written up to a rank
 

@@ -10,12 +10,13 @@ ghost use Rattle.gate.specs.Promises.{Answers};
 ghost use Rattle.number.specs.Writing.{StoredAt};
 ghost use Rattle.hill.specs.Row.{joined};
 ghost use Rattle.day_list.specs.Days.{smallDays, smallDaysOutcome};
-ghost use Rattle.day_list.specs.RestLaws.{openingWays};
-ghost use Rattle.small_days.specs.Contracts.{Small, DayFits, restBytes, RestFits};
+ghost use Rattle.day_list.specs.WayLaws.{openingWays};
+ghost use Rattle.small_days.specs.WaysTable.{waysTable};
+ghost use Rattle.small_days.specs.Contracts.{Small, DayFits, wayBytes, WayFits};
 use gate::Written;
 
 // How many logs go on with an open, by the records left to open (the row) and the level. The first column is the number of logs. Nobody asks where both
-// together are above 8.
+// together are above 8. It is lent from call to call: taken where it is asked, it would be set up anew for each record.
 const OPENING_WAYS: [[u16; 9]; 9] = [
     [0, 0, 0, 0, 0, 0, 0, 0, 0],
     [1, 1, 1, 1, 1, 1, 1, 1, 0],
@@ -28,27 +29,29 @@ const OPENING_WAYS: [[u16; 9]; 9] = [
     [429, 0, 0, 0, 0, 0, 0, 0, 0],
 ];
 
-fn opening_ways(left: u16, level: u16) -> u16
+fn opening_ways(table: &[[u16; 9]; 9], left: u16, level: u16) -> u16
+    requires { ⌜ now table ≡ waysTable ⌝ }
     requires { ⌜ left + level ≤ 8 ⌝ }
     ensures { λ r. ⌜ r ≡ length (openingWays left level) ⌝ }
 {
-    OPENING_WAYS[left as usize][level as usize]
+    table[left as usize][level as usize]
 }
 
-// The rest of a log behind its first open: at level 1, with so many records left to open, the way to go on that has `rank` others before it. Of the ways
-// at a level those with an open come first, so the rank tells whether it is one of them. It answers where the log ends.
-fn write_rest(to_open: u16, rank: u16, out: &mut [u8], start: usize) -> usize
-    requires { ⌜ RestFits to_open rank start (length (now out)) ⌝ }
-    ensures { λ r. ⌜ StoredAt (restBytes to_open rank) start (now (out .entry)) (now (out .exit)) r ⌝ }
+// A log behind its first open: at level 1, with so many records left to open, the way to go on that has `rank` others before it. Of the ways at a level
+// those with an open come first, so the rank tells whether it is one of them. It answers where the log ends.
+fn write_way(table: &[[u16; 9]; 9], to_open: u16, rank: u16, out: &mut [u8], start: usize) -> usize
+    requires { ⌜ now table ≡ waysTable ⌝ }
+    requires { ⌜ WayFits to_open rank start (length (now out)) ⌝ }
+    ensures { λ r. ⌜ StoredAt (wayBytes to_open rank) start (now (out .entry)) (now (out .exit)) r ⌝ }
 {
     let mut at = start;
     let mut left = to_open;
     let mut level: u16 = 1;
     let mut before = rank;
     while 0 < level {
-        let opening = opening_ways(left, level);
+        let opening = opening_ways(table, left, level);
         if before < opening {
-            record_writer::write_short(out, at, level, 1);
+            record_writer::write_short_open(out, at, level, 1);
             at += 10;
             left -= 1;
             level += 1;
@@ -63,16 +66,18 @@ fn write_rest(to_open: u16, rank: u16, out: &mut [u8], start: usize) -> usize
 }
 
 // The log that has `rank` others before it, of those that open n records. It answers where the log ends.
-fn write_day(n: u16, rank: u16, out: &mut [u8], start: usize) -> usize
+fn write_day(table: &[[u16; 9]; 9], n: u16, rank: u16, out: &mut [u8], start: usize) -> usize
+    requires { ⌜ now table ≡ waysTable ⌝ }
     requires { ⌜ DayFits n rank start (length (now out)) ⌝ }
     ensures { λ r. ⌜ StoredAt (getD (smallDays n) rank []) start (now (out .entry)) (now (out .exit)) r ⌝ }
 {
-    record_writer::write_short(out, start, 0, 1);
-    write_rest(n - 1, rank, out, start + 10)
+    record_writer::write_short_open(out, start, 0, 1);
+    write_way(table, n - 1, rank, out, start + 10)
 }
 
 // All logs that open n records.
-fn write_days(n: u16, count: u16, out: &mut [u8])
+fn write_days(table: &[[u16; 9]; 9], n: u16, count: u16, out: &mut [u8])
+    requires { ⌜ now table ≡ waysTable ⌝ }
     requires { ⌜ Small n count ⌝ }
     requires { ⌜ length (joined (smallDays n)) ≤ length (now out) ⌝ }
     ensures { λ _. ⌜ now (out .exit) ≡ sets (now (out .entry)) 0 (joined (smallDays n)) ⌝ }
@@ -80,23 +85,24 @@ fn write_days(n: u16, count: u16, out: &mut [u8])
     let mut at: usize = 0;
     let mut rank: u16 = 0;
     while rank < count {
-        at = write_day(n, rank, out, at);
+        at = write_day(table, n, rank, out, at);
         rank += 1;
     }
 }
 
-// All logs that open n records, where they fit: 16 bytes for each record of each log.
+// All logs that open n records, where they fit: 16 bytes for each record that a log opens.
 fn put_days(n: u16, out: &mut [u8]) -> Written
     requires { ⌜ 1 ≤ n ⌝ }
     requires { ⌜ n ≤ 8 ⌝ }
     ensures { λ r. ⌜ Answers (written (length (now (out .entry))) (joined (smallDays n))) (now (out .entry)) (now (out .exit)) r ⌝ }
 {
-    let count = opening_ways(n, 0);
+    let table = OPENING_WAYS;
+    let count = opening_ways(&table, n, 0);
     let total = 16 * (n as usize) * (count as usize);
     if out.len() < total {
         return Written::Refused(12);
     }
-    write_days(n, count, out);
+    write_days(&table, n, count, out);
     Written::Bytes(total)
 }
 

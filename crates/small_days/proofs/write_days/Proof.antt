@@ -8,16 +8,16 @@ use Rattle.small_days.proofs.write_days.Statement.{statement}
 use Rattle.small_days.proofs.write_days.Tie as tie
 
 abbrev Inv-loop : tie.InvT-loop
-Inv-loop n count out₀ at₀ rank₀ out at rank = DaysSoFar n count out₀ at rank out
+Inv-loop table n count out₀ at₀ rank₀ out at rank = DaysSoFar n count out₀ at rank out
 
 abbrev μ-loop : tie.MeasureT-loop
-μ-loop n count out₀ at₀ rank₀ out at rank = count - rank
+μ-loop table n count out₀ at₀ rank₀ out at rank = count - rank
 
 loop-holds : tie.Need-loop-holds Inv-loop μ-loop
-loop-holds c = let a = c .before in no-day-yet (a .args .n) (a .args .count) (now (a .args .out)) (a .pre .1)
+loop-holds c = let a = c .before in no-day-yet (a .args .n) (a .args .count) (now (a .args .out)) (a .pre .1 .1)
 
 write-day-requires : tie.Need-write-day-requires Inv-loop μ-loop
-write-day-requires c κs = day-fits (c .before .before .before .before .pre .0) (c .before .before .loop .inv) (c .before .loop-test .taken)
+write-day-requires c κs = let a = c .before .before .before .before in (a .pre .0, day-fits (a .pre .1 .0) (c .before .before .loop .inv) (c .before .loop-test .taken))
 
 add-rank : tie.Need-add-rank Inv-loop μ-loop
 add-rank c = search needs
@@ -26,13 +26,13 @@ loop-less : tie.Need-loop-less Inv-loop μ-loop
 loop-less c = search needs
 
 loop-again : tie.Need-loop-again Inv-loop μ-loop
-loop-again c = log-written (c .before .before .before .before .before .before .before .pre .0) (c .before .before .before .before .before .loop .inv) (c .before .before .before .before .loop-test .taken) (omega arith) (c .before .before .write-day .ensures)
+loop-again c = log-written (c .before .before .before .before .before .before .before .pre .1 .0) (c .before .before .before .before .before .loop .inv) (c .before .before .before .before .loop-test .taken) (omega arith) (c .before .before .write-day .ensures)
 
 same-length : tie.Need-same-length Inv-loop μ-loop
 same-length c = c .before .loop .inv .logs .size
 
 returns : tie.Need-returns Inv-loop μ-loop
-returns c = all-written (c .before .before .before .pre .0) (c .before .loop .inv) (c .loop-test .left)
+returns c = all-written (c .before .before .before .pre .1 .0) (c .before .loop .inv) (c .loop-test .left)
 
 pub write-days-spec : {M : Type 1} → statement M
 write-days-spec =

@@ -1,10 +1,10 @@
--- `record_writer::write_short` meets its contract. Assumes nothing.
+-- `record_writer::write_short_open` meets its contract. Assumes nothing.
 use borrow.Author.Needs.{needs}
 use denote.Ref.{now}
 use mir.Facts.{toZ-ofZ}
 use Rattle.record_writer.specs.StoreLaws.{short-stores}
-use Rattle.record_writer.proofs.write_short.Statement.{statement}
-use Rattle.record_writer.proofs.write_short.Tie as tie
+use Rattle.record_writer.proofs.write_short_open.Statement.{statement}
+use Rattle.record_writer.proofs.write_short_open.Tie as tie
 
 write-u16-requires : tie.Need-write-u16-requires
 write-u16-requires c κs = search needs
@@ -36,8 +36,8 @@ returns c =
     short-stores (now (a .args .out)) _ _ _ _ (a .args .at) (a .args .depth) (a .args .value) _ (toZ-ofZ (a .fits .value))
     (c .before .before .before .before .before .before .before .before .before .before .before .before .before .before .write-u16 .ensures) (c .before .before .before .before .before .before .before .before .before .before .write-u162 .ensures) (c .before .before .before .before .before .before .write-u163 .ensures) (c .before .before .write-i32 .ensures)
 
-pub write-short-spec : {M : Type 1} → statement M
-write-short-spec =
+pub write-short-open-spec : {M : Type 1} → statement M
+write-short-open-spec =
     tie.close
     (tie.spec
     write-u16-requires
