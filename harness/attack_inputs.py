@@ -248,6 +248,7 @@ INPUTS = {
     "small_days/first_value_0": small_days(1),
     "small_days/fits_refused": small_days(8, 54_912),
     "small_days/last_missing": small_days(8, 54_912),
+    "small_days/last_uncounted": small_days(8, 54_912),
     "small_days/logs_over_each_other": small_days(3),
     "small_days/one_open_too_many": small_days(3),
     "small_days/outside_12": small_days(0),

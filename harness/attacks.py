@@ -161,17 +161,28 @@ def switched(text, name, versions):
     return text.replace(as_it_is, "\n".join([chooser, *named]))
 
 
+def version(text, number, change):
+    """A source with a change, and the constant that it changes, under a name of its own."""
+    constant, changed = edits.item_at(edits.CONSTANT, text, change.pairs[0].old), edits.edited(text, change.pairs)
+    if not constant:
+        return changed, ""
+    changed = re.sub(rf"\b{constant}\b", f"{constant}_{number}", changed)
+    return changed, next(m[0] for m in edits.CONSTANT.finditer(changed) if m[1] == f"{constant}_{number}")
+
+
 def rust(crate, file, numbered):
     """A file of a crate in Rust, each function that is changed in all its versions."""
-    text, by_function = edits.source(crate, file), {}
+    text, by_function, constants = edits.source(crate, file), {}, []
     for number, change in numbered:
         if change.crate == crate and change.pairs[0].file == file:
             name = edits.function_of(change).split("::")[-1]
-            by_function.setdefault(name, {})[number] = plain(edits.edited(text, change.pairs))
+            changed, constant = version(text, number, change)
+            by_function.setdefault(name, {})[number] = plain(changed)
+            constants.append(constant)
     text = plain(text)
     for name, versions in by_function.items():
         text = switched(text, name, versions)
-    return text
+    return "\n".join([text, *filter(None, constants)])
 
 
 def libraries():

@@ -9,8 +9,9 @@ An edit file, crates/CRATE/must-fail/LABEL.edit, is tried by one check of its cr
     old: TEXT           a text that stands there once, in one line
     new: TEXT           what takes its place; another pair may follow
 
-A change is of one function, in src/, or of definitions, in specs/. The changes of one file are of
-different functions, so each has a refusal of its own to show; one of definitions stands alone.
+A change is of one function, in src/, or of definitions, in specs/. A constant counts to the function that names it, if it is
+one alone. The changes of one file are of different functions, so each has a refusal of its own to show; one of definitions
+stands alone.
 """
 
 import pathlib
@@ -21,6 +22,8 @@ ROOT = pathlib.Path(__file__).resolve().parent.parent
 CRATES = ROOT / "crates"
 # A function: the line that begins it, at the left margin, to the brace that ends it there.
 FUNCTION = re.compile(r'^(?:pub )?(?:extern "C" )?fn (\w+)[(<].*?^\}$', flags=re.M | re.S)
+# A constant, likewise, to the semicolon that ends it.
+CONSTANT = re.compile(r'^(?:pub )?const (\w+): .*?;$', flags=re.M | re.S)
 
 
 class Pair(NamedTuple):
@@ -66,10 +69,19 @@ def source(crate, file):
     return (CRATES / crate / file).read_text(encoding="utf-8")
 
 
-def function_at(text, old) -> Optional[str]:
-    """The function of a source that a text stands in."""
+def item_at(kind, text, old) -> Optional[str]:
+    """The function or the constant of a source that a text stands in."""
     at = text.index(old)
-    return next((m[1] for m in FUNCTION.finditer(text) if m.start() <= at < m.end()), None)
+    return next((m[1] for m in kind.finditer(text) if m.start() <= at < m.end()), None)
+
+
+def function_at(text, old) -> Optional[str]:
+    """The function of a source that a text stands in, or that alone names the constant which it stands in."""
+    constant = item_at(CONSTANT, text, old)
+    if not constant:
+        return item_at(FUNCTION, text, old)
+    naming = [m[1] for m in FUNCTION.finditer(text) if re.search(rf"\b{constant}\b", m[0])]
+    return naming[0] if len(naming) == 1 else None
 
 
 def functions_of(change):
