@@ -51,8 +51,8 @@ def hill(mode, start, peak, end, opened, left, middle, right=()):
 
 
 def call(name, data, number=0, room=200):
-    """A request: the call, its bytes, its number (a mode, or where the right piece
-    begins) and how long its buffer is."""
+    """A request: the call, its bytes, its number (a mode, where the right piece
+    begins, or an n) and how long its buffer is."""
     return f"{name} {number} {room} {data.hex() or '-'}"
 
 

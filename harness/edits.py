@@ -9,9 +9,9 @@ An edit file, crates/CRATE/must-fail/LABEL.edit, is tried by one check of its cr
     old: TEXT           a text that stands there once, in one line
     new: TEXT           what takes its place; another pair may follow
 
-A change is of one function, in src/, or of definitions, in specs/. A constant counts to the function that names it, if it is
-one alone. The changes of one file are of different functions, so each has a refusal of its own to show; one of definitions
-stands alone.
+A change is of one function, in src/, or of definitions, in specs/. A constant counts with the function that
+names it, where just one does. The changes of one file are of different functions, so each has a refusal of its
+own to show; one of definitions stands alone.
 """
 
 import pathlib

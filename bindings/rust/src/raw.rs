@@ -23,7 +23,7 @@ pub const LONGEST_LOG_WRITTEN: usize = 2_730 * crate::TableLine::LOG_LENGTH;
 /// for the close.
 pub const LONGEST_TABLE_READ: usize = 4_096 * crate::TableLine::LENGTH;
 
-/// No logs written by [`small_days`] are longer, in bytes: of 8 records, of 10 bytes and 6 for the close, there are 429.
+/// No logs written by [`small_days`] are longer, in bytes: 429 logs open 8 records, of 10 bytes each and 6 for the close.
 pub const LONGEST_SMALL_DAYS: usize = 429 * 8 * (10 + 6);
 
 mod ffi {

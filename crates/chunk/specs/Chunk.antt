@@ -32,7 +32,7 @@ pub record IsWellFormed (log : List ℕ) (xs : List (Record Amounts)) : Type 0 w
   pub records-are : chunkOf fields ≡ xs
   pub fine : logFault xs ≡ pass
 
--- Two chunks of readable records, of which R holds.
+-- Two chunks of readable records, and R holds of their records.
 pub record ReadAs (R : (left right : List Fields) → Type 0) (a b : List ℕ) : Type 0 where
   pub left : List Fields
   pub right : List Fields

@@ -56,7 +56,7 @@ pub record SmallDaysBytes (n : ℕ) (w : List ℕ) : Type 0 where
   pub log-length : (log : List ℕ) → List·Memᴰ log logs → length log ≡ 16 * n
   pub whole-length : length w ≡ 16 * n * length logs
 
--- "Turned away: 14, before all else, when n is outside 1 to 8; a short buffer gets 12." By no other number, and all else is written.
+-- "Turned away: 14, before all else, when n is outside 1 to 8; a short buffer gets 12 with nothing written." By no other number, and all else is written.
 pub record TurnsAway (n cap : ℕ) : Type 0 where
   pub by-14 : (smallDaysOutcome n cap ≡ refused 14) ↔ ((n < 1) ⊎ (8 < n))
   pub by-12 : (smallDaysOutcome n cap ≡ refused 12) ↔ ((1 ≤ n) × (n ≤ 8) × (cap < length (joined (smallDays n))))

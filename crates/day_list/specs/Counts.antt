@@ -48,6 +48,6 @@ most-429 (suc (suc (suc (suc (suc (suc (suc zero))))))) h = lit≤ tt
 most-429 (suc (suc (suc (suc (suc (suc (suc (suc zero)))))))) h = lit≤ tt
 most-429 (suc (suc (suc (suc (suc (suc (suc (suc (suc n))))))))) h = absurd (omega arith)
 
--- So no call writes more.
+-- So all small days of one n never take more.
 pub most-54912 : (n : ℕ) → n ≤ 8 → length (joined (smallDays n)) ≤ 54_912
 most-54912 n h = rw (total n (omega arith)) (mul-le-mul {n₂ = 128} {m₂ = 429} (omega arith) (most-429 n h))

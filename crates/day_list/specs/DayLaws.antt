@@ -1,4 +1,4 @@
--- The list of small days by their bytes: just the logs that are wanted, each no-duplicates, in order; there is no other such list. Assumes nothing.
+-- The list of small days by their bytes: just the logs that are wanted, each once, in order; there is no other such list. Assumes nothing.
 use mathlib.Core.Path.{_≡_, refl, sym, ap, subst, _∙_}
 use mathlib.Core.Bool.{true}
 use mathlib.Core.Logic.{inl, inr}
@@ -138,7 +138,7 @@ module _ (n : ℕ) (few : n ≤ 64) where
   unfolding smallDays
   small-order = sorted-map Precedes chunkBytes Lexicographic (days n) (λ fs gs i j b. record { left = fs; right = gs; left-read = day-read n few fs (day-in fs i); right-read = day-read n few gs (day-in gs j); holds = b }) (day-order n)
 
-  -- ALL SMALL DAYS: just the logs that are wanted, each no-duplicates, in order; ..
+  -- ALL SMALL DAYS: just the logs that are wanted, each once, in order; ..
   pub are-small-days : AreSmallDays n (smallDays n)
   are-small-days = record { each = λ log. (small-sound log, small-complete log); once = sorted-no-duplicates Precedes asymmetric (smallDays n) small-order; in-order = small-order }
 

@@ -21,7 +21,7 @@ ways (suc left) zero = []
 ways zero (suc level) = map (λ fs. closeFields level ∷ fs) (ways zero level)
 ways (suc left) (suc level) = map (λ fs. openOne (suc level) ∷ fs) (ways left (suc (suc level))) ++ map (λ fs. closeFields level ∷ fs) (ways (suc left) level)
 
--- The logs that open n records, by their records: the first opens one at depth 0.
+-- The logs that open n records, by their records: the first record opens at depth 0.
 unfoldable pub days : ℕ → List (List Fields)
 days zero = []
 days (suc n) = map (λ fs. openOne 0 ∷ fs) (ways n 1)
@@ -30,6 +30,7 @@ days (suc n) = map (λ fs. openOne 0 ∷ fs) (ways n 1)
 unfoldable pub smallDays : ℕ → List (List ℕ)
 smallDays n = map chunkBytes (days n)
 
--- WRITING ALL SMALL DAYS, "one log after another". "Turned away: 14, before all else, when n is outside 1 to 8; a short buffer gets 12."
+-- WRITING ALL SMALL DAYS, "one log after another". "Turned away: 14, before all else, when n is outside 1 to 8; a short buffer gets 12 with nothing
+-- written."
 unfoldable pub smallDaysOutcome : (n cap : ℕ) → Outcome (List ℕ)
 smallDaysOutcome n cap = question 14 (leb 1 n && leb n 8) (written cap (joined (smallDays n)))

@@ -1,4 +1,5 @@
--- A log by its levels: it is well formed where its records meet above level 0, from level 0 to level 0. Assumes nothing.
+-- A log by its levels: one that opens at most 100,000 records is well formed where its records meet above level 0, from level 0 to level 0. Assumes
+-- nothing.
 use mathlib.Core.Path.{_≡_, refl, sym, subst, _∙_}
 use mathlib.Core.List.{List, [], _∷_}
 use Prim.Native.Nat.{ℕ, zero, suc, _+_, _*_, _≤_, _<_}

@@ -176,7 +176,7 @@ chunk-again (f ∷ fs) b all e =
     let w : First b f fs = first-read b f fs e in
     ap (λ (t : List ℕ). fieldsBytes f ++ t) (chunk-again fs (drop (f .length) b) (bytes-drop (f .length) b all) (w .rest)) ∙ bytes-again b all f (w .here)
 
--- ---- and the bytes of records that are read back, each whatever follows it, are read back
+-- ---- and if each record is read back from its bytes, whatever follows, so are all of them from theirs
 
 pub record ReadsBack (f : Fields) : Type 0 where
   pub long : length (fieldsBytes f) ≡ f .length

@@ -59,6 +59,7 @@ fullOpen s = openOf 18 s
 abbrev pub openWithBatch : List ℕ → Fields
 openWithBatch s = openOf 22 s
 
+-- The fields of a full open record, which has no batch, and of a short one; and below of a close.
 abbrev pub fullFields : (depth : ℕ) → (value floor ceiling : ℤ) → Fields
 fullFields depth value floor ceiling = record { kind = 1; length = 18; depth = depth; value = value; floor = floor; ceiling = ceiling; batch = 0 }
 

@@ -1,4 +1,4 @@
--- The length of what is written: 16 bytes for each record of each log. Assumes nothing.
+-- The length of what is written: 16 bytes for each record that a log opens. Assumes nothing.
 use mathlib.Core.Path.{_≡_, ap, sym, _∙_}
 use Prim.Native.Nat.{ℕ, _*_, _≤_, _<_}
 use native.Mathlib.Nat.{mul-le-mul}

@@ -44,7 +44,7 @@ pub way-begun : (left rank start : ℕ) (buffer : List ℕ) → WayFits left ran
 way-begun left rank start buffer h = record { low = omega (arith, h .few); there = h .there; records = writing.begin (wayBytes left rank) start buffer (h .fits) }
 
 module _ {w : List ℕ} {start : ℕ} {buffer : List ℕ} {at left level before : ℕ} {out : List ℕ} (i : WaySoFar w start buffer at left level before out) (high : 0 < level) where
-  -- the level is above another
+  -- at a level above 0
   ways-here : ways left level ≡ openingWays left level ++ closingWays left (level - 1)
   ways-here = go level high
     where

@@ -16,7 +16,7 @@ ghost use Rattle.small_days.specs.Contracts.{Small, DayFits, wayBytes, W
 use gate::Written;
 
 // How many logs go on with an open, by the records left to open (the row) and the level. The first column is the number of logs. Nobody asks where both
-// together are above 8. It is lent from call to call: taken where it is asked, it would be set up anew for each record.
+// together are above 8. It is lent to each function that asks it: taken where it is asked, it would be set up anew for each record.
 const OPENING_WAYS: [[u16; 9]; 9] = [
     [0, 0, 0, 0, 0, 0, 0, 0, 0],
     [1, 1, 1, 1, 1, 1, 1, 1, 0],
@@ -29,6 +29,7 @@ const OPENING_WAYS: [[u16; 9]; 9] = [
     [429, 0, 0, 0, 0, 0, 0, 0, 0],
 ];
 
+// The table's entry, where it is asked for.
 fn opening_ways(table: &[[u16; 9]; 9], left: u16, level: u16) -> u16
     requires { ⌜ now table ≡ waysTable ⌝ }
     requires { ⌜ left + level ≤ 8 ⌝ }

@@ -2,7 +2,9 @@
 //! batches only, on which its calls must agree among themselves.
 //!
 //!     cargo run --release -p fuzz -- [--seconds N] [--seed S] [--threads T] [--rounds R]
-//!     cargo run --release -p fuzz -- --replay CALL MODE BYTES BYTES      (for small_days n, the length of a buffer and a dash)
+//!     cargo run --release -p fuzz -- --replay CALL MODE BYTES BYTES
+//!
+//! For small_days MODE is n, and the first BYTES are the length of a buffer, the low byte first; a dash stands for no bytes.
 //!
 //! Rounds go by rising seed from S on until N seconds have passed, R rounds are made or too many differences are found. A
 //! difference is printed with the words that replay it, and makes the exit status 1.
