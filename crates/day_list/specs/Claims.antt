@@ -4,9 +4,10 @@ use mathlib.Core.Logic.{_⊎_, _↔_}
 use mathlib.Core.List.{List, [], _∷_, List·Memᴰ}
 use Prim.Native.Nat.{ℕ, _*_, _≤_, _<_}
 use lib.IntN.{pos}
-use lib.ListN.{length}
+use lib.ListN.{length, take, getD}
 use Rattle.gate.specs.Outcome.{refused, result}
 use Rattle.number.specs.Bytes.{AllBytes}
+use Rattle.record.specs.Record.{closeFields}
 use Rattle.record.specs.declared.Fields.{Fields}
 use Rattle.figure.specs.FourModes.{Amounts}
 use Rattle.hill.specs.Log.{Record, openedOf}
@@ -28,12 +29,18 @@ pub record IsSmallDay (n : ℕ) (log : List ℕ) : Type 0 where
   pub opened : openedOf records ≡ n
   pub ones : AllShortOnes (formed .fields)
 
--- "Compare two record by record, an open before a close: that is the order." Up to some place they have the same records, and there the first has an
--- open, the second a close.
+-- "Compare two record by record, an open before a close: that is the order."
 abbrev pub Lexicographic : (first second : List Fields) → Type 0
 Lexicographic [] gs = ⊥
 Lexicographic (f ∷ fs) [] = ⊥
 Lexicographic (f ∷ fs) (g ∷ gs) = ((f .kind ≡ 1) × (g .kind ≡ 2)) ⊎ ((f ≡ g) × Lexicographic fs gs)
+
+-- The same by a place: before it they have the same records, at it the first has an open and the second a close (`DayLaws.by-place`).
+pub record DifferAt (place : ℕ) (first second : List Fields) : Type 0 where
+  pub inside : (place < length first) × (place < length second)
+  pub same : take place first ≡ take place second
+  pub opens : getD first place (closeFields 0) .kind ≡ 1
+  pub closes : getD second place (closeFields 0) .kind ≡ 2
 
 -- The order of two logs, by the records that are read of them.
 abbrev pub Precedes : (a b : List ℕ) → Type 0

@@ -1,11 +1,11 @@
 -- The list of small days by their bytes: just the logs that are wanted, each once, in order; there is no other such list. Assumes nothing.
-use mathlib.Core.Path.{_≡_, refl, sym, ap, subst, _∙_}
+use mathlib.Core.Path.{_≡_, refl, sym, ap, ap₂, subst, _∙_}
 use mathlib.Core.Bool.{true}
-use mathlib.Core.Logic.{inl, inr}
+use mathlib.Core.Logic.{_↔_, inl, inr}
 use mathlib.Core.List.{List, [], _∷_, map, List·Memᴰ, Memᴰ·map, Memᴰ·of-map}
-use Prim.Native.Nat.{ℕ, suc, _+_, _*_, _≤_}
+use Prim.Native.Nat.{ℕ, zero, suc, _+_, _*_, _≤_}
 use native.Mathlib.Omega.{arith}
-use lib.ListN.{length, drop, length-append, length-map}
+use lib.ListN.{length, take, drop, length-append, length-map}
 use lib.IntN.{pos}
 use borrow.Author.Tests.{le-leb}
 use Rattle.gate.specs.Outcome.{result}
@@ -14,7 +14,7 @@ use Rattle.number.specs.FieldLaws.{bytes-nil, bytes-append}
 use Rattle.record.specs.Record.{inRange, within, defaultFloor, defaultCeiling, recordsOf, shortFields, closeFields, fieldsBytes, chunkBytes}
 use Rattle.record.specs.Laws.{Shape, full, short, batched, closed, shape}
 use Rattle.record.specs.Readable.{First, first-read}
-use Rattle.record.specs.Encoding.{short-length, short-bytes, close-length, close-bytes, chunk-again, ReadsBack, short-back, close-back, AllReadBack, chunk-read}
+use Rattle.record.specs.Encoding.{short-length, short-bytes, close-length, close-bytes, chunk-again, Reread, short-back, close-back, AllReread, chunk-read}
 use Rattle.record.specs.declared.Fields.{Fields}
 use Rattle.hill.specs.Log.{openedOf, logFault}
 use Rattle.hill.specs.Sorted.{Sorted}
@@ -23,7 +23,7 @@ use Rattle.hill.specs.Levels.{MeetsAbove, log-pairs}
 use Rattle.chunk.specs.Chunk.{recordOf, chunkOf, wholeLog}
 use Rattle.chunk.specs.Laws.{log-is}
 use Rattle.day_list.specs.Days.{openOne, days, smallDays}
-use Rattle.day_list.specs.Claims.{AllShortOnes, IsSmallDay, Lexicographic, Precedes, AreSmallDays}
+use Rattle.day_list.specs.Claims.{AllShortOnes, IsSmallDay, Lexicographic, DifferAt, Precedes, AreSmallDays}
 use Rattle.day_list.specs.WayLaws.{Plain, opens, closes, AllPlain, IsDay, root-first, day-sound, day-complete, day-order}
 
 -- ---- the bytes of a small day are read back, ..
@@ -37,11 +37,11 @@ in-range : (d : ℕ) → d ≤ 63 → inRange d (pos 1) defaultFloor defaultCeil
 unfolding inRange within
 in-range d h = rw (le-leb d 63 h)
 
-plain-back : (f : Fields) → Plain f → f .depth ≤ 63 → ReadsBack f
+plain-back : (f : Fields) → Plain f → f .depth ≤ 63 → Reread f
 plain-back f (opens d) h = short-back d (pos 1) (in-range d h)
 plain-back f (closes d) h = close-back d h
 
-all-back : (fs : List Fields) → AllPlain fs → Shallow fs → AllReadBack fs
+all-back : (fs : List Fields) → AllPlain fs → Shallow fs → AllReread fs
 all-back [] p s = tt
 all-back (f ∷ fs) p s = (plain-back f (p .0) (s .0), all-back fs (p .1) (s .1))
 
@@ -102,7 +102,28 @@ is-day n b h =
     let i = h .formed in
     record { fine = ap logFault (i .records-are) ∙ i .fine; opened = ap openedOf (i .records-are) ∙ h .opened; plain = all-plain (i .fields) b (i .read) (h .ones) }
 
--- ---- the order of logs by their bytes
+-- ---- the order of logs, by a place, and by their bytes
+
+differ-next : (k : ℕ) (f g : Fields) (fs gs : List Fields) → f ≡ g → DifferAt k fs gs → DifferAt (suc k) (f ∷ fs) (g ∷ gs)
+differ-next k f g fs gs e d = record { inside = (omega (arith, d .inside .0), omega (arith, d .inside .1)); same = ap₂ (λ (x : Fields) (xs : List Fields). x ∷ xs) e (d .same); opens = d .opens; closes = d .closes }
+
+to-place : (fs gs : List Fields) → Lexicographic fs gs → (k : ℕ) × DifferAt k fs gs
+to-place [] gs l = absurd l
+to-place (f ∷ fs) [] l = absurd l
+to-place (f ∷ fs) (g ∷ gs) (inl l) = (0, record { inside = (omega arith, omega arith); same = refl; opens = l .0; closes = l .1 })
+to-place (f ∷ fs) (g ∷ gs) (inr l) = let (k, d) = to-place fs gs (l .1) in (suc k, differ-next k f g fs gs (l .0) d)
+
+from-place : (k : ℕ) (fs gs : List Fields) → DifferAt k fs gs → Lexicographic fs gs
+from-place k [] gs d = absurd (omega (arith, d .inside .0))
+from-place k (f ∷ fs) [] d = absurd (omega (arith, d .inside .1))
+from-place zero (f ∷ fs) (g ∷ gs) d = inl (d .opens, d .closes)
+from-place (suc k) (f ∷ fs) (g ∷ gs) d =
+    let e : f ≡ g = cc (d .same) in
+    let r : take k fs ≡ take k gs = cc (d .same) in
+    inr (e, from-place k fs gs (record { inside = (omega (arith, d .inside .0), omega (arith, d .inside .1)); same = r; opens = d .opens; closes = d .closes }))
+
+pub by-place : (fs gs : List Fields) → Lexicographic fs gs ↔ ((k : ℕ) × DifferAt k fs gs)
+by-place fs gs = (to-place fs gs, λ d. from-place (d .0) fs gs (d .1))
 
 lexicographic-asymmetric : (fs gs : List Fields) → Lexicographic fs gs → Lexicographic gs fs → ⊥
 lexicographic-asymmetric [] gs a b = a

@@ -15,7 +15,7 @@ use Rattle.record.specs.Record.{inRange, recordsOf, openBytes, closeBytes, full
 use Rattle.record.specs.Laws.{and-left, and-right, sound, Shape, full, short, batched, closed, shape}
 use Rattle.record.specs.RangeLaws.{range-parts}
 use Rattle.record.specs.Readable.{First, first-read}
-use Rattle.record.specs.Encoding.{open-length, close-length, open-bytes, close-bytes, chunk-again, AllReadBack, open-back, close-back, chunk-read}
+use Rattle.record.specs.Encoding.{open-length, close-length, open-bytes, close-bytes, chunk-again, AllReread, open-back, close-back, chunk-read}
 use Rattle.record.specs.declared.Fields.{Fields}
 use Rattle.figure.specs.FourModes.{Amounts}
 use Rattle.hill.specs.Log.{Record, opening, closing, opens, openedOf}
@@ -61,7 +61,7 @@ log-chunk [] = refl
 log-chunk (opening d r ∷ xs) = ap (λ (t : List ℕ). openBytes d (r .value) (r .floor) (r .ceiling) ++ t) (log-chunk xs)
 log-chunk (closing d ∷ xs) = ap (λ (t : List ℕ). closeBytes d ++ t) (log-chunk xs)
 
-all-back : (xs : List (Record Amounts)) → RecordsInRange xs → AllReadBack (allFields xs)
+all-back : (xs : List (Record Amounts)) → RecordsInRange xs → AllReread (allFields xs)
 all-back [] f = tt
 all-back (opening d r ∷ xs) f = (open-back d (r .value) (r .floor) (r .ceiling) (f .0), all-back xs (f .1))
 all-back (closing d ∷ xs) f = (close-back d (f .0), all-back xs (f .1))

@@ -178,24 +178,24 @@ chunk-again (f ∷ fs) b all e =
 
 -- ---- and if each record is read back from its bytes, whatever follows, so are all of them from theirs
 
-pub record ReadsBack (f : Fields) : Type 0 where
+pub record Reread (f : Fields) : Type 0 where
   pub long : length (fieldsBytes f) ≡ f .length
   pub reads : (r : List ℕ) → readOf (fieldsBytes f ++ r) ≡ result f
 
-pub open-back : (d : ℕ) (v l h : ℤ) → inRange d v l h ≡ true → ReadsBack (fullFields d v l h)
+pub open-back : (d : ℕ) (v l h : ℤ) → inRange d v l h ≡ true → Reread (fullFields d v l h)
 open-back d v l h ok = record { long = open-length d v l h; reads = λ r. read-open d v l h r ok }
 
-pub short-back : (d : ℕ) (v : ℤ) → inRange d v defaultFloor defaultCeiling ≡ true → ReadsBack (shortFields d v)
+pub short-back : (d : ℕ) (v : ℤ) → inRange d v defaultFloor defaultCeiling ≡ true → Reread (shortFields d v)
 short-back d v ok = record { long = short-length d v; reads = λ r. read-short-open d v r ok }
 
-pub close-back : (d : ℕ) → d ≤ 63 → ReadsBack (closeFields d)
+pub close-back : (d : ℕ) → d ≤ 63 → Reread (closeFields d)
 close-back d low = record { long = close-length d; reads = λ r. read-close d r low }
 
-abbrev pub AllReadBack : List Fields → Type 0
-AllReadBack [] = Unit {0}
-AllReadBack (f ∷ fs) = ReadsBack f × AllReadBack fs
+abbrev pub AllReread : List Fields → Type 0
+AllReread [] = Unit {0}
+AllReread (f ∷ fs) = Reread f × AllReread fs
 
-pub chunk-read : (fs : List Fields) → AllReadBack fs → recordsOf (chunkBytes fs) ≡ result fs
+pub chunk-read : (fs : List Fields) → AllReread fs → recordsOf (chunkBytes fs) ≡ result fs
 chunk-read [] h = records-nil
 chunk-read (f ∷ fs) h =
     records-next (fieldsBytes f ++ chunkBytes fs) f (h .0 .reads (chunkBytes fs))
