@@ -9,9 +9,9 @@ use native.Mathlib.Omega.{arith}
 use lib.Dec.{leb, lit≤}
 use lib.ListN.{length}
 use borrow.Author.Tests.{leb-true, le-leb, lt-leb}
-use Rattle.gate.specs.Outcome.{Outcome, refused, result, written}
+use Rattle.gate.specs.Outcome.{refused, result, written}
 use Rattle.gate.specs.Answers.{lengthAnswered}
-use Rattle.gate.specs.Laws.{not-result, yes, fits, too-short}
+use Rattle.gate.specs.Laws.{not-result, one-number, yes, fits, too-short}
 use Rattle.record.specs.Laws.{and-left, and-right}
 use Rattle.hill.specs.Row.{joined}
 use Rattle.day_list.specs.Days.{smallDays, smallDaysOutcome}
@@ -54,9 +54,6 @@ comes n cap =
     (λ a. dite (decLt 8 n) (λ h. away-14 (inr h) (outside n cap (fails n (inr h))))
     (λ b. let t = taken n cap (passes n (omega arith) (omega arith)) in
     dite (decLt cap (length (joined (smallDays n)))) (λ h. away-12 (omega arith) (omega arith) h (t ∙ too-short cap (joined (smallDays n)) h)) (λ c. all-in (omega arith) (omega arith) (omega arith) (t ∙ fits cap (joined (smallDays n)) (omega arith)))))
-
-one-number : {j k : ℕ} → _≡_ {A = Outcome (List ℕ)} (refused j) (refused k) → j ≡ k
-one-number e = cc
 
 module _ (n cap : ℕ) where
   only-14 : Comes n cap → smallDaysOutcome n cap ≡ refused 14 → (n < 1) ⊎ (8 < n)

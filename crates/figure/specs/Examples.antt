@@ -3,8 +3,7 @@ use mathlib.Core.Path.{_≡_, refl}
 use lib.IntN.{pos, negsuc, _+ℤ_}
 use Rattle.number.specs.Integer.{minZ, maxZ, clamp}
 use Rattle.figure.specs.FourModes.{Amounts, lift, lineOf, eatenOf, nothing, storeHeld, readHeld}
-use Rattle.figure.specs.Run.{EatenNumbers, eatenAlong}
-use Rattle.figure.specs.StoreLaws.{readEatenRun}
+use Rattle.figure.specs.Run.{EatenNumbers, eatenAlong, readEatenRun}
 use Rattle.figure.specs.Mode.{modeOf}
 use Rattle.figure.specs.Stored.{amounts, none, passed, levelRun, runAfter}
 use Rattle.figure.specs.declared.Held.the-variants.{Nothing, Figure}

@@ -13,11 +13,11 @@ use Rattle.algebra.specs.Sizes.{Sizes, RunSizes}
 use Rattle.number.specs.IntegerLaws.{sfits-abs}
 use Rattle.figure.specs.FourModes.{Amounts, limit, InRange, net, heaviest, eaten, stamp, storeHeld, readHeld, storeStamp, readStamp, isStamp}
 use Rattle.figure.specs.ModeLaws.{netLaws, eatenLaws, eaten-comm, heaviestLaws, heaviest-comm, stampLaws, stamp-comm}
-use Rattle.figure.specs.Run.{netRun, IsNetRun, heaviestRun, IsHeaviestRun, eatenRun, IsEatenRun, stampRun, IsStampRun}
+use Rattle.figure.specs.Run.{netRun, readNetRun, IsNetRun, heaviestRun, readHeaviestRun, IsHeaviestRun, eatenRun, readEatenRun, IsEatenRun, stampRun, readStampRun, IsStampRun}
 use Rattle.figure.specs.Runs.{netContext, heaviestContext, eatenContext, stampContext}
 use Rattle.figure.specs.RunUnique.{Pinned, netPinned, heaviestPinned, eatenPinned, stampPinned}
 use Rattle.figure.specs.Bound.{netSizes, netRunSizes, heaviestSizes, heaviestRunSizes, eatenSizes, eatenRunSizes, stampSizes, stampRunSizes}
-use Rattle.figure.specs.StoreLaws.{held-stored, is-stamp, stamp-is, held-back, held-fits, stamp-back, stamp-fits, readNetRun, readHeaviestRun, readEatenRun, readStampRun, RunFits, net-run-fits, line-back, line-run-fits, eaten-run-fits, affine-back, affine-run-fits}
+use Rattle.figure.specs.StoreLaws.{held-stored, is-stamp, stamp-is, held-back, held-fits, stamp-back, stamp-fits, RunFits, net-run-fits, line-back, line-run-fits, eaten-run-fits, affine-back, affine-run-fits}
 use Rattle.figure.specs.declared.Run.{Run}
 
 pub record Mode : Type 1 where

@@ -1,5 +1,5 @@
 -- The runs of the four modes in the words of document 01, "Plan and runs", and in mode 5 of document 02, L3: what a run's numbers do to x, how they are
--- stored, and which numbers are the run of given levels: IsNetRun .. IsStampRun, each mode's `IsRun`. That the call writes these: outcome/RunsWritten.
+-- stored and read, and which numbers are the run of given levels: IsNetRun .. IsStampRun, each mode's `IsRun`. That the call writes these: outcome/RunsWritten.
 use mathlib.Core.Path.{_≡_}
 use mathlib.Core.List.{List, [], _∷_}
 use Prim.Native.Nat.{_+_, _*_}
@@ -7,7 +7,7 @@ use lib.IntN.{ℤ, pos, _+ℤ_}
 use lib.Signed.{_≤ℤ_}
 use Rattle.algebra.specs.Run.{Level, through}
 use Rattle.number.specs.Integer.{maxZ, clamp}
-use Rattle.figure.specs.FourModes.{net, heaviest, eaten, stamp, Stamp, stampOf, storeHeld, storeStamp}
+use Rattle.figure.specs.FourModes.{net, heaviest, eaten, stamp, Stamp, stampOf, storeHeld, readHeld, storeStamp, readStamp}
 use Rattle.figure.specs.declared.Held.{Held}
 use Rattle.figure.specs.declared.Held.the-variants.{Nothing, Figure}
 use Rattle.figure.specs.declared.Run.{Run}
@@ -17,6 +17,9 @@ use Rattle.figure.specs.declared.Run.{Run}
 -- "Mode 1: (a,0,0), x + a."
 abbrev pub netRun : ℤ → Run
 netRun a = record { first = a; second = pos 0; third = pos 0; fourth = pos 0 }
+
+abbrev pub readNetRun : Run → ℤ
+readNetRun k = k .first
 
 abbrev pub IsNetRun : List (Level net) → ℤ → Type 0
 IsNetRun ls a = (x : ℤ) → x +ℤ a ≡ through net ls x
@@ -38,6 +41,9 @@ along k (Figure x) = atLeast (k .other) (x +ℤ k .add)
 abbrev pub heaviestRun : HeaviestNumbers → Run
 heaviestRun k = record { first = k .empty; second = storeHeld (k .other); third = k .add; fourth = pos 0 }
 
+abbrev pub readHeaviestRun : Run → HeaviestNumbers
+readHeaviestRun k = record { empty = k .first; other = readHeld (k .second); add = k .third }
+
 abbrev pub IsHeaviestRun : List (Level heaviest) → HeaviestNumbers → Type 0
 IsHeaviestRun ls k = (x : Held) → Figure (along k x) ≡ through heaviest ls x
 
@@ -51,6 +57,9 @@ affine k x = stampOf (k .times .num * x .num + k .plus .num)
 
 abbrev pub stampRun : Affine → Run
 stampRun k = record { first = storeStamp (k .times); second = storeStamp (k .plus); third = pos 0; fourth = pos 0 }
+
+abbrev pub readStampRun : Run → Affine
+readStampRun k = record { times = readStamp (k .first); plus = readStamp (k .second) }
 
 abbrev pub IsStampRun : List (Level stamp) → Affine → Type 0
 IsStampRun ls k = (x : Stamp) → affine k x ≡ through stamp ls x
@@ -75,6 +84,9 @@ eatenAlong k (Figure x) = between (k .some) x
 
 abbrev pub eatenRun : EatenNumbers → Run
 eatenRun k = record { first = k .empty; second = k .some .add; third = k .some .low; fourth = k .some .high }
+
+abbrev pub readEatenRun : Run → EatenNumbers
+readEatenRun k = record { empty = k .first; some = record { add = k .second; low = k .third; high = k .fourth } }
 
 -- What a figure adds to a sum: nothing held adds nothing.
 abbrev pub addend : Held → ℤ

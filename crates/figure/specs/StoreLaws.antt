@@ -14,7 +14,7 @@ use Rattle.number.specs.Integer.{maxZ}
 use Rattle.number.specs.IntegerLaws.{zed, max-law, max-comm, sfits-abs}
 use Rattle.figure.specs.FourModes.{Stamp, lift, nothing, storeHeld, readHeld, heldIf, storeStamp, readStamp, isStamp}
 use Rattle.figure.specs.ModeLaws.{stamp-≡}
-use Rattle.figure.specs.Run.{netRun, HeaviestNumbers, atLeast, heaviestRun, EatenNumbers, eatenRun, Affine, stampRun}
+use Rattle.figure.specs.Run.{netRun, HeaviestNumbers, atLeast, heaviestRun, readHeaviestRun, EatenNumbers, eatenRun, Affine, stampRun, readStampRun}
 use Rattle.figure.specs.Bound.{sizeHeld, LineIn, EatenIn}
 use Rattle.figure.specs.declared.Held.{Held}
 use Rattle.figure.specs.declared.Held.the-variants.{Nothing, Figure}
@@ -92,18 +92,6 @@ stamp-is (pos n) e = is-stamp-pos n ∙ le-leb n 4294967295 (omega (zed, e))
 stamp-is (negsuc n) e = absurd (omega (zed, e))
 
 -- ---- runs
-
-abbrev pub readNetRun : Run → ℤ
-readNetRun k = k .first
-
-abbrev pub readHeaviestRun : Run → HeaviestNumbers
-readHeaviestRun k = record { empty = k .first; other = readHeld (k .second); add = k .third }
-
-abbrev pub readEatenRun : Run → EatenNumbers
-readEatenRun k = record { empty = k .first; some = record { add = k .second; low = k .third; high = k .fourth } }
-
-abbrev pub readStampRun : Run → Affine
-readStampRun k = record { times = readStamp (k .first); plus = readStamp (k .second) }
 
 pub record RunFits (k : Run) : Type 0 where
   pub first-fits : SFits w64 (k .first)

@@ -33,6 +33,13 @@ too-short cap w h = ap (λ test. question 12 test (result w)) (lt-leb (length w)
 pub not-result : {A : Type 0} (n : ℕ) (a : A) → refused n ≡ result a → ⊥
 not-result n a e = let z : _≡_ {A = ℕ} 0 1 = cc in omega arith
 
+-- A call comes to one refusal, and to one result.
+pub one-number : {A : Type 0} {j k : ℕ} → _≡_ {A = Outcome A} (refused j) (refused k) → j ≡ k
+one-number e = cc
+
+pub result-same : {A : Type 0} {a b : A} → result a ≡ result b → a ≡ b
+result-same e = cc
+
 pub yes : {A : Type 0} (n : ℕ) (test : Bool) (rest : Outcome A) {a : A} → question n test rest ≡ result a → (test ≡ true) × (rest ≡ result a)
 yes n true rest e = (refl, e)
 yes n false rest {a} e = absurd (not-result n a e)

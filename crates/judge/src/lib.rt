@@ -72,9 +72,9 @@ pub enum Judged {
 // Grams that one record can add.
 const LIMIT: u64 = 1_000_000_000;
 
-// ---- the layout
+// ---- the layout, which a run has too
 
-fn layout_fits(b: &[u8], kind: u16, bytes: usize) -> bool
+pub fn layout_fits(b: &[u8], kind: u16, bytes: usize) -> bool
     requires { ⌜ 6 ≤ length (now b) ⌝ }
     ensures { λ r. ⌜ r ≡ layoutFits (now (b .entry)) kind bytes ⌝ }
 {

@@ -1,6 +1,6 @@
 -- The calls on a row of summaries of one mode: what their questions find. Assumes nothing.
 use mathlib.Core.Path.{_≡_, refl, sym, ap, subst, _∙_}
-use mathlib.Core.Bool.{Bool, true, false, cond}
+use mathlib.Core.Bool.{true, false}
 use mathlib.Core.List.{List, [], _∷_, map}
 use Prim.Native.Nat.{ℕ, _≤_, _<_}
 use native.Mathlib.Omega.{arith}
@@ -17,7 +17,7 @@ use Rattle.summary.specs.Judge.{IsSummary, isBlank, isSpoilt, isHill}
 use Rattle.summary.specs.Decode.{decode}
 use Rattle.summary.specs.DecideLaws.{decide-summary}
 use Rattle.summary.specs.Accepted.{IsSummaryIn, encoded, decode-encode}
-use Rattle.outcome.specs.Outcomes.{twoTo64, allSummaries, allOf, firstMode, modeOfAll, Summaries, askRow, askLog, mergedBytes, planBytes, hasFourth, runLength, runsBytes, workAlong, mergeRowOutcome, planOutcome, runsOutcome, workOutcome}
+use Rattle.outcome.specs.Outcomes.{twoTo64, allSummaries, allOf, firstMode, modeOfAll, Summaries, askRow, askLog, mergedBytes, planBytes, runsBytes, workAlong, mergeRowOutcome, planOutcome, runsOutcome, workOutcome}
 
 -- ---- one question after another
 
@@ -51,33 +51,6 @@ too-many ps a = rw (le-leb 2 (length ps) (omega arith), lt-leb (length ps) 64 a)
 pub too-few : (ps : List (List ℕ)) → length ps < 2 → twoTo64 ps ≡ false
 unfolding twoTo64
 too-few ps a = rw (lt-leb 2 (length ps) a)
-
--- ---- how many bytes a run has
-
-module _ (m : ℕ) where
-  pub length-four : hasFourth m ≡ true → runLength m ≡ 38
-  unfolding runLength
-  length-four e = rw e
-
-  pub length-three : hasFourth m ≡ false → runLength m ≡ 30
-  unfolding runLength
-  length-three e = rw e
-
-  pub length-least : 30 ≤ runLength m
-  unfolding runLength
-  length-least = go (hasFourth m)
-    where
-      go : (t : Bool) → 30 ≤ cond t 38 30
-      go true = omega arith
-      go false = omega arith
-
-  pub length-most : runLength m ≤ 38
-  unfolding runLength
-  length-most = go (hasFourth m)
-    where
-      go : (t : Bool) → cond t 38 30 ≤ 38
-      go true = omega arith
-      go false = omega arith
 
 -- ---- summaries of mode m
 

@@ -1,4 +1,4 @@
--- How large the figures of the work along a plan get: what all the opened records of the row can make bounds each outcome, and 131 times that each
+-- How large the figures of the work along a plan get: what all the opened records of the row can make bounds each outcome, and 130 times that each
 -- figure on the way. Assumes nothing.
 use mathlib.Core.Path.{_≡_, refl, sym, ap, _∙_, subst}
 use mathlib.Core.Bool.{Bool, true, false, _&&_, cond}
@@ -61,7 +61,7 @@ module _ {R : Type 0} (𝒜 : Algebra R) {Fine : R → Type 0} (𝒮 : Sizes �
     pub outs : AllLight (load row) ds
     pub x-light : size (given 𝒜 row e ds) ≤ 129 * load row
     pub sound : AllSound Fine (runLevels 𝒜 row e)
-    pub run-light : size (given 𝒜 row e ds) + costs 𝒮 (runLevels 𝒜 row e) ≤ 131 * load row
+    pub run-light : size (given 𝒜 row e ds) + costs 𝒮 (runLevels 𝒜 row e) ≤ 130 * load row
     pub out-light : size (work 𝒜 row e ds .out) ≤ load row
 
   -- ---- outcomes
@@ -154,6 +154,12 @@ module _ {R : Type 0} (𝒜 : Algebra R) {Fine : R → Type 0} (𝒮 : Sizes �
   weights-take (suc k) [] = omega arith
   weights-take (suc k) (s ∷ row) = omega (arith, weights-take k row)
 
+  weights-mono : (a b : ℕ) (row : List (Summary Fig R)) → a ≤ b → weights (take a row) ≤ weights (take b row)
+  weights-mono zero b row h = omega arith
+  weights-mono (suc a) zero row h = absurd (omega arith)
+  weights-mono (suc a) (suc b) [] h = omega arith
+  weights-mono (suc a) (suc b) (s ∷ row) h = omega (arith, weights-mono a b row (omega arith))
+
   weights-drop : (k : ℕ) (row : List (Summary Fig R)) → weights (drop k row) ≤ weights row
   weights-drop zero row = omega arith
   weights-drop (suc k) [] = omega arith
@@ -192,15 +198,16 @@ module _ {R : Type 0} (𝒜 : Algebra R) {Fine : R → Type 0} (𝒮 : Sizes �
     middles-light i j l =
         omega (arith, middles-weight l (strictlyBetween 𝒜 row i j), weights-drop (suc i) (take j row), weights-take j row, weights-load row v)
 
-    -- The levels of a line.
-    pub levels-light : (e : Line) → Spans 𝒜 row e → costs 𝒮 (runLevels 𝒜 row e) ≤ 2 * load row
+    -- The levels of a line: its two hills are different ones, so they add no more than all that the row opened.
+    pub levels-light : (e : Line) → Spans 𝒜 row e → costs 𝒮 (runLevels 𝒜 row e) ≤ load row
     unfolding runLevels
     levels-light e s =
         omega (
           arith,
           costs-light (peakOfSummary 𝒜 (summaryAt 𝒜 row (e .i))) (slopesOf 𝒜 (summaryAt 𝒜 row (e .i))) (peakOfSummary 𝒜 (summaryAt 𝒜 row (e .j))) (slopesOf 𝒜 (summaryAt 𝒜 row (e .j)))
               (e .lowest) (suc (e .highest) - e .lowest) (s .close-from) (omega (arith, s .open-to, s .some)),
-          hill-light (e .i),
+          weights-next (e .i) row,
+          weights-mono (suc (e .i)) (e .j) row (s .before),
           hill-light (e .j),
         )
 
@@ -280,7 +287,7 @@ module _ {R : Type 0} (𝒜 : Algebra R) {Fine : R → Type 0} (𝒮 : Sizes �
         ok-light n (d ∷ ds) o = (rw (o .3) (got-light (d .line .j) (d .line .lowest) (o .2)), ok-light n ds (o .4))
 
       module _ (comm : Commutative 𝒜) (passes : rowFault row ≡ pass) where
-        -- With a unit of at most 10^9, 131 times the load fits 64 bits many times over.
+        -- With a unit of at most 10^9, 130 times the load fits 64 bits many times over.
         pub load-fits : unit ≤ 1000000000 → load row ≤ 100000000000000
         load-fits u = mul-le-mul {n₁ = unit} {m₁ = totalOpened (partsOf row)} {n₂ = 1000000000} {m₂ = 100000} u (parts-few (partsOf row) passes)
 

@@ -72,8 +72,8 @@ module _ {row : List ℕ} {count m : ℕ} {ats starts peaks is js lows highs : L
       let q : summaryAt (modeOf m .algebra) (rowIn m row) (e .j) ≡ decode m (pieceOf row (e .j)) = decoded-at m (rowPieces row) (e .j) (v .within) in
       ap₂ (λ (s t : SummaryIn m). levelsDown (modeOf m .algebra) (peakOfSummary (modeOf m .algebra) s) (slopesOf (modeOf m .algebra) s) (peakOfSummary (modeOf m .algebra) t) (slopesOf (modeOf m .algebra) t) (e .lowest) (suc (e .highest) - e .lowest)) p q
 
-  -- They add at most 2 * 10^14.
-  pub line-costs : costs (modeOf m .sizes) (runLevels (modeOf m .algebra) (rowIn m row) e) ≤ 200_000_000_000_000
+  -- They add at most 10^14.
+  pub line-costs : costs (modeOf m .sizes) (runLevels (modeOf m .algebra) (rowIn m row) e) ≤ 100_000_000_000_000
   line-costs =
       let 𝒜 = modeOf m .algebra in
       let 𝒮 = modeOf m .sizes in

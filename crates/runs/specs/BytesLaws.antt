@@ -3,9 +3,8 @@ use mathlib.Core.Path.{_≡_, refl, sym, ap, ap₂, _∙_}
 use mathlib.Core.Bool.{Bool, true, false, cond}
 use mathlib.Core.List.{List, [], _∷_, _++_, map, append-assoc, append-nil}
 use Prim.Native.Nat.{ℕ, suc, _+_, _*_, _≤_, _<_}
-use native.Mathlib.Nat.{mul-le-mul, mul-zero, mul-suc, add-comm}
+use native.Mathlib.Nat.{mul-le-mul}
 use native.Mathlib.Omega.{arith}
-use lib.ListN.{length, length-append}
 use lib.Seq.{sets}
 use lib.IntN.{ℤ}
 use mir.Syntax.{w64}
@@ -16,7 +15,7 @@ use Rattle.figure.specs.Mode.{modeOf}
 use Rattle.figure.specs.declared.Run.{Run}
 use Rattle.summary.specs.Layout.{i64Bytes}
 use Rattle.outcome.specs.Outcomes.{hasFourth, runLength, runFront, runBytes, eachRun}
-use Rattle.outcome.specs.Laws.{length-most}
+use Rattle.outcome.specs.RunLaws.{length-most, length-front}
 use Rattle.row_plan.specs.WroteLaws.{put-next}
 
 -- the six stores of a run
@@ -36,10 +35,6 @@ run-stored l at w m x y z =
 pub front-written : (o a b c d e f : List ℕ) (at w m : ℕ) (k : Run) (x y z : ℤ) → w ≡ runLength m → a ≡ putAt 2 o at w → b ≡ putAt 2 a (at + 2) 20 → c ≡ putAt 2 b (at + 4) m →
     d ≡ putAt 8 c (at + 6) (ofZ w64 x) → e ≡ putAt 8 d (at + 14) (ofZ w64 y) → f ≡ putAt 8 e (at + 22) (ofZ w64 z) → x ≡ k .first → y ≡ k .second → z ≡ k .third → f ≡ sets o at (runFront m k)
 front-written o a b c d e f at w m k x y z j p q r s t u g h i = rw (u, t, s, r, q, p, g, h, i, j) (run-stored o at (runLength m) m (ofZ w64 (k .first)) (ofZ w64 (k .second)) (ofZ w64 (k .third)))
-
-length-front : (m : ℕ) (k : Run) → length (runFront m k) ≡ 30
-unfolding bytesOf
-length-front m k = refl
 
 -- with a fourth number, or without
 pub fourth-written : (o a b : List ℕ) (at m : ℕ) (k : Run) (x : ℤ) → hasFourth m ≡ true → a ≡ sets o at (runFront m k) → b ≡ putAt 8 a (at + 30) (ofZ w64 x) → x ≡ k .fourth → b ≡ sets o at (runBytes m k)
@@ -66,21 +61,6 @@ room-for s k n l m e h r = rw e (omega (arith, one-more (runLength m) k n h))
 
 pub few-bytes : (s n m : ℕ) → s ≡ runLength m → n ≤ 128 → s * n ≤ 4864
 few-bytes s n m e h = rw e (mul-le-mul {n₁ = runLength m} {m₁ = n} {n₂ = 38} {m₂ = 128} (length-most m) h)
-
-length-run : (m : ℕ) (k : Run) → length (runBytes m k) ≡ runLength m
-unfolding runBytes runLength bytesOf
-length-run m k = length-append (runFront m k) (cond (hasFourth m) (i64Bytes (k .fourth)) []) ∙ ap (λ (n : ℕ). n + length (cond (hasFourth m) (i64Bytes (k .fourth)) [])) (length-front m k) ∙ go (hasFourth m)
-  where
-    go : (t : Bool) → 30 + length (cond t (i64Bytes (k .fourth)) []) ≡ cond t 38 30
-    go true = refl
-    go false = refl
-
--- as many bytes a run
-pub length-each : (m : ℕ) (ks : List (modeOf m .context .K)) → length (eachRun m ks) ≡ runLength m * length ks
-length-each m [] = sym (mul-zero (runLength m))
-length-each m (k ∷ ks) =
-    length-append (runBytes m (modeOf m .storeRun k)) (eachRun m ks) ∙ ap₂ _+_ (length-run m (modeOf m .storeRun k)) (length-each m ks)
-    ∙ add-comm (runLength m) (runLength m * length ks) ∙ sym (mul-suc (runLength m) (length ks))
 
 pub each-append : (m : ℕ) (a b : List (modeOf m .context .K)) → eachRun m (a ++ b) ≡ eachRun m a ++ eachRun m b
 each-append m [] b = refl

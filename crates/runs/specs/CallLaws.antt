@@ -19,7 +19,7 @@ use Rattle.plan_work.specs.Runs.{runsOf}
 use Rattle.plan_work.specs.RunsExact.{runs-count}
 use Rattle.plan_work.specs.Gate.{rowFault}
 use Rattle.outcome.specs.Outcomes.{Summaries, firstMode, askRow, askLog, runLength, runsBytes, runsOutcome}
-use Rattle.outcome.specs.Laws.{length-most}
+use Rattle.outcome.specs.RunLaws.{length-most, length-each}
 use Rattle.outcome.specs.Through.{valid-row, Found, ask-found, lines-125}
 use Rattle.row_plan.specs.Arrays.{levelsIn, linesIn, Kept}
 use Rattle.row_plan.specs.RowLaws.{plan-is}
@@ -31,7 +31,6 @@ use Rattle.run_level.specs.Levels.{Begun}
 use Rattle.run_level.specs.Along.{rowIn}
 use Rattle.run_level.specs.AlongLaws.{plan-count, along}
 use Rattle.runs.specs.Runs.{Lines, linesRuns}
-use Rattle.runs.specs.BytesLaws.{length-each}
 
 -- ---- the lines of a row that is let through
 

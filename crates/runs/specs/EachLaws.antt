@@ -16,13 +16,14 @@ use Rattle.summary.specs.Layout.{SummaryIn}
 use Rattle.join_plan.specs.Plan.{Line}
 use Rattle.plan_work.specs.Runs.{runOf, runLevels, runsAlong}
 use Rattle.outcome.specs.Outcomes.{runLength, runBytes, eachRun}
+use Rattle.outcome.specs.RunLaws.{length-each}
 use Rattle.row_plan.specs.Arrays.{lineIn, linesIn}
 use Rattle.run_level.specs.declared.Place.{Place}
 use Rattle.run_level.specs.Levels.{placeIn}
 use Rattle.run_level.specs.Along.{rowIn}
 use Rattle.run_level.specs.AlongLaws.{line-levels-of, line-reads-at, line-is, line-costs}
 use Rattle.runs.specs.Runs.{most, LineAt, LineReads, lineLevels, RunIs, LineRun, linesRuns}
-use Rattle.runs.specs.BytesLaws.{length-each, each-append, each-one}
+use Rattle.runs.specs.BytesLaws.{each-append, each-one}
 
 -- ---- one line
 
@@ -48,7 +49,7 @@ module _ {row : List ℕ} {m : ℕ} {ats starts peaks is js lows highs : List �
           reads = line-reads-at a k (v .inside);
           opener-mode = l .opener-mode;
           closer-mode = l .closer-mode;
-          light = subst (λ (ls : List (Level (modeOf m .algebra))). costs (modeOf m .sizes) ls ≤ 200_000_000_000_000) (line-is a k (v .inside)) (line-costs a k (v .inside));
+          light = subst (λ (ls : List (Level (modeOf m .algebra))). costs (modeOf m .sizes) ls ≤ 100_000_000_000_000) (line-is a k (v .inside)) (line-costs a k (v .inside));
         }
 
     pub line-answers : (r : Run) → RunIs m (lineLevels row m o c (here .lowest) (here .highest)) r → LineRun row m here r

@@ -16,9 +16,9 @@ use Rattle.run_level.specs.declared.RunLevel.{RunLevel}
 use Rattle.run_level.specs.Levels.{pieceOf, Reads, levelAt, levelFor}
 use Rattle.run_level.specs.Along.{rowIn, Along, levelsOf}
 
--- What the levels of a line can add up to: two pieces open at most 100,000 records each, of at most 10^9.
+-- What the levels of a line can add up to: a row opens at most 100,000 records, of at most 10^9.
 unfoldable pub most : ℕ
-most = 200_000_000_000_000
+most = 100_000_000_000_000
 
 -- The run of one level, as it is stored.
 abbrev pub levelRunOf : (m : ℕ) → RunLevel → Run

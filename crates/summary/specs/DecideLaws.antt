@@ -15,7 +15,7 @@ use Rattle.summary.specs.Decide.{allTo, layoutFits, spoiltFits, levelsFi
 use Rattle.summary.specs.Tests.{Tells, tells-le, tells-eq, tells-true, tells-and, tells-or, tells-where, tells-unless, tells-not, tells-same, tells-all, tells-also, false-true}
 
 module _ (b : List ℕ) where
-  tells-layout : (kind bytes : ℕ) → Tells (HasLayout b kind bytes) (layoutFits b kind bytes)
+  pub tells-layout : (kind bytes : ℕ) → Tells (HasLayout b kind bytes) (layoutFits b kind bytes)
   unfolding layoutFits
   tells-layout kind bytes =
       tells-also (λ p. record { kind-fits = p .0 .0 .0; length-fits = p .0 .0 .1; length-said = p .0 .1; mode-fits = p .1 })

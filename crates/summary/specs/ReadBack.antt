@@ -74,14 +74,15 @@ grams-back z x h =
     let f : SFits w32 z = sfits-abs w32 z (omega arith) in
     rw (field-here 4 (ofZ w32 z) x (fits-ofZ f .fits)) (toZ-ofZ f)
 
+pub number-back : (z : ℤ) (x : List ℕ) → SFits w64 z → toZ w64 (leAt 8 (i64Bytes z ++ x) 0) ≡ z
+number-back z x f = rw (field-here 8 (ofZ w64 z) x (fits-ofZ f .fits)) (toZ-ofZ f)
+
 module _ (M : Mode) where
   abbrev pub Small : M .algebra .Fig → Type 0
   Small v = M .sizes .size v < 2 ^ 63
 
   pub figure-back : (v : M .algebra .Fig) (x : List ℕ) → Small v → toZ w64 (leAt 8 (i64Bytes (M .store v) ++ x) 0) ≡ M .store v
-  figure-back v x h =
-      let f : SFits w64 (M .store v) = M .store-fits v h in
-      rw (field-here 8 (ofZ w64 (M .store v)) x (fits-ofZ f .fits)) (toZ-ofZ f)
+  figure-back v x h = number-back (M .store v) x (M .store-fits v h)
 
   pub stored : (v : M .algebra .Fig) → Small v → IsStored M (M .store v)
   unfolding IsStored

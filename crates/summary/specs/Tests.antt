@@ -33,16 +33,20 @@ pub tells-true : (t : Bool) → Tells (t ≡ true) t
 tells-true t = record { to = λ e. e; from = λ e. e }
 
 module _ {P Q : Type 0} where
-  pub tells-and : {s t : Bool} → Tells P s → Tells Q t → Tells (P × Q) (s && t)
-  tells-and {s} {t} p q = record { to = to s t (p .to) (q .to); from = from s t (p .from) (q .from) }
+  -- Q is asked only where P holds
+  pub tells-then : {s t : Bool} → Tells P s → (P → Tells Q t) → Tells (P × Q) (s && t)
+  tells-then {s} {t} p q = record { to = to s t (p .to) (λ x. q x .to); from = from s t (p .from) (λ x. q x .from) }
     where
-      to : (s t : Bool) → (P → s ≡ true) → (Q → t ≡ true) → P × Q → s && t ≡ true
-      to true t f g x = g (x .1)
+      to : (s t : Bool) → (P → s ≡ true) → (P → Q → t ≡ true) → P × Q → s && t ≡ true
+      to true t f g x = g (x .0) (x .1)
       to false t f g x = f (x .0)
 
-      from : (s t : Bool) → (s ≡ true → P) → (t ≡ true → Q) → s && t ≡ true → P × Q
-      from true t f g e = (f refl, g e)
+      from : (s t : Bool) → (s ≡ true → P) → (P → t ≡ true → Q) → s && t ≡ true → P × Q
+      from true t f g e = (f refl, g (f refl) e)
       from false t f g e = false-true e
+
+  pub tells-and : {s t : Bool} → Tells P s → Tells Q t → Tells (P × Q) (s && t)
+  tells-and p q = tells-then p (λ _. q)
 
   pub tells-or : {s t : Bool} → Tells P s → Tells Q t → Tells (P ⊎ Q) (s || t)
   tells-or {s} {t} p q = record { to = to s t (p .to) (q .to); from = from s t (p .from) (q .from) }

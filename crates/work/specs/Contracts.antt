@@ -24,12 +24,12 @@ use Rattle.run_level.specs.Along.{rowIn, Ready, levelsOf}
 use Rattle.work.specs.declared.given.Join.{Join}
 use Rattle.work.specs.Stores.{Stores}
 
--- What an outcome weighs at most, 10^9 for each of 100,000 opened records; and an x with all that its levels add: 131 times that.
+-- What an outcome weighs at most, 10^9 for each of 100,000 opened records; and an x with all that its levels add: 130 times that.
 abbrev pub outcomeMost : ℕ
 outcomeMost = 100_000_000_000_000
 
 abbrev pub most : ℕ
-most = 13_100_000_000_000_000
+most = 13_000_000_000_000_000
 
 -- ---- one line's run
 

@@ -1,7 +1,7 @@
 -- `outcome::run_length` meets its contract: by the mode. Assumes nothing.
 use mathlib.Core.Path.{_∙_, sym}
 use borrow.Author.Needs.{needs}
-use Rattle.outcome.specs.Laws.{length-four, length-three}
+use Rattle.outcome.specs.RunLaws.{length-four, length-three}
 use Rattle.outcome.proofs.run_length.Statement.{statement}
 use Rattle.outcome.proofs.run_length.Tie as tie
 

@@ -4,7 +4,7 @@ use native.Mathlib.Omega.{arith}
 use mir.Syntax.{w64}
 use denote.Ref.{now}
 use Rattle.number.specs.Word.{back}
-use Rattle.outcome.specs.Laws.{length-most}
+use Rattle.outcome.specs.RunLaws.{length-most}
 use Rattle.runs.specs.BytesLaws.{front-written}
 use borrow.Author.Needs.{needs}
 use Rattle.runs.proofs.bytes.write_front.Statement.{statement}

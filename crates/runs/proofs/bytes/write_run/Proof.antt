@@ -7,7 +7,7 @@ use lib.Seq.{length-sets}
 use mir.Syntax.{w64}
 use denote.Ref.{now}
 use Rattle.number.specs.Word.{back}
-use Rattle.outcome.specs.Laws.{length-four, length-least}
+use Rattle.outcome.specs.RunLaws.{length-four, length-least}
 use Rattle.runs.specs.BytesLaws.{fourth-written, no-fourth}
 use borrow.Author.Needs.{needs}
 use Rattle.runs.proofs.bytes.write_run.Statement.{statement}
