@@ -10,6 +10,7 @@ ROOT = pathlib.Path(__file__).resolve().parent.parent
 D = (ROOT / "samples" / "d.log").read_bytes()
 GRAMS = 10**9
 NOTHING = -(2**63)
+FAR = 10**14
 
 
 def opening(depth, value, floor=-GRAMS, ceiling=GRAMS):
@@ -51,8 +52,8 @@ def hill(mode, start, peak, end, opened, left, middle, right=()):
 
 
 def call(name, data, number=0, room=200):
-    """A request: the call, its bytes, its number (a mode, where the right piece
-    begins, or an n) and how long its buffer is."""
+    """A request: the call, its bytes, its number (a mode, where the right piece or
+    an outer figure begins, or an n) and how long its buffer is."""
     return f"{name} {number} {room} {data.hex() or '-'}"
 
 
@@ -74,6 +75,15 @@ def read_table(log, room=200):
 
 def small_days(n, room=200):
     return call("small_days::small_days", b"", n, room)
+
+
+def run(mode, *numbers):
+    return struct.pack(f"<HHH{len(numbers)}q", 6 + 8 * len(numbers), 20, mode, *numbers)
+
+
+def backwards(bytes_of_run, y=0, name="backwards::backwards"):
+    """A run, and the outer figure behind it."""
+    return call(name, bytes_of_run + struct.pack("<q", y), len(bytes_of_run))
 
 
 def halves(mode, floor=0):
@@ -117,6 +127,43 @@ D_LINES = [line(0, 10, 0, 100), line(1, 5, 0, 4), line(1, -3, 0, 100)]
 
 # What tells each edit from the program.
 INPUTS = {
+    "backwards/a_forgotten": backwards(run(1, 12, 0, 0), 13),
+    "backwards/a_less_y": backwards(run(1, 12, 0, 0), 13),
+    "backwards/a_unasked": backwards(run(1, FAR + 1, 0, 0)),
+    "backwards/always_31": backwards(run(4, 961, 72, 0), 1033),
+    "backwards/even_taken": backwards(run(4, 30, 0, 0)),
+    "backwards/farthest_refused": backwards(run(1, FAR, 0, 0)),
+    "backwards/five_bytes": backwards(run(1, 12, 0, 0)[:5]),
+    "backwards/fourth_is_third": backwards(run(5, 12, 12, 7, 6)),
+    "backwards/from_0": backwards(run(4, 31, 10, 0), 11),
+    "backwards/h_unasked": backwards(run(5, 12, 12, 7, FAR + 1)),
+    "backwards/half_the_bits": backwards(run(4, 31, 10, 0), 11),
+    "backwards/kind_of_line": backwards(run(1, 12, 0, 0), 13),
+    "backwards/l_above_h": backwards(run(5, 12, 12, 7, 6)),
+    "backwards/l_is_h_refused": backwards(run(5, 12, 12, 7, 7)),
+    "backwards/last_step_of_31": backwards(run(4, 961, 72, 0), 1033),
+    "backwards/length_of_net": backwards(run(5, 12, 12, 7, 11)),
+    "backwards/m_unasked": backwards(run(4, 2**32 + 31, 0, 0)),
+    "backwards/net_in_mode_0": backwards(run(1, 12, 0, 0), 13),
+    "backwards/net_unasked": backwards(run(1, 12, 0, 0), FAR + 1),
+    "backwards/no_run_is_16": backwards(run(2, FAR + 1, 7, 15)),
+    "backwards/no_way_is_17": backwards(run(2, 15, 7, 15)),
+    "backwards/nothing_is_0": backwards(run(2, 10, NOTHING, 10)),
+    "backwards/odd_q": backwards(run(4, 30, 1, 0)),
+    "backwards/odd_refused": backwards(run(4, 31, 10, 0), 11),
+    "backwards/one_beyond": backwards(run(1, FAR + 1, 0, 0)),
+    "backwards/other_unasked": backwards(run(2, 15, FAR + 1, 15)),
+    "backwards/q_less_y": backwards(run(4, 31, 10, 0), 11),
+    "backwards/q_unasked": backwards(run(4, 31, 2**32, 0)),
+    "backwards/stamp_in_mode_3": backwards(run(4, 31, 10, 0), 11),
+    "backwards/stamp_unasked": backwards(run(4, 31, 10, 0), -1),
+    "backwards/step_from_1": backwards(run(4, 31, 10, 0), 11),
+    "backwards/step_without_m": backwards(run(4, 31, 10, 0), 11),
+    "backwards/third_unasked": backwards(run(1, 12, 0, 1)),
+    "backwards/third_unread": backwards(run(1, 12, 0, 1)),
+    "backwards/unused_above_0": backwards(run(1, 12, 1, 0)),
+    "backwards/unused_below_0": backwards(run(1, 12, -1, 0)),
+    "backwards/y_forgotten": backwards(run(1, 12, 0, 0), 13),
     "codec/deeper_dropped": merge(HEAD, TAIL),
     "codec/held_over_ceiling": merge(hill(1, 0, 0, 1, 2, [], 0, [(10, 0, 100, 5)]), SHUT),
     "codec/middle_left_out": merge(HEAD, hill(1, 2, 1, 1, 1, [0], 7)),
@@ -296,11 +343,15 @@ INPUTS = {
     "text/leading_zero": call("day_line::text", NINE),
     "text/minus_sign": call("day_line::text", NEGATIVE),
     "text/zero_digit": call("day_line::text", D),
+    "tulghimo/backwards_from_0": backwards(run(1, 12, 0, 0), 13, "tulghimo::tulghimo_backwards"),
+    "tulghimo/backwards_refused": backwards(run(1, 12, 0, 0), 13, "tulghimo::tulghimo_backwards"),
     "tulghimo/day_always_10": call("tulghimo::tulghimo_day", D[:71]),
     "tulghimo/day_of_a_part": call("tulghimo::tulghimo_day", D),
     "tulghimo/day_stamp_for_eaten": call("tulghimo::tulghimo_day", D),
-    "tulghimo/finish_always_5": call("tulghimo::tulghimo_finish", blank(1)),
-    "tulghimo/finish_zero": call("tulghimo::tulghimo_finish", WHOLE),
+    "tulghimo/figure_always_5": call("tulghimo::tulghimo_finish", blank(1)),
+    "tulghimo/figure_zero": call("tulghimo::tulghimo_finish", WHOLE),
+    "tulghimo/finish_always_12": call("tulghimo::tulghimo_finish", blank(1)),
+    "tulghimo/finish_refused": call("tulghimo::tulghimo_finish", WHOLE),
     "tulghimo/merge_left_twice": call("tulghimo::tulghimo_merge", HEAD + TAIL, len(HEAD)),
     "tulghimo/merge_row_always_6": call("tulghimo::tulghimo_merge_row", HEAD + TAIL),
     "tulghimo/merge_row_refused": call("tulghimo::tulghimo_merge_row", HEAD + TAIL),

@@ -30,6 +30,7 @@ from attack_inputs import INPUTS
 # ---- the program that is run: how each call is made, and in which crate it stands
 
 WRITTEN = "written({}, &out)"
+RUN_AND_Y = "&input[..number], y(&input[number..])"
 ARMS = {
     "record::read_first": """match record::read_first(&input) {
             record::Read::Record(f) => format!("{} {} {} {} {} {} {}", f.kind, f.length, f.depth, f.value, f.floor, f.ceiling, f.batch),
@@ -38,10 +39,7 @@ ARMS = {
     "summarise::summarise": WRITTEN.format("summarise::summarise(&input, number as u32, &mut out)"),
     "merge::merge": WRITTEN.format("merge::merge(&input[..number], &input[number..], &mut out)"),
     "merge_row::merge_row": WRITTEN.format("merge_row::merge_row(&input, &mut out)"),
-    "finish::finish": """match finish::finish(&input) {
-            gate::Finished::Figure(z) => format!("{z}"),
-            gate::Finished::Refused(n) => format!("refused {n}"),
-        }""",
+    "finish::finish": "finished(finish::finish(&input))",
     "plan::plan": WRITTEN.format("plan::plan(&input, &mut out)"),
     "runs::runs": WRITTEN.format("runs::runs(&input, &mut out)"),
     "work::work": """match work::work(&input) {
@@ -55,6 +53,7 @@ ARMS = {
     "table::write_log": WRITTEN.format("table::write_log(&input, &mut out)"),
     "table::read_table": WRITTEN.format("table::read_table(&input, &mut out)"),
     "small_days::small_days": WRITTEN.format("small_days::small_days(number as u32, &mut out)"),
+    "backwards::backwards": f"finished(backwards::backwards({RUN_AND_Y}))",
     "day::figures": """match day::figures(&input) {
             day::Day::Figures(f) => format!("{} {} {} {}", f.net, f.heaviest, f.eaten, f.stamp),
             day::Day::Refused(n) => format!("refused {n}"),
@@ -66,21 +65,27 @@ ARMS = {
             format!("{n} {:?}; {}", String::from_utf8_lossy(&line[..n.min(128)]), after(&line))
         }""",
 }
-# The C functions: those that write bytes, and those that store numbers, with how many.
+# The C functions: those that write bytes, and those that store numbers, with how many; each with what it is given.
 LENGTHS = {"summarise": "&input, number as u32", "merge": "&input[..number], &input[number..]",
            "merge_row": "&input", "plan": "&input", "runs": "&input", "write_log": "&input", "read_table": "&input",
            "small_days": "number as u32"}
-NUMBERS = {"read_record": 7, "finish": 1, "work": 3, "day": 4}
+NUMBERS = {"read_record": ("&input", 7), "finish": ("&input", 1), "work": ("&input", 3), "day": ("&input", 4),
+           "backwards": (RUN_AND_Y, 1)}
 ARMS |= {f"tulghimo::tulghimo_{name}": f"""answered(tulghimo::tulghimo_{name}({lent}, &mut out), &out)"""
          for name, lent in LENGTHS.items()}
 ARMS |= {f"tulghimo::tulghimo_{name}": f"""{{
             let mut numbers: [i64; {count}] = std::array::from_fn(|i| -7 - i as i64);
-            format!("{{}} {{numbers:?}}", tulghimo::tulghimo_{name}(&input, &mut numbers))
-        }}""" for name, count in NUMBERS.items()}
+            format!("{{}} {{numbers:?}}", tulghimo::tulghimo_{name}({lent}, &mut numbers))
+        }}""" for name, (lent, count) in NUMBERS.items()}
 
 MAIN = """
 fn bytes(hex: &str) -> Vec<u8> {
     (0..hex.len() / 2).map(|i| u8::from_str_radix(&hex[2 * i..2 * i + 2], 16).unwrap()).collect()
+}
+
+/// An outer figure, which stands behind the run that it is asked about.
+fn y(bytes: &[u8]) -> i64 {
+    i64::from_le_bytes(bytes.try_into().unwrap())
 }
 
 /// What a lent buffer holds before the call.
@@ -99,6 +104,13 @@ fn written(answer: gate::Written, out: &[u8]) -> String {
     match answer {
         gate::Written::Bytes(n) => answered(n as i64, out),
         gate::Written::Refused(n) => format!("refused {n}; {}", after(out)),
+    }
+}
+
+fn finished(answer: gate::Finished) -> String {
+    match answer {
+        gate::Finished::Figure(z) => format!("{z}"),
+        gate::Finished::Refused(n) => format!("refused {n}"),
     }
 }
 
@@ -142,7 +154,7 @@ def plain(text):
     text = re.sub(r"^ghost use [^;]*;\n", "", text, flags=re.M)
     text = re.sub(r"\n\s+(requires|ensures)\b[^{]*\{[^⌝]*⌝ \}", "", text)
     text = re.sub(r"^(pub )?(struct|enum) ", r"#[derive(Clone, Copy)]\n\1\2 ", text, flags=re.M)
-    return text.replace("std::num::wrapping_add_u32(", "u32::wrapping_add(")
+    return re.sub(r"std::num::(wrapping_\w+)_u32\(", r"u32::\1(", text)
 
 
 def function(text, name):

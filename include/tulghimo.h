@@ -46,7 +46,11 @@ enum tulghimo_refusal {
     TULGHIMO_REFUSED_BUFFER_TOO_SHORT = 12, /* the result does not fit the lent buffer */
     TULGHIMO_REFUSED_NOT_NESTED = 13,       /* a table's depths are not those of a log: the first is not 0, a later one is 0, or one
                                                is more than one above the line before it */
-    TULGHIMO_REFUSED_OPENED_COUNT = 14      /* the number of opened records asked for is not 1 to 8 */
+    TULGHIMO_REFUSED_OPENED_COUNT = 14,     /* the number of opened records asked for is not 1 to 8 */
+    TULGHIMO_REFUSED_NOT_A_RUN = 15,        /* the bytes are not exactly one run of a mode in use */
+    TULGHIMO_REFUSED_NO_WAY_BACK = 16,      /* the run is of mode 2 or 5, where there is no way back */
+    TULGHIMO_REFUSED_OUTER_FIGURE = 17      /* the outer figure is out of the range of the run's mode: -10^14 to 10^14 in mode 1, 0
+                                               to 2^32 - 1 in mode 4 */
 };
 
 /* Lengths in bytes. A buffer of the longest is never too short; the longest chunk and the longest table taken are lengths of
@@ -121,6 +125,15 @@ int64_t tulghimo_read_table(const uint8_t *log, size_t n, uint8_t *out, size_t c
  * compared record by record, an open before a close, and the one that comes first stands first. There are 1, 1, 2, 5, 14, 42, 132 and
  * 429 of them, each of 16 * n bytes and there just once. Their length in all, or -14 or -12. */
 int64_t tulghimo_small_days(uint32_t n, uint8_t *out, size_t cap);
+
+/* Backwards through one run, as tulghimo_runs writes it: 0 and the one inner figure x that leads to the outer figure y, among whole
+ * numbers in net and among 0 to 2^32 - 1 in stamp; or -15, -16 or -17 with x as it was.
+ *
+ * -15: the bytes are no run. The length, kind or mode does not fit; a number of stamp is outside 0 to 2^32 - 1, or m is even; a number
+ * that the mode does not use is not 0; one of net, heaviest or eaten is outside -10^14 to 10^14, but for the -2^63 that A may be in
+ * heaviest; or l is above h. All runs that tulghimo_runs writes pass. -16: the run is of heaviest or eaten, where several x may lead
+ * to y, or none. -17: y is outside -10^14 to 10^14 in net, or outside 0 to 2^32 - 1 in stamp. */
+int64_t tulghimo_backwards(const uint8_t *run, size_t n, int64_t y, int64_t x[1]);
 
 #ifdef __cplusplus
 }

@@ -59,6 +59,8 @@ static void nothing_in(void) {
     is("read_table, a buffer", tulghimo_read_table(NULL, 0, out, sizeof out), -10);
     is("small_days, n = 0", tulghimo_small_days(0, NULL, 0), -14);
     is("small_days, n = 0, a buffer", tulghimo_small_days(0, out, sizeof out), -14);
+    is("backwards", tulghimo_backwards(NULL, 0, 0, numbers), -15);
+    is("backwards, y beyond", tulghimo_backwards(NULL, 0, INT64_MIN, numbers), -15);
     untouched("numbers", numbers, 7);
     is("the blank in the buffer", memcmp(out, blanks, sizeof out), 0);
 }

@@ -6,7 +6,7 @@ use crate::{raw, Figures, Kind, Line, Mode, Record, Refusal, Run, TableLine, Wor
 fn answer(status: i64) -> Result<usize, Refusal> {
     match usize::try_from(status) {
         Ok(number) => Ok(number),
-        Err(_) => Err(Refusal::from_number(-status).expect("a refusal has a number from 1 to 14")),
+        Err(_) => Err(Refusal::from_number(-status).expect("a refusal has a number from 1 to 17")),
     }
 }
 
@@ -246,4 +246,24 @@ pub fn read_table(log: &[u8]) -> Result<Vec<TableLine>, Refusal> {
 /// ```
 pub fn small_days(n: u32) -> Result<Vec<u8>, Refusal> {
     written(raw::LONGEST_SMALL_DAYS, |out| raw::small_days(n, out))
+}
+
+/// Backwards through a run, given as its [bytes](crate::Run::bytes): the one inner figure x that leads to the outer figure y, in mode
+/// 1 among whole numbers, in mode 4 among 0 to 2^32 - 1. Refused: 15, 16 (in modes 2 and 5) and 17.
+///
+/// ```
+/// use tulghimo::{backwards, example, runs, summarise, Mode, Refusal};
+///
+/// let (one, two) = example::two_stretches();
+/// let run = |mode| Ok(runs(&[summarise(one, mode)?, summarise(two, mode)?].concat())?[0].bytes());
+/// // x + 12, and 961 · x + 72 modulo 2^32.
+/// assert_eq!(backwards(&run(Mode::Net)?, 100), Ok(88));
+/// assert_eq!(backwards(&run(Mode::Stamp)?, 961 * 5 + 72), Ok(5));
+/// assert_eq!(backwards(&run(Mode::Stamp)?, -1), Err(Refusal::OuterFigure));
+/// assert_eq!(backwards(&run(Mode::Heaviest)?, 100), Err(Refusal::NoWayBack));
+/// assert_eq!(backwards(example::LOG_D, 100), Err(Refusal::NotARun));
+/// # Ok::<(), Refusal>(())
+/// ```
+pub fn backwards(run: &[u8], y: i64) -> Result<i64, Refusal> {
+    numbers(|x| raw::backwards(run, y, x)).map(|[x]| x)
 }

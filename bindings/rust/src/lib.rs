@@ -45,6 +45,8 @@ pub mod raw;
 mod refusal;
 mod types;
 
-pub use calls::{day, finish, merge, merge_row, plan, read_record, read_table, runs, small_days, summarise, work, write_log};
+pub use calls::{
+    backwards, day, finish, merge, merge_row, plan, read_record, read_table, runs, small_days, summarise, work, write_log,
+};
 pub use refusal::Refusal;
 pub use types::{Figures, Kind, Line, Mode, Record, Run, TableLine, Work};

@@ -40,6 +40,7 @@ mod ffi {
         pub fn tulghimo_write_log(table: *const u8, n: usize, out: *mut u8, cap: usize) -> i64;
         pub fn tulghimo_read_table(log: *const u8, n: usize, out: *mut u8, cap: usize) -> i64;
         pub fn tulghimo_small_days(n: u32, out: *mut u8, cap: usize) -> i64;
+        pub fn tulghimo_backwards(run: *const u8, n: usize, y: i64, x: *mut i64) -> i64;
     }
 }
 
@@ -114,4 +115,10 @@ pub fn read_table(log: &[u8], out: &mut [u8]) -> i64 {
 pub fn small_days(n: u32, out: &mut [u8]) -> i64 {
     // SAFETY: the slice has as many bytes as it is said to have, and is not borrowed elsewhere.
     unsafe { ffi::tulghimo_small_days(n, out.as_mut_ptr(), out.len()) }
+}
+
+/// Backwards through a run: 0 and the inner figure x that leads to y, or minus the refusal (15, 16 or 17).
+pub fn backwards(run: &[u8], y: i64, x: &mut [i64; 1]) -> i64 {
+    // SAFETY: the slice has as many bytes as it is said to have, and the array has the number that the call may store.
+    unsafe { ffi::tulghimo_backwards(run.as_ptr(), run.len(), y, x.as_mut_ptr()) }
 }

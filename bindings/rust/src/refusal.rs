@@ -16,10 +16,10 @@ macro_rules! refusals {
 
         impl Refusal {
             /// All refusals, in the order of their numbers.
-            pub const ALL: [Refusal; 14] = [$(Refusal::$name),*];
+            pub const ALL: [Refusal; 17] = [$(Refusal::$name),*];
 
-            /// The question that got a "no", in document 01's words, 1 with document 02's modes; 13 and 14 are document 02's, as
-            /// questions. What a day table is asked under 2, 3 and 10 is told by the reason.
+            /// The question that got a "no", in document 01's words, 1 with document 02's modes; those from 13 on are document
+            /// 02's, as questions. What a day table is asked under 2, 3 and 10 is told by the reason.
             pub fn question(self) -> &'static str {
                 match self { $(Refusal::$name => $question,)* }
             }
@@ -51,15 +51,20 @@ refusals! {
     OpenedCount = 14,
         "Are 1 to 8 opened records asked for?",
         "the number of opened records asked for is not 1 to 8";
+    NotARun = 15, "Are the bytes exactly one run?", "the bytes are not exactly one run of a mode in use";
+    NoWayBack = 16, "Is the run of mode 1 or 4?", "the run is of mode 2 or 5, where there is no way back";
+    OuterFigure = 17,
+        "Is the outer figure within ±10^14 in mode 1, or 0 to 2^32 - 1 in mode 4?",
+        "the outer figure is out of the range of the run's mode";
 }
 
 impl Refusal {
-    /// The question's number, 1 to 14.
+    /// The question's number, 1 to 17.
     pub fn number(self) -> u8 {
         self as u8
     }
 
-    /// The refusal with a number, if it is 1 to 14.
+    /// The refusal with a number, if it is 1 to 17.
     pub fn from_number(number: i64) -> Option<Refusal> {
         Refusal::ALL.into_iter().find(|refusal| i64::from(refusal.number()) == number)
     }
@@ -88,12 +93,12 @@ mod tests {
     use super::Refusal;
 
     #[test]
-    fn numbers_are_1_to_14_in_order() {
+    fn numbers_are_1_to_17_in_order() {
         let numbers: Vec<u8> = Refusal::ALL.iter().map(|refusal| refusal.number()).collect();
-        assert_eq!(numbers, (1..=14).collect::<Vec<u8>>());
-        for number in -1..=16 {
+        assert_eq!(numbers, (1..=17).collect::<Vec<u8>>());
+        for number in -1..=19 {
             let found = Refusal::from_number(number).map(|refusal| i64::from(refusal.number()));
-            assert_eq!(found, (1..=14).contains(&number).then_some(number));
+            assert_eq!(found, (1..=17).contains(&number).then_some(number));
         }
     }
 }

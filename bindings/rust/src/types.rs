@@ -127,6 +127,20 @@ impl Run {
         }
     }
 
+    /// Its bytes, as they are written: length, kind 20 and mode, then its numbers.
+    pub fn bytes(&self) -> Vec<u8> {
+        let numbers = match *self {
+            Run::Net { a } => vec![a, 0, 0],
+            Run::Heaviest { z, a, b } => vec![z, a.unwrap_or(i64::MIN), b],
+            Run::Eaten { z, a, l, h } => vec![z, a, l, h],
+            Run::Stamp { m, q } => vec![m.into(), q.into(), 0],
+        };
+        // A head of 6 bytes, and 3 or 4 numbers.
+        let head = [6 + 8 * numbers.len() as u16, 20, self.mode() as u16];
+        let head = head.iter().flat_map(|field| field.to_le_bytes());
+        head.chain(numbers.iter().flat_map(|number| number.to_le_bytes())).collect()
+    }
+
     /// The runs in these bytes. Each begins with its length, kind and mode, and its numbers follow.
     pub(crate) fn read_all(mut bytes: &[u8]) -> Result<Vec<Run>, Refusal> {
         let mut runs = Vec::new();

@@ -3,13 +3,14 @@ ghost use mathlib.Core.Path.{_≡_};
 ghost use lib.IntN.{pos, negℤ};
 ghost use lib.ListN.{length};
 ghost use Rattle.gate.specs.Outcome.{result, bufferAfter};
-ghost use Rattle.gate.specs.Answers.{writtenAnswer, lengthAnswered};
+ghost use Rattle.gate.specs.Answers.{writtenAnswer, finishedAnswer, lengthAnswered};
 ghost use Rattle.record.specs.Record.{readOf};
 ghost use Rattle.summary.specs.Outcomes.{summariseOutcome, mergeOutcome, finishOutcome};
 ghost use Rattle.outcome.specs.Outcomes.{mergeRowOutcome, planOutcome, runsOutcome, workOutcome};
 ghost use Rattle.outcome.specs.Day.{dayOutcome};
 ghost use Rattle.day_table.specs.Outcomes.{writeLogOutcome, readTableOutcome};
 ghost use Rattle.day_list.specs.Days.{smallDaysOutcome};
+ghost use Rattle.run_back.specs.Backwards.{backwardsOutcome};
 ghost use Rattle.work.specs.Answers.{workIn};
 ghost use Rattle.tulghimo.specs.Interface.{statusOf, lengthStatus, Short, fieldsAfter, figureAfter, figuresAfter, workAfter};
 use day::Day;
@@ -44,6 +45,17 @@ fn put_figure(z: i64, figure: &mut [i64; 1]) -> i64
 {
     *figure = [z];
     0
+}
+
+// What a call that gives a figure answers: 0 and the figure stored, or minus the refusal and the buffer as it was.
+fn figure_status(d: Finished, figure: &mut [i64; 1]) -> i64
+    ensures answer { λ r. ⌜ r ≡ statusOf (finishedAnswer d) ⌝ }
+    ensures buffer { λ _. ⌜ now (figure .exit) ≡ figureAfter (finishedAnswer d) (now (figure .entry)) ⌝ }
+{
+    match d {
+        Finished::Figure(z) => put_figure(z, figure),
+        Finished::Refused(n) => refusal(n),
+    }
 }
 
 // The four figures, stored in their order.
@@ -123,10 +135,7 @@ pub extern "C" fn tulghimo_finish(summary: &[u8], figure: &mut [i64; 1]) -> i64
     ensures buffer { λ _. ⌜ now (figure .exit) ≡ figureAfter (finishOutcome (now (summary .entry))) (now (figure .entry)) ⌝ }
 {
     let d = finish::finish(summary);
-    match d {
-        Finished::Figure(z) => put_figure(z, figure),
-        Finished::Refused(n) => refusal(n),
-    }
+    figure_status(d, figure)
 }
 
 // The plan of a row: the length of its lines, or -4 to -12 and `out` as it was.
@@ -203,4 +212,14 @@ pub extern "C" fn tulghimo_small_days(n: u32, out: &mut [u8]) -> i64
 {
     let logs = small_days::small_days(n, out);
     status(logs)
+}
+
+// Backwards through a run, from the outer figure y: 0 and the one inner figure that leads to it, or -15, -16 or -17 and `x` as it was.
+#[no_mangle]
+pub extern "C" fn tulghimo_backwards(run: &[u8], y: i64, x: &mut [i64; 1]) -> i64
+    ensures answer { λ r. ⌜ r ≡ statusOf (backwardsOutcome (now (run .entry)) y) ⌝ }
+    ensures buffer { λ _. ⌜ now (x .exit) ≡ figureAfter (backwardsOutcome (now (run .entry)) y) (now (x .entry)) ⌝ }
+{
+    let d = backwards::backwards(run, y);
+    figure_status(d, x)
 }

@@ -7,12 +7,13 @@
 //! pattern is regular. In each of 200 rounds each call is put once to each log, the library first and the recursion first in turns. A time is
 //! the sum of each log's best.
 //!
-//! Then merging, the plan, the runs and the work (`rows.rs`), the day table (`tables.rs`), and all small days (`small_days.rs`). Buffers are
-//! lent once and not cleared between calls.
+//! Then merging, the plan, the runs and the work (`rows.rs`), the day table (`tables.rs`), all small days (`small_days.rs`), and the way back
+//! through a run (`backwards.rs`). Buffers are lent once and not cleared between calls.
 //!
-//! Run with `cargo run --release -p bench`, for one part alone with `cargo run --release -p bench -- rows`, `beside`, `tables` or
-//! `small_days`.
+//! Run with `cargo run --release -p bench`, for one part alone with `cargo run --release -p bench -- rows`, `beside`, `tables`,
+//! `small_days` or `backwards`.
 
+mod backwards;
 mod beside;
 mod chunks;
 mod peer;
@@ -22,8 +23,13 @@ mod tables;
 
 fn main() {
     let part = std::env::args().nth(1);
-    let parts =
-        [("beside", beside::bench as fn()), ("rows", rows::bench), ("tables", tables::bench), ("small_days", small_days::bench)];
+    let parts = [
+        ("beside", beside::bench as fn()),
+        ("rows", rows::bench),
+        ("tables", tables::bench),
+        ("small_days", small_days::bench),
+        ("backwards", backwards::bench),
+    ];
     for (name, bench) in parts {
         if part.as_ref().is_none_or(|part| part == name) {
             bench();

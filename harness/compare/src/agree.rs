@@ -84,6 +84,10 @@ pub fn small_days(n: u32, capacity: usize) -> Vec<i64> {
     in_buffers(&ample, &lengths, |out| raw::small_days(n, out))
 }
 
+pub fn backwards(run: &[u8], y: i64) -> Vec<i64> {
+    numbers(calls::backwards(run, y).map(|x| [x]), |x| raw::backwards(run, y, x))
+}
+
 /// What the library says of two chunks, which must be the same: 0, or minus its refusal.
 fn same<T: Debug + PartialEq>(call: impl Fn(&[u8]) -> Result<T, u8>, [one, other]: [&[u8]; 2]) -> i64 {
     let answer = call(one);

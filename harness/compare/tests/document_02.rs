@@ -2,6 +2,10 @@
 
 use compare::calls;
 
+#[path = "../../reference/tests/document_02/backwards.rs"]
+mod backwards;
+#[path = "../../reference/tests/document_02/backwards_laws.rs"]
+mod backwards_laws;
 #[path = "../../reference/tests/document_02/batch.rs"]
 mod batch;
 #[path = "../../reference/tests/document_02/batch_laws.rs"]

@@ -2,7 +2,7 @@
 
 use reference::calls;
 use reference::gen::raw::{self as by_hand, longest_log};
-use reference::gen::{damage, forged, logs, tables, Rng};
+use reference::gen::{damage, forged, logs, runs, tables, Rng};
 use reference::layout::encode;
 use reference::mode;
 use reference::plan::{encode_plan, Line};
@@ -93,7 +93,7 @@ fn random_logs_and_their_chunks() {
     }
 }
 
-/// The bytes of a run.
+/// The bytes of a run, put together here. It must give the same itself.
 fn run_bytes(run: &Run) -> Vec<u8> {
     let numbers = match *run {
         Run::Net { a } => vec![a, 0, 0],
@@ -101,7 +101,9 @@ fn run_bytes(run: &Run) -> Vec<u8> {
         Run::Eaten { z, a, l, h } => vec![z, a, l, h],
         Run::Stamp { m, q } => vec![m.into(), q.into(), 0],
     };
-    by_hand::run(run.mode().number() as u16, &numbers)
+    let bytes = by_hand::run(run.mode().number() as u16, &numbers);
+    assert_eq!(run.bytes(), bytes);
+    bytes
 }
 
 fn agree_on_row(row: &[u8]) {
@@ -138,6 +140,18 @@ fn forged_rows_and_damaged_ones() {
 fn all_small_days() {
     for n in [0, 1, 2, 3, 4, 5, 6, 7, 8, 9, 257, 65_544, u32::MAX] {
         assert_eq!(by_number(tulghimo::small_days(n)), calls::small_days(n, AMPLE), "n = {n}");
+    }
+}
+
+#[test]
+fn runs_backwards() {
+    let mut rng = Rng::new(0x5b00);
+    for round in 0..2000 {
+        let run = runs::any_run(&mut rng, by_hand::MODES[round % 4]);
+        for bytes in [damage::damage(&mut rng, &run), runs::nearly_a_run(&mut rng), run] {
+            let y = runs::any_y(&mut rng);
+            assert_eq!(by_number(tulghimo::backwards(&bytes, y)), calls::backwards(&bytes, y), "y = {y}: {bytes:?}");
+        }
     }
 }
 

@@ -1,7 +1,7 @@
 //! The calls under test, and what each is given.
 
 use compare::agree;
-use reference::bytes::unsigned;
+use reference::bytes::{signed, unsigned};
 use std::fmt;
 
 /// What a call takes.
@@ -21,10 +21,12 @@ pub enum Takes {
     Twins,
     /// A number n, and the length of a buffer.
     Number,
+    /// A run, and an outer figure.
+    Run,
 }
 
-/// What a call is given. `second` is the right one of two pieces or the other of two chunks, and empty elsewhere. An n stands in place
-/// of the mode, and the length of a buffer, 16 bits, in place of a chunk.
+/// What a call is given. `second` is the right one of two pieces, the other of two chunks or an outer figure, 64 bits, and empty
+/// elsewhere. An n stands in place of the mode, and the length of a buffer, 16 bits, in place of a chunk.
 #[derive(Clone, Debug, PartialEq, Eq)]
 pub struct Input {
     pub takes: Takes,
@@ -70,6 +72,12 @@ pub const CALLS: &[Call] = &[
         takes: Takes::Number,
         refuses: &[14, 12],
         compare: |given| agree::small_days(given.mode, unsigned(&given.first) as usize),
+    },
+    Call {
+        name: "backwards",
+        takes: Takes::Run,
+        refuses: &[15, 16, 17],
+        compare: |given| agree::backwards(&given.first, signed(&given.second)),
     },
     Call {
         name: "batches",

@@ -1,9 +1,9 @@
-//! The inputs of a round: logs, cuts, lists of merges, day tables, forged and damaged bytes, from the generators of the reference.
+//! The inputs of a round: logs, cuts, lists of merges, day tables, runs, forged and damaged bytes, from the generators of the reference.
 
 use crate::calls::{Input, Takes};
 use reference::calls;
-use reference::gen::raw::MODES;
-use reference::gen::{damage, forged, logs, tables, Rng};
+use reference::gen::raw::{run_length, MODES};
+use reference::gen::{damage, forged, logs, runs, tables, Rng};
 use reference::layout::encode;
 use reference::mode::Mode;
 use reference::record::Record;
@@ -44,10 +44,15 @@ fn number(n: u32, capacity: u16) -> Input {
     Input { takes: Takes::Number, mode: n, first: capacity.to_le_bytes().to_vec(), second: Vec::new() }
 }
 
+/// A run and an outer figure.
+fn run(bytes: Vec<u8>, y: i64) -> Input {
+    Input { takes: Takes::Run, mode: 0, first: bytes, second: y.to_le_bytes().to_vec() }
+}
+
 /// The inputs that a seed gives.
 pub fn inputs(seed: u64) -> Vec<Input> {
     let rng = &mut Rng::new(seed);
-    match rng.below(14) {
+    match rng.below(16) {
         0 => whole_log(rng),
         1 => faulty_log(rng),
         2 | 3 => cut_log(rng),
@@ -59,6 +64,8 @@ pub fn inputs(seed: u64) -> Vec<Input> {
         10 => one_record(rng),
         11 => other_batches(rng),
         12 => small_days(rng),
+        13 => forged_runs(rng),
+        14 => written_runs(rng),
         _ => noise(rng),
     }
 }
@@ -267,13 +274,47 @@ fn small_days(rng: &mut Rng) -> Vec<Input> {
     vec![number(n, capacity), number(other, capacity)]
 }
 
+/// A run as it is and damaged, and bytes that are nearly one; each with a figure that its mode may be asked about, and with any.
+fn forged_runs(rng: &mut Rng) -> Vec<Input> {
+    let mode = rng.pick(&MODES);
+    let good = runs::any_run(rng, mode);
+    let damaged = damage::damage(rng, &good);
+    let mut inputs = Vec::new();
+    for bytes in [good, damaged, runs::nearly_a_run(rng)] {
+        inputs.extend([runs::figure(rng, mode), runs::any_y(rng)].map(|y| run(bytes.clone(), y)));
+    }
+    inputs
+}
+
+/// A row of a cut log, or of summaries that no chunk makes, and the first of its runs, as they are and damaged.
+fn written_runs(rng: &mut Rng) -> Vec<Input> {
+    let mode = rng.pick(&Mode::ALL);
+    let summaries: Vec<Vec<u8>> = if rng.one_in(2) {
+        let count = 2 + rng.below(8);
+        forged::row(rng, mode, count).iter().map(encode).collect()
+    } else {
+        Stretches { mode, stretches: chunks(rng) }.row()
+    };
+    let lent = summaries.concat();
+    let number = mode.number() as u16;
+    let mut inputs = Vec::new();
+    for bytes in calls::runs(&lent, AMPLE).unwrap_or_default().chunks(run_length(number)).take(8) {
+        let y = [runs::figure(rng, number), runs::any_y(rng)];
+        inputs.extend(y.map(|y| run(bytes.to_vec(), y)));
+        inputs.push(run(damage::damage(rng, bytes), y[0]));
+    }
+    // The library's runs are held to these.
+    inputs.push(row(lent));
+    inputs
+}
+
 /// Bytes without any order, short and long.
 fn noise(rng: &mut Rng) -> Vec<Input> {
     let longest = rng.pick(&[8, 24, 80]);
     let bytes = damage::noise(rng, longest);
     let long = vec![bytes.len() as u8; rng.pick(&[65_535, 65_536, 65_537, 70_000])];
     let mut inputs = vec![piece(bytes.clone()), row(bytes.clone()), pieces(bytes.clone(), damage::noise(rng, longest))];
-    inputs.extend([table(bytes.clone()), chunk(any_mode(rng), bytes)]);
+    inputs.extend([table(bytes.clone()), run(bytes.clone(), runs::any_y(rng)), chunk(any_mode(rng), bytes)]);
     if rng.one_in(50) {
         inputs.extend([chunk(any_mode(rng), long.clone()), piece(long.clone()), row(long)]);
     }
@@ -283,6 +324,7 @@ fn noise(rng: &mut Rng) -> Vec<Input> {
 #[cfg(test)]
 mod tests {
     use super::*;
+    use reference::backwards::question_15;
     use reference::layout::decode;
     use reference::plan::plan_by_levels;
     use reference::row;
@@ -327,9 +369,22 @@ mod tests {
     }
 
     #[test]
+    fn runs_of_every_mode_are_taken_and_refused() {
+        // For each mode how often 15, and how often anything else.
+        let mut seen = [[0; 2]; 4];
+        for input in (0..4000).flat_map(inputs).filter(|input| input.takes == Takes::Run) {
+            let is_run = question_15(&input.first).is_ok();
+            if let Some(place) = input.first.get(4).and_then(|&mode| MODES.iter().position(|&other| other == u16::from(mode))) {
+                seen[place][usize::from(is_run)] += 1;
+            }
+        }
+        assert!(seen.iter().flatten().all(|&count| count > 100), "{seen:?}");
+    }
+
+    #[test]
     fn mode_3_is_an_argument_and_within_summaries() {
         let mut seen = [0; 4];
-        for input in (0..2500).flat_map(inputs) {
+        for input in (0..4000).flat_map(inputs) {
             let (place, pieces) = match input.takes {
                 Takes::Chunk => {
                     seen[0] += usize::from(input.mode == 3);

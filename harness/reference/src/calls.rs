@@ -2,6 +2,7 @@
 //! number of the refusal. A buffer is only its capacity here: a refusal leaves it
 //! untouched, a result is written at its front and "bytes after it stay".
 
+use crate::backwards;
 use crate::gate::{
     question_1, question_12, question_2, question_3, question_4, question_5, question_6, questions_7_to_11_of_log,
     questions_7_to_11_of_row,
@@ -127,6 +128,15 @@ pub fn read_table(log: &[u8], capacity: usize) -> Result<Vec<u8>, u8> {
 pub fn small_days(n: u32, capacity: usize) -> Result<Vec<u8>, u8> {
     let n = small_days::question_14(n)?;
     question_12(encode_logs(&all_logs(n)), capacity)
+}
+
+/// Document 02, L6: "From a run and an outer figure y, give the one inner figure x that
+/// leads to it". "15 first", "16 next", "17 last".
+pub fn backwards(run: &[u8], y: i64) -> Result<i64, u8> {
+    let run = backwards::question_15(run)?;
+    backwards::question_16(&run)?;
+    backwards::question_17(&run, y)?;
+    Ok(backwards::inner(&run, y))
 }
 
 /// The records of a whole log, by questions 2, 3 and 7 to 11.

@@ -21,10 +21,12 @@
 //! | L2                         | [`record`], [`calls`]                    |
 //! | L3                         | [`mode`], [`layout`], [`run`]            |
 //! | L5                         | [`small_days`], [`calls`]                |
+//! | L6                         | [`backwards`], [`calls`]                 |
 //!
-//! [`gen`] makes the inputs that tests try: logs, cuts, merge lists, day tables,
+//! [`gen`] makes the inputs that tests try: logs, cuts, merge lists, day tables, runs,
 //! damaged bytes and summaries that no chunk makes.
 
+pub mod backwards;
 pub mod bytes;
 pub mod calls;
 pub mod gate;

@@ -1,10 +1,11 @@
-//! Inputs for tests: seeded logs, cuts, merge lists, day tables, damaged bytes and
+//! Inputs for tests: seeded logs, cuts, merge lists, day tables, runs, damaged bytes and
 //! summaries that no chunk makes; and bytes put together field by field.
 
 pub mod damage;
 pub mod forged;
 pub mod logs;
 pub mod raw;
+pub mod runs;
 pub mod tables;
 
 /// A small random generator (splitmix64): the same seed gives the same numbers.

@@ -121,7 +121,17 @@ pub fn in_mode<T: Copy>(mode: u16, [net, heaviest, eaten, stamp]: [T; 4]) -> T {
 pub fn run(mode: u16, numbers: &[i64]) -> Vec<u8> {
     let length = run_length(mode);
     assert_eq!(6 + 8 * numbers.len(), length);
-    [words(&[length as u16, 20, mode]), numbers.iter().flat_map(|number| number.to_le_bytes()).collect()].concat()
+    run_of_fields([length as u16, 20, mode], numbers)
+}
+
+/// The length, kind and mode of a run and its numbers, whether they fit or not.
+pub fn run_of_fields(head: [u16; 3], numbers: &[i64]) -> Vec<u8> {
+    [words(&head), numbers.iter().flat_map(|number| number.to_le_bytes()).collect()].concat()
+}
+
+/// The numbers of a run.
+pub fn run_numbers(run: &[u8]) -> Vec<i64> {
+    run[6..].chunks(8).map(|number| i64::from_le_bytes(number.try_into().expect("8 bytes"))).collect()
 }
 
 /// How many bytes a run of a mode has.

@@ -4,7 +4,7 @@
 
 use crate::calls::{day, finish, merge, merge_row, plan, runs, summarise, work};
 use reference::gen::logs::{all_shapes, any_log, cut, log_or_faulty, longest_plan, of_shape, Values};
-use reference::gen::raw::{close, short};
+use reference::gen::raw::{close, run_numbers, short};
 use reference::gen::Rng;
 use reference::record::{encode_all, Record};
 
@@ -92,7 +92,7 @@ fn random_cuts_in_random_orders_lead_to_the_recursion() {
 fn numbers(runs: &[u8]) -> Vec<[i64; 4]> {
     let of_one = |run: &[u8]| {
         assert_eq!(run[..6], [38, 0, 20, 0, 5, 0]);
-        [6, 14, 22, 30].map(|place| i64::from_le_bytes(run[place..place + 8].try_into().expect("8 bytes")))
+        run_numbers(run).try_into().expect("four numbers")
     };
     runs.chunks(38).map(of_one).collect()
 }

@@ -2,11 +2,13 @@
 //!
 //! Expected values come from document 02, or are written out by hand. Seeds are fixed.
 //! `day_table` and `round_trips` (L1), `batch` and `batch_laws` (L2), `drop_at_value` and
-//! `drop_laws` (L3), `levels` (L4) and `small_days` (L5) only make calls, and `compare` makes
-//! the same ones of the library.
+//! `drop_laws` (L3), `levels` (L4), `small_days` (L5), `backwards` and `backwards_laws` (L6)
+//! only make calls, and `compare` makes the same ones of the library.
 
 use reference::calls;
 
+mod backwards;
+mod backwards_laws;
 mod batch;
 mod batch_laws;
 mod day_table;

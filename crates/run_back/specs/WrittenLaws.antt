@@ -1,0 +1,304 @@
+-- The runs that the call `runs` writes are taken, each one: never 15, in modes 1 and 4 answered with the inner figure that the log itself leads to y,
+-- in modes 2 and 5 refused 16. Assumes nothing.
+use mathlib.Core.Path.{_≡_, refl, sym, ap, subst, _∙_}
+use mathlib.Core.Logic.{_⊎_, inl, inr}
+use mathlib.Core.Bool.{Bool, true, false, cond}
+use mathlib.Core.List.{List, [], _∷_, _++_, append-assoc, append-nil, List·Memᴰ, List·Memᴰ·head, List·Memᴰ·tail}
+use Prim.Native.Nat.{ℕ, zero, suc, _+_, _-_, _*_, _/_, _%_, _^_, _≤_, _<_}
+use native.Mathlib.Nat.{div-add-mod, mul-zero, mul-suc, add-comm}
+use native.Mathlib.Omega.{arith}
+use lib.Dec.{leb, lit≤, lit<}
+use lib.ListN.{length, take, drop, getD}
+use lib.Seq.{take-at, drop-append-add}
+use lib.IntN.{ℤ, pos}
+use mir.Syntax.{w64}
+use mir.Val.{toZ}
+use Rattle.gate.specs.Outcome.{Outcome, result, refused, onward, written}
+use Rattle.gate.specs.Laws.{not-result, result-same, yes}
+use Rattle.number.specs.Bytes.{leAt, bytesOf, i64At}
+use Rattle.number.specs.Laws.{field-here, field-past}
+use Rattle.number.specs.Modulo.{mod-unique}
+use Rattle.row.specs.Row.{rowPieces}
+use Rattle.algebra.specs.Run.{Level, AllSound, run, runOn, run-is, run-fine}
+use Rattle.algebra.specs.Sizes.{cost, costs, run-within}
+use Rattle.figure.specs.FourModes.{InRange, stamp, storeStamp, storeHeld, isStamp, nothing}
+use Rattle.figure.specs.Run.{Affine, HeaviestNumbers, heaviestRun}
+use Rattle.figure.specs.Runs.{stampContext, affineLevel, affineAfter}
+use Rattle.figure.specs.Bound.{sizeHeld}
+use Rattle.figure.specs.StoreLaws.{stamp-is, stamp-back, RunFits}
+use Rattle.figure.specs.Mode.{modeOf, modeInUse}
+use Rattle.figure.specs.Stored.{mode-small}
+use Rattle.figure.specs.declared.Held.{Held}
+use Rattle.figure.specs.declared.Held.the-variants.{Nothing, Figure}
+use Rattle.figure.specs.declared.Run.{Run}
+use Rattle.summary.specs.Layout.{i64Bytes, SummaryIn}
+use Rattle.summary.specs.Judge.{lengthAt, kindAt, modeAt}
+use Rattle.summary.specs.ReadBack.{number-back}
+use Rattle.summary.specs.Tests.{false-true}
+use Rattle.summary.specs.Accepted.{mode-used}
+use Rattle.hill.specs.Verdict.{pass}
+use Rattle.join_plan.specs.Plan.{Line, planOfRow}
+use Rattle.plan_work.specs.Gate.{rowFault}
+use Rattle.plan_work.specs.Fair.{ValidRow}
+use Rattle.plan_work.specs.Runs.{runLevels, runOf, runsAlong, runsOf}
+use Rattle.plan_work.specs.RunsExact.{run-length, run-sound, line-spans, runs-count}
+use Rattle.plan_work.specs.WorkSizes.{levels-light, load-fits}
+use Rattle.outcome.specs.Outcomes.{hasFourth, runLength, runBytes, eachRun, firstMode, Summaries, askRow, askLog, runsBytes, runsOutcome}
+use Rattle.outcome.specs.Laws.{AllIn}
+use Rattle.outcome.specs.Through.{Found, ask-found, log-found, valid-row}
+use Rattle.outcome.specs.RunLaws.{length-most, length-run, length-each}
+use Rattle.run_back.specs.Judge.{runAt, Near, RunNumbers, IsRunBytes}
+use Rattle.run_back.specs.DecideLaws.{net-numbers, heaviest-numbers, stamp-numbers, eaten-numbers}
+use Rattle.run_back.specs.Backwards.{forwards, innerOf, backwardsOutcome}
+use Rattle.run_back.specs.Claims.{TheOnly, Taken, runIn, outerOf, TakenBack, AllTakenBack}
+use Rattle.run_back.specs.CallLaws.{answer-is, only-inner, turns-away}
+
+-- ---- a run is read back from its bytes
+
+module _ (m : ℕ) (k : Run) where
+  abbrev end : List ℕ
+  end = cond (hasFourth m) (i64Bytes (k .fourth)) []
+
+  in-a-row : runBytes m k ≡ bytesOf 2 (runLength m) ++ (bytesOf 2 20 ++ (bytesOf 2 m ++ (i64Bytes (k .first) ++ (i64Bytes (k .second) ++ (i64Bytes (k .third) ++ end)))))
+  unfolding runBytes
+  in-a-row = simp append-assoc
+
+  length-read : lengthAt (runBytes m k) ≡ runLength m
+  length-read = ap (λ (b : List ℕ). leAt 2 b 0) in-a-row ∙ field-here 2 (runLength m) _ (omega (arith, length-most m))
+
+  kind-read : kindAt (runBytes m k) ≡ 20
+  kind-read = ap (λ (b : List ℕ). leAt 2 b 2) in-a-row ∙ field-past 2 2 (runLength m) _ 2 (lit≤ tt) ∙ field-here 2 20 _ (lit< tt)
+
+  mode-read : modeInUse m ≡ true → modeAt (runBytes m k) ≡ m
+  mode-read u = ap (λ (b : List ℕ). leAt 2 b 4) in-a-row ∙ field-past 2 2 (runLength m) _ 4 (lit≤ tt) ∙ field-past 2 2 20 _ 2 (lit≤ tt) ∙ field-here 2 m _ (omega (arith, mode-small m u))
+
+  -- behind length, kind and mode
+  behind-mode : (i : ℕ) → 6 ≤ i → leAt 8 (runBytes m k) i ≡ leAt 8 (i64Bytes (k .first) ++ (i64Bytes (k .second) ++ (i64Bytes (k .third) ++ end))) (i - 2 - 2 - 2)
+  behind-mode i h =
+      ap (λ (b : List ℕ). leAt 8 b i) in-a-row ∙ field-past 2 8 (runLength m) _ i (omega arith) ∙ field-past 2 8 20 _ (i - 2) (omega arith) ∙ field-past 2 8 m _ (i - 2 - 2) (omega arith)
+
+  module _ (fits : RunFits k) (none : hasFourth m ≡ false → k .fourth ≡ pos 0) where
+    first-read : i64At (runBytes m k) 6 ≡ k .first
+    first-read = ap (toZ w64) (behind-mode 6 (lit≤ tt)) ∙ number-back (k .first) _ (fits .first-fits)
+
+    second-read : i64At (runBytes m k) 14 ≡ k .second
+    second-read = ap (toZ w64) (behind-mode 14 (lit≤ tt) ∙ field-past 8 8 _ _ 8 (lit≤ tt)) ∙ number-back (k .second) _ (fits .second-fits)
+
+    third-read : i64At (runBytes m k) 22 ≡ k .third
+    third-read = ap (toZ w64) (behind-mode 22 (lit≤ tt) ∙ field-past 8 8 _ _ 16 (lit≤ tt) ∙ field-past 8 8 _ _ 8 (lit≤ tt)) ∙ number-back (k .third) _ (fits .third-fits)
+
+    fourth-read : i64At (runBytes m k) 30 ≡ k .fourth
+    unfolding leAt
+    fourth-read =
+        ap (toZ w64) (behind-mode 30 (lit≤ tt) ∙ field-past 8 8 _ _ 24 (lit≤ tt) ∙ field-past 8 8 _ _ 16 (lit≤ tt) ∙ field-past 8 8 _ _ 8 (lit≤ tt)) ∙ go (hasFourth m) none
+      where
+        go : (t : Bool) → (t ≡ false → k .fourth ≡ pos 0) → toZ w64 (leAt 8 (cond t (i64Bytes (k .fourth)) []) 0) ≡ k .fourth
+        go true n = ap (λ (b : List ℕ). toZ w64 (leAt 8 b 0)) (sym (append-nil (i64Bytes (k .fourth)))) ∙ number-back (k .fourth) [] (fits .fourth-fits)
+        go false n = sym (n refl)
+
+    run-read : runAt (runBytes m k) ≡ k
+    run-read = λ i. record { first = first-read i; second = second-read i; third = third-read i; fourth = fourth-read i }
+
+    is-run : modeInUse m ≡ true → RunNumbers m k → IsRunBytes (runBytes m k)
+    is-run u r = record {
+      layout = record {
+        kind-fits = kind-read;
+        length-fits = length-run m k ∙ ap runLength (sym (mode-read u));
+        length-said = length-read ∙ sym (length-run m k);
+        mode-fits = ap modeInUse (mode-read u) ∙ u;
+      };
+      numbers = rw (mode-read u, run-read) r;
+    }
+
+-- ---- the numbers of a run that is written
+
+-- 31 is odd, and so is a product of such
+odd-after : (k : Affine) (ls : List (Level stamp)) → k .times .num % 2 ≡ 1 → runOn stampContext k ls .times .num % 2 ≡ 1
+unfolding runOn
+odd-after k [] o = o
+odd-after k (l ∷ ls) o = odd-after (affineAfter (affineLevel l) k) ls (odd-31 (k .times .num) o)
+  where
+    odd-31 : (n : ℕ) → n % 2 ≡ 1 → ((31 * n) % 2 ^ 32) % 2 ≡ 1
+    odd-31 n o =
+        sym (mod-unique 1 ((31 * n) % 2 ^ 32) (31 * (n / 2) + 15) (2 ^ 31 * (31 * n / 2 ^ 32)) 2 (lit< tt) (omega (arith, div-add-mod n 2, div-add-mod (31 * n) (2 ^ 32))))
+
+held-near : (h : Held) → sizeHeld h ≤ 100_000_000_000_000 → Near (storeHeld h) ⊎ (storeHeld h ≡ nothing)
+unfolding sizeHeld storeHeld
+held-near Nothing s = inr refl
+held-near (Figure z) s = inl s
+
+stamp-stored : (k : Affine) → (isStamp (storeStamp (k .times)) ≡ true) × (isStamp (storeStamp (k .plus)) ≡ true)
+stamp-stored k = (stamp-is (storeStamp (k .times)) (ap storeStamp (stamp-back (k .times))), stamp-is (storeStamp (k .plus)) (ap storeStamp (stamp-back (k .plus))))
+
+module _ (m : ℕ) where
+  abbrev most : List (Level (modeOf m .algebra)) → Type 0
+  most ls = costs (modeOf m .sizes) ls ≤ 100_000_000_000_000
+
+  within : (l : Level (modeOf m .algebra)) (ls : List (Level (modeOf m .algebra))) → AllSound InRange (l ∷ ls) →
+      modeOf m .runSizes .Within (run (modeOf m .context) l ls) (costs (modeOf m .sizes) ls + cost (modeOf m .sizes) l)
+  within l ls s = run-within (modeOf m .runSizes) (modeOf m .context .level l) ls (cost (modeOf m .sizes) l) (s .1) (modeOf m .runSizes .within-level l (s .0))
+
+-- "Its numbers are within the bounds", and the multiplier is odd.
+numbers-written : (m : ℕ) → modeInUse m ≡ true → (l : Level (modeOf m .algebra)) (ls : List (Level (modeOf m .algebra))) → AllSound InRange (l ∷ ls) → most m (l ∷ ls) →
+    RunNumbers m (modeOf m .storeRun (run (modeOf m .context) l ls))
+unfolding modeOf modeInUse
+numbers-written zero u l ls s h = false-true u
+numbers-written (suc zero) u l ls s h = net-numbers _ (omega (arith, within 1 l ls s)) refl refl
+numbers-written (suc (suc zero)) u l ls s h =
+    let w = within 2 l ls s in
+    let k : HeaviestNumbers = run (modeOf 2 .context) l ls in
+    heaviest-numbers (heaviestRun k) (omega (arith, w .empty-in)) (held-near (k .other) (omega (arith, w .other-in))) (omega (arith, w .add-in))
+numbers-written (suc (suc (suc zero))) u l ls s h = false-true u
+numbers-written (suc (suc (suc (suc zero)))) u l ls s h =
+    let k : Affine = run (modeOf 4 .context) l ls in
+    stamp-numbers _ (stamp-stored k .0) (stamp-stored k .1) refl (odd-after (affineLevel l) ls refl)
+numbers-written (suc (suc (suc (suc (suc zero))))) u l ls s h =
+    let w = within 5 l ls s in
+    eaten-numbers _ (omega (arith, w .empty-in)) (omega (arith, w .some-in .add-in)) (omega (arith, w .some-in .low-in)) (omega (arith, w .some-in .high-in))
+    (run-fine (modeOf 5 .context) (modeOf 5 .context .level l) ls (modeOf 5 .context .level-fine l (s .0)) (s .1))
+numbers-written (suc (suc (suc (suc (suc (suc m)))))) u l ls s h = absurd (omega (arith, mode-small (suc (suc (suc (suc (suc (suc m)))))) u))
+
+no-fourth : (m : ℕ) → modeInUse m ≡ true → (k : modeOf m .context .K) → hasFourth m ≡ false → modeOf m .storeRun k .fourth ≡ pos 0
+unfolding modeOf modeInUse
+no-fourth zero u k e = false-true u
+no-fourth (suc zero) u k e = refl
+no-fourth (suc (suc zero)) u k e = refl
+no-fourth (suc (suc (suc zero))) u k e = false-true u
+no-fourth (suc (suc (suc (suc zero)))) u k e = refl
+no-fourth (suc (suc (suc (suc (suc zero))))) u k e = false-true (sym e)
+no-fourth (suc (suc (suc (suc (suc (suc m)))))) u k e = absurd (omega (arith, mode-small (suc (suc (suc (suc (suc (suc m)))))) u))
+
+-- ---- the run of nested levels is taken
+
+only-same : {m : ℕ} {f g : ℤ → ℤ} {y x : ℤ} → ((z : ℤ) → f z ≡ g z) → TheOnly m f y x → TheOnly m g y x
+only-same {m} {f} {g} {y} {x} e t = record { inner = t .inner; leads = sym (e x) ∙ t .leads; only = λ z i h. t .only z i (e z ∙ h) }
+
+module _ (m : ℕ) (u : modeInUse m ≡ true) (l : Level (modeOf m .algebra)) (ls : List (Level (modeOf m .algebra))) (s : AllSound InRange (l ∷ ls)) (h : most m (l ∷ ls)) where
+  abbrev k : modeOf m .context .K
+  k = run (modeOf m .context) l ls
+
+  abbrev b : List ℕ
+  b = runBytes m (modeOf m .storeRun k)
+
+  few : costs (modeOf m .sizes) ls + cost (modeOf m .sizes) l < 2 ^ 63
+  few = omega (arith, h)
+
+  fits : RunFits (modeOf m .storeRun k)
+  fits = modeOf m .run-fits k (costs (modeOf m .sizes) ls + cost (modeOf m .sizes) l) (within m l ls s) few
+
+  mode-is : modeAt b ≡ m
+  mode-is = mode-read m (modeOf m .storeRun k) u
+
+  is : IsRunBytes b
+  is = is-run m (modeOf m .storeRun k) fits (no-fourth m u k) u (numbers-written m u l ls s h)
+
+  same : (x : ℤ) → forwards m (runAt b) x ≡ outerOf m (l ∷ ls) x
+  unfolding forwards
+  same x =
+      ap (λ (r : Run). modeOf m .store (modeOf m .context .apply (modeOf m .readRun r) (modeOf m .read x))) (run-read m (modeOf m .storeRun k) fits (no-fourth m u k))
+      ∙ ap (λ (j : modeOf m .context .K). modeOf m .store (modeOf m .context .apply j (modeOf m .read x))) (modeOf m .run-back k (costs (modeOf m .sizes) ls + cost (modeOf m .sizes) l) (within m l ls s) few)
+      ∙ ap (modeOf m .store) (run-is (modeOf m .context) l ls s (modeOf m .read x))
+
+  taken-back : TakenBack m (l ∷ ls) b
+  taken-back = record {
+    is = is;
+    mode-is = mode-is;
+    same = same;
+    back = λ y t.
+        let e : backwardsOutcome b y ≡ result (innerOf (modeAt b) (runAt b) y) = answer-is b y is (subst (λ (n : ℕ). Taken n y) (sym mode-is) t) in
+        (innerOf (modeAt b) (runAt b) y, e, only-same same (subst (λ (n : ℕ). TheOnly n (forwards n (runAt b)) y (innerOf (modeAt b) (runAt b) y)) mode-is (only-inner b y (innerOf (modeAt b) (runAt b) y) e)));
+    no-way = λ w y. turns-away b y .by-16 .1 (is, subst (λ (n : ℕ). (n ≡ 2) ⊎ (n ≡ 5)) (sym mode-is) w);
+  }
+
+-- ---- one run for each line
+
+-- of bytes that begin with L of them: these, and then the rest
+first-in : (L : ℕ) (x y : List ℕ) → length x ≡ L → take L (drop (L * 0) (x ++ y)) ≡ x
+first-in L x y e = ap (λ (n : ℕ). take L (drop n (x ++ y))) (mul-zero L) ∙ take-at x y L e
+
+next-in : (L c : ℕ) (x y : List ℕ) → length x ≡ L → take L (drop (L * suc c) (x ++ y)) ≡ take L (drop (L * c) y)
+next-in L c x y e =
+    ap (λ (n : ℕ). take L (drop n (x ++ y))) (mul-suc L c ∙ add-comm (L * c) L ∙ ap (λ (n : ℕ). n + L * c) (sym e)) ∙ ap (take L) (drop-append-add x y (L * c))
+
+module _ (m : ℕ) (u : modeInUse m ≡ true) (row : List (SummaryIn m)) (v : ValidRow (modeOf m .algebra) (modeOf m .sizes) row) (passes : rowFault row ≡ pass) where
+  -- The run of these levels, and that it is taken.
+  abbrev Takes : List (Level (modeOf m .algebra)) → Type 0
+  Takes ls = (k : modeOf m .context .K) × (runOf (modeOf m .context) ls ≡ k ∷ []) × TakenBack m ls (runBytes m (modeOf m .storeRun k))
+
+  takes-levels : (ls : List (Level (modeOf m .algebra))) → 0 < length ls → AllSound InRange ls → most m ls → Takes ls
+  takes-levels [] p s h = absurd (omega arith)
+  takes-levels (l ∷ ls) p s h = (run (modeOf m .context) l ls, refl, taken-back m u l ls s h)
+
+  takes-line : (e : Line) → List·Memᴰ e (planOfRow row) → Takes (runLevels (modeOf m .algebra) row e)
+  takes-line e i =
+      let 𝒜 = modeOf m .algebra in
+      let 𝒮 = modeOf m .sizes in
+      let n : (e .lowest ≤ e .highest) × (length (runLevels 𝒜 row e) ≡ suc (e .highest) - e .lowest) = run-length 𝒜 row e i in
+      takes-levels (runLevels 𝒜 row e) (omega arith) (run-sound 𝒜 𝒮 InRange (λ r s. s) row e v)
+      (omega (arith, levels-light 𝒜 𝒮 row v e (line-spans 𝒜 row e i), load-fits 𝒜 𝒮 row v (modeOf m .laws) (modeOf m .commutative) passes (modeOf m .unit-small)))
+
+  each-taken : (es : List Line) → ((e : Line) → List·Memᴰ e es → List·Memᴰ e (planOfRow row)) → (c : ℕ) (e : Line) → c < length es → getD es c e ≡ e →
+      TakenBack m (runLevels (modeOf m .algebra) row e) (runIn m c (eachRun m (runsAlong (modeOf m .context) row es)))
+  unfolding runsAlong
+  each-taken [] f c e l q = absurd (omega arith)
+  each-taken (d ∷ es) f c e l q = rw (t .1) (go c l q (λ n. each-taken es (λ a i. f a (List·Memᴰ·tail i)) n e))
+    where
+      t : Takes (runLevels (modeOf m .algebra) row d)
+      t = takes-line d (f d (List·Memᴰ·head refl))
+
+      first : List ℕ
+      first = runBytes m (modeOf m .storeRun (t .0))
+
+      rest : List ℕ
+      rest = eachRun m (runsAlong (modeOf m .context) row es)
+
+      Here : List ℕ → Type 0
+      Here b = TakenBack m (runLevels (modeOf m .algebra) row e) b
+
+      go : (c : ℕ) → c < length (d ∷ es) → getD (d ∷ es) c e ≡ e → ((n : ℕ) → n < length es → getD es n e ≡ e → Here (runIn m n rest)) → Here (runIn m c (first ++ rest))
+      go zero l q later =
+          subst Here (sym (first-in (runLength m) first rest (length-run m (modeOf m .storeRun (t .0))))) (subst (λ (a : Line). TakenBack m (runLevels (modeOf m .algebra) row a) first) q (t .2))
+      go (suc c) l q later = subst Here (sym (next-in (runLength m) c first rest (length-run m (modeOf m .storeRun (t .0))))) (later c (omega arith) q)
+
+-- ---- what the call writes
+
+all-used : (m : ℕ) (ps : List (List ℕ)) → AllIn m ps → 2 ≤ length ps → modeInUse m ≡ true
+all-used m [] a l = absurd (omega arith)
+all-used m (p ∷ ps) a l = mode-used m p (a .0)
+
+module _ (row w : List ℕ) (s : Summaries) (asked : askRow (rowPieces row) ≡ result s) (logged : askLog s ≡ result s) (is : runsBytes s ≡ w) where
+  found : Found (rowPieces row) s
+  found = ask-found (rowPieces row) s asked
+
+  valid : ValidRow (modeOf (s .mode) .algebra) (modeOf (s .mode) .sizes) (s .row)
+  valid = subst (λ (x : Summaries). ValidRow (modeOf (x .mode) .algebra) (modeOf (x .mode) .sizes) (x .row)) (sym (found .are)) (valid-row (firstMode (rowPieces row)) (rowPieces row) (found .all))
+
+  used : modeInUse (s .mode) ≡ true
+  used = subst (λ (x : Summaries). modeInUse (x .mode) ≡ true) (sym (found .are)) (all-used (firstMode (rowPieces row)) (rowPieces row) (found .all) (found .some))
+
+  all-taken : AllTakenBack row w
+  unfolding runsBytes
+  all-taken = record {
+    summaries = s;
+    let-through = (asked, logged);
+    bytes = ap length (sym is) ∙ length-each (s .mode) (runsOf (modeOf (s .mode) .context) (s .row))
+        ∙ ap (λ (n : ℕ). runLength (s .mode) * n) (runs-count (modeOf (s .mode) .context) (modeOf (s .mode) .sizes) (λ r f. f) (s .row) valid);
+    each = λ c e l q. subst (λ (b : List ℕ). TakenBack (s .mode) (runLevels (modeOf (s .mode) .algebra) (s .row) e) (runIn (s .mode) c b)) is
+        (each-taken (s .mode) used (s .row) valid (log-found s s logged .0) (planOfRow (s .row)) (λ a i. i) c e l q);
+  }
+
+-- EACH RUN THAT IS WRITTEN IS TAKEN, for every row.
+pub runs-taken : (row : List ℕ) (cap : ℕ) (w : List ℕ) → runsOutcome row cap ≡ result w → AllTakenBack row w
+unfolding runsOutcome
+runs-taken row cap w h = asks (askRow (rowPieces row)) refl h
+  where
+    logs : (s : Summaries) → askRow (rowPieces row) ≡ result s → (o : Outcome Summaries) → askLog s ≡ o → onward o (λ t. written cap (runsBytes t)) ≡ result w → AllTakenBack row w
+    logs s e (refused n) f h = absurd (not-result n w h)
+    logs s e (result t) f h =
+        let same : s ≡ t = log-found s t f .1 in
+        let bytes : runsBytes t ≡ w = result-same (yes 12 (leb (length (runsBytes t)) cap) (result (runsBytes t)) h .1) in
+        all-taken row w s e (f ∙ ap result (sym same)) (ap runsBytes same ∙ bytes)
+
+    asks : (o : Outcome Summaries) → askRow (rowPieces row) ≡ o → onward o (λ s. onward (askLog s) (λ t. written cap (runsBytes t))) ≡ result w → AllTakenBack row w
+    asks (refused n) e h = absurd (not-result n w h)
+    asks (result s) e h = logs s e (askLog s) refl h
