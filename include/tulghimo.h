@@ -47,7 +47,7 @@ enum tulghimo_refusal {
     TULGHIMO_REFUSED_NOT_NESTED = 13,       /* a table's depths are not those of a log: the first is not 0, a later one is 0, or one
                                                is more than one above the line before it */
     TULGHIMO_REFUSED_OPENED_COUNT = 14,     /* the number of opened records asked for is not 1 to 8 */
-    TULGHIMO_REFUSED_NOT_A_RUN = 15,        /* the bytes are not exactly one run of a mode in use */
+    TULGHIMO_REFUSED_NOT_A_RUN = 15,        /* the bytes are not exactly one run of a mode in use, or a number in it does not fit */
     TULGHIMO_REFUSED_NO_WAY_BACK = 16,      /* the run is of mode 2 or 5, where there is no way back */
     TULGHIMO_REFUSED_OUTER_FIGURE = 17      /* the outer figure is out of the range of the run's mode: -10^14 to 10^14 in mode 1, 0
                                                to 2^32 - 1 in mode 4 */
@@ -129,10 +129,14 @@ int64_t tulghimo_small_days(uint32_t n, uint8_t *out, size_t cap);
 /* Backwards through one run, as tulghimo_runs writes it: 0 and the one inner figure x that leads to the outer figure y, among whole
  * numbers in net and among 0 to 2^32 - 1 in stamp; or -15, -16 or -17 with x as it was.
  *
- * -15: the bytes are no run. The length, kind or mode does not fit; a number of stamp is outside 0 to 2^32 - 1, or m is even; a number
- * that the mode does not use is not 0; one of net, heaviest or eaten is outside -10^14 to 10^14, but for the -2^63 that A may be in
- * heaviest; or l is above h. All runs that tulghimo_runs writes pass. -16: the run is of heaviest or eaten, where several x may lead
- * to y, or none. -17: y is outside -10^14 to 10^14 in net, or outside 0 to 2^32 - 1 in stamp. */
+ * x and y are those of tulghimo_runs: y is the figure of the record that the run ends with, which need not be the whole day's. One
+ * run is given at a time, of TULGHIMO_RUN bytes (eaten: TULGHIMO_EATEN_RUN). In net x may be beyond y's range, as far as 2 * 10^14
+ * either way.
+ *
+ * -15: the bytes are no run. The length, kind or mode does not fit; a number of stamp is outside 0 to 2^32 - 1, or m is even; a
+ * number that the mode does not use is not 0; a number of net, heaviest or eaten is outside -10^14 to 10^14, but for the -2^63 that A
+ * may be in heaviest; or l is above h. All runs that tulghimo_runs writes pass. -16: the run is of heaviest or eaten, where several x
+ * may lead to y, or none. -17: y is outside -10^14 to 10^14 in net, or outside 0 to 2^32 - 1 in stamp. */
 int64_t tulghimo_backwards(const uint8_t *run, size_t n, int64_t y, int64_t x[1]);
 
 #ifdef __cplusplus

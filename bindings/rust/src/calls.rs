@@ -249,7 +249,12 @@ pub fn small_days(n: u32) -> Result<Vec<u8>, Refusal> {
 }
 
 /// Backwards through a run, given as its [bytes](crate::Run::bytes): the one inner figure x that leads to the outer figure y, in mode
-/// 1 among whole numbers, in mode 4 among 0 to 2^32 - 1. Refused: 15, 16 (in modes 2 and 5) and 17.
+/// 1 among whole numbers, in mode 4 among 0 to 2^32 - 1. In mode 1 x may be beyond y's range, as far as 2 · 10^14 either way.
+///
+/// Refused: 15 where the bytes are no run: their length, kind or mode does not fit; a number of mode 4 is outside 0 to 2^32 - 1, or m
+/// is even; one that the mode does not use is not 0; one of modes 1, 2 and 5 is beyond ±10^14, but for the -2^63 of [`Run::Heaviest`]
+/// without an A; or l is above h. Every run that [`runs`] gives passes. 16 in modes 2 and 5; 17 where y is beyond ±10^14 in mode 1, or
+/// outside 0 to 2^32 - 1 in mode 4.
 ///
 /// ```
 /// use tulghimo::{backwards, example, runs, summarise, Mode, Refusal};

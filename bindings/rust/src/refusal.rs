@@ -51,7 +51,7 @@ refusals! {
     OpenedCount = 14,
         "Are 1 to 8 opened records asked for?",
         "the number of opened records asked for is not 1 to 8";
-    NotARun = 15, "Are the bytes exactly one run?", "the bytes are not exactly one run of a mode in use";
+    NotARun = 15, "Are the bytes exactly one run?", "the bytes are not exactly one run of a mode in use, or a number in it does not fit";
     NoWayBack = 16, "Is the run of mode 1 or 4?", "the run is of mode 2 or 5, where there is no way back";
     OuterFigure = 17,
         "Is the outer figure within ±10^14 in mode 1, or 0 to 2^32 - 1 in mode 4?",

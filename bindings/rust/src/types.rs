@@ -127,7 +127,8 @@ impl Run {
         }
     }
 
-    /// Its bytes, as they are written: length, kind 20 and mode, then its numbers.
+    /// Its bytes, as they are written: length, kind 20 and mode, then its numbers. Where these are such as no run has (an even m, say),
+    /// [`backwards`](crate::backwards) refuses the bytes by 15.
     pub fn bytes(&self) -> Vec<u8> {
         let numbers = match *self {
             Run::Net { a } => vec![a, 0, 0],

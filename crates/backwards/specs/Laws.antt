@@ -27,7 +27,7 @@ use Rattle.run_back.specs.Judge.{runAt, Near, RunNumbers, IsRunBytes}
 use Rattle.run_back.specs.Decide.{near, netFits, heaviestFits, stampFits, eatenFits, numbersFit, isRunBytes}
 use Rattle.run_back.specs.Backwards.{backNet, backStamp, innerOf}
 use Rattle.run_back.specs.DecideLaws.{tells-near, decide-run}
-use Rattle.run_back.specs.WayLaws.{stamp-num}
+use Rattle.run_back.specs.ForwardLaws.{stamp-num}
 
 -- ---- the numbers, by the mode
 
@@ -60,8 +60,8 @@ unfolding leAt
 past zero s i h = refl
 past (suc n) s i h = rw (List·getD-eq-default s 0 h, past n s (suc i) (omega arith))
 
-pub no-fourth : (b : List ℕ) → length b ≤ 30 → pos 0 ≡ i64At b 30
-no-fourth b h = sym (ap (toZ w64) (past 8 b 30 h))
+pub fourth-past : (b : List ℕ) → length b ≤ 30 → pos 0 ≡ i64At b 30
+fourth-past b h = sym (ap (toZ w64) (past 8 b 30 h))
 
 pub read-four : (b : List ℕ) {x y z w : ℤ} → x ≡ i64At b 6 → y ≡ i64At b 14 → z ≡ i64At b 22 → w ≡ i64At b 30 → _≡_ {A = Run} (record { first = x; second = y; third = z; fourth = w }) (runAt b)
 read-four b p q r s = λ i. record { first = p i; second = q i; third = r i; fourth = s i }

@@ -27,6 +27,7 @@ fn is_odd(x: i64) -> bool
     number::magnitude(x) % 2 == 1
 }
 
+// As the definition has it: neither is above the other.
 fn is_same(a: i64, b: i64) -> bool
     ensures { λ r. ⌜ r ≡ same a b ⌝ }
 {
@@ -162,9 +163,9 @@ fn back_stamp(k: Run, y: i64) -> Finished
     Finished::Figure(number::from_u32(inner))
 }
 
-// The one inner figure that leads to `outer` through a run, or the first of questions 15 to 17 that gets a "no".
-pub fn backwards(run: &[u8], outer: i64) -> Finished
-    ensures { λ r. ⌜ finishedAnswer r ≡ backwardsOutcome (now (run .entry)) outer ⌝ }
+// The one inner figure that leads to y through a run, or the first of questions 15 to 17 that gets a "no".
+pub fn backwards(run: &[u8], y: i64) -> Finished
+    ensures { λ r. ⌜ finishedAnswer r ≡ backwardsOutcome (now (run .entry)) y ⌝ }
 {
     if !is_run(run) {
         return Finished::Refused(15);
@@ -172,8 +173,8 @@ pub fn backwards(run: &[u8], outer: i64) -> Finished
     let mode = number::read_u16(run, 4);
     let k = read_run(run, mode);
     match mode {
-        1 => back_net(k, outer),
-        4 => back_stamp(k, outer),
+        1 => back_net(k, y),
+        4 => back_stamp(k, y),
         _ => Finished::Refused(16),
     }
 }

@@ -1,5 +1,5 @@
--- Document 01's proved cases, "(P)", those of mode 5 and of the way back through a run as document 02 has them, as a table on bytes, and one theorem:
--- each row holds, by computation. Assumes nothing.
+-- Document 01's proved cases, "(P)", those of mode 5 as document 02 has them, and document 02's of the way back through a run, as a table on bytes, and
+-- one theorem: each row holds, by computation. Assumes nothing.
 use mathlib.Core.Path.{_≡_, refl}
 use mathlib.Core.List.{List, [], _∷_, _++_, map, flatMap}
 use Prim.Native.Nat.{ℕ, _+_, _-_, _*_, _/_}
@@ -111,13 +111,8 @@ table =
     says (run 2 cutD) (result (pos 30 ∷ pos 20 ∷ pos 2 ∷ pos 15 ∷ pos 7 ∷ pos 15 ∷ [])) ∷
     says (run 4 cutD) (result (pos 30 ∷ pos 20 ∷ pos 4 ∷ pos 961 ∷ pos 72 ∷ pos 0 ∷ [])) ∷
     says (run 5 cutD) (result (pos 38 ∷ pos 20 ∷ pos 5 ∷ pos 12 ∷ pos 12 ∷ pos 7 ∷ pos 11 ∷ [])) ∷
-    -- "For one level the way back multiplies by 3,186,588,639": of 10 held alone, 31 x + 10, from 11
+    -- "For one level the way back multiplies by 3,186,588,639": of one record of 10 g, 31 x + 10, from 11
     says (back 4 (open0 ∷ closeBytes 0 ∷ []) (pos 11)) (result (pos 3_186_588_639 ∷ [])) ∷
-    -- Back through D's runs, from what 1 leads to where there is a way
-    says (back 1 cutD (pos 13)) (result (pos 1 ∷ [])) ∷
-    says (back 4 cutD (pos 1033)) (result (pos 1 ∷ [])) ∷
-    says (back 2 cutD (pos 16)) (refused 16) ∷
-    says (back 5 cutD (pos 11)) (refused 16) ∷
     -- "No bytes: blank, finish 10. \"close 1\" alone: 11. open 0, close 0 twice over: 8. open 0, open 0: 7."
     says (summary 1 []) (result (pos 6 ∷ pos 16 ∷ pos 1 ∷ [])) ∷
     says (finish 1 []) (refused 10) ∷
@@ -132,4 +127,4 @@ AllHold (r ∷ rs) = (r .gives ≡ r .paper) × AllHold rs
 
 pub proved-cases : AllHold table
 unfolding leAt bytesOf minZ maxZ clamp wrap lift lineOf eatenOf storeHeld readHeld atLeast eatenAlong moved runOn firstLength piecesIn rowPieces within inRange accepted whole byShape readOf recordsIn recordsOf modeInUse modeOf joint count cut ends encode decode sumTo nothingIn counted isStamp allTo layoutFits spoiltFits levelsFit openedFits middleFits recordsFit valuesFit hillFits isSummary summaryBytes summariseOutcome finishOutcome leftOpen upTo downFrom select depthsJoined lineFor planOf flatMap levelsDown runLevels runsAlong twoTo64 askRow askLog lineBytes planBytes runLength runBytes runsBytes planOutcome runsOutcome netFits heaviestFits stampFits eatenFits numbersFit isRunBytes newton inverse innerOf outerFits backwardsOutcome digitsIn digitsOf decimalOf ascii lineText dayLine wholeLog figureIn figuresOf dayOutcome
-proved-cases = (refl, (refl, (refl, (refl, (refl, (refl, (refl, (refl, (refl, (refl, (refl, (refl, (refl, (refl, (refl, (refl, (refl, (refl, tt))))))))))))))))))
+proved-cases = (refl, (refl, (refl, (refl, (refl, (refl, (refl, (refl, (refl, (refl, (refl, (refl, (refl, (refl, tt))))))))))))))

@@ -21,8 +21,11 @@ netRun a = record { first = a; second = pos 0; third = pos 0; fourth = pos 0 }
 abbrev pub readNetRun : Run → ℤ
 readNetRun k = k .first
 
+abbrev pub netAlong : ℤ → ℤ → ℤ
+netAlong a x = x +ℤ a
+
 abbrev pub IsNetRun : List (Level net) → ℤ → Type 0
-IsNetRun ls a = (x : ℤ) → x +ℤ a ≡ through net ls x
+IsNetRun ls a = (x : ℤ) → netAlong a x ≡ through net ls x
 
 -- "Mode 2: (z,A,B), z for nothing, else the greater of A and x + B." Where there is no A, x + B.
 pub record HeaviestNumbers : Type 0 where

@@ -10,7 +10,7 @@ use Rattle.number.specs.IntegerLaws.{zed, add-law, view, diffs, diff-≡, +-mon
 use Rattle.number.specs.Modulo.{mods}
 use Rattle.figure.specs.FourModes.{Amounts, InRange, net, heaviest, eaten, stamp, lift, lineOf, eatenOf, Stamp, stampOf}
 use Rattle.figure.specs.ModeLaws.{lift-r, stamp-≡, stamp-node}
-use Rattle.figure.specs.Run.{HeaviestNumbers, atLeast, along, Between, between, EatenNumbers, eatenAlong, addend, Affine, affine}
+use Rattle.figure.specs.Run.{netAlong, HeaviestNumbers, atLeast, along, Between, between, EatenNumbers, eatenAlong, addend, Affine, affine}
 use Rattle.figure.specs.declared.Held.{Held}
 use Rattle.figure.specs.declared.Held.the-variants.{Nothing, Figure}
 
@@ -34,7 +34,7 @@ net-after f g _ x = simp sums
 abbrev pub netContext : Context net InRange
 netContext = record {
   K = ℤ;
-  apply = λ a x. x +ℤ a;
+  apply = netAlong;
   level = λ l. l .carried .value +ℤ (l .before +ℤ l .after);
   compose = λ f g. g +ℤ f;
   Fine = λ _. Unit {0};

@@ -1,4 +1,4 @@
--- What the answers of the calls say, in document 01's numbers and values. Definitions only.
+-- What the answers of the calls say, in the documents' numbers and values. Definitions only.
 use mathlib.Core.List.{List}
 use Prim.Native.Nat.{ℕ}
 use lib.IntN.{ℤ}

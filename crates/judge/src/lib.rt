@@ -1,4 +1,4 @@
-// Question 5: whether bytes are exactly one summary, and which. Document 01, "Summaries".
+// Question 5: whether bytes are exactly one summary, and which; the layout, which a run has too. Document 01, "Summaries".
 ghost use mathlib.Core.Path.{_≡_};
 ghost use Prim.Native.Nat.{_+_, _≤_, min};
 ghost use lib.ListN.{length};

@@ -19,8 +19,8 @@ use Rattle.hill.specs.SummaryLaws.{merge-blank, mergeSummary-assoc}
 use Rattle.hill.specs.ValidLaws.{valid-mergeSummary}
 use Rattle.summary.specs.Layout.{SummaryIn, encode}
 use Rattle.summary.specs.Decode.{decode}
-use Rattle.summary.specs.Accepted.{Accepted, IsSummaryIn, mode-used, encoded, decode-encode, decoded, encode-fits}
-use Rattle.outcome.specs.Laws.{AllIn, pieces-all}
+use Rattle.summary.specs.Accepted.{Accepted, IsSummaryIn, encoded, decode-encode, decoded, encode-fits}
+use Rattle.outcome.specs.Laws.{AllIn, all-in-use, pieces-all}
 use Rattle.merge_row.specs.RowAsks.{rowSummary, Row, Room}
 
 -- ---- half with half
@@ -67,10 +67,6 @@ module _ (m : ℕ) where
   row-accepted : (ps : List (List ℕ)) → AllIn m ps → Accepted m (mergeRow (modeOf m .algebra) (these ps))
   row-accepted ps a = subst (Accepted m) (sym (mergeRow-inOrder (modeOf m .algebra) (modeOf m .laws) (these ps))) (in-order ps a)
 
-  in-use : (ps : List (List ℕ)) → AllIn m ps → 0 < length ps → modeInUse m ≡ true
-  in-use [] a l = absurd (omega arith)
-  in-use (p ∷ ps) a l = mode-used m p (a .0)
-
 -- the row is one summary of mode m, and s is what it says
 pub record OnePiece (m : ℕ) (row : List ℕ) (s : SummaryIn m) : Type 0 where
   pub is : IsSummaryIn m row
@@ -80,7 +76,7 @@ pub record OnePiece (m : ℕ) (row : List ℕ) (s : SummaryIn m) : Type 0 where
 
 module _ {m : ℕ} {row : List ℕ} {count : ℕ} (h : Row m row count) where
   used : modeInUse m ≡ true
-  used = in-use m (rowPieces row) (h .all) (omega (arith, h .some, h .count-is))
+  used = all-in-use m (rowPieces row) (h .all) (omega (arith, h .some, h .count-is))
 
   accepted : Accepted m (rowSummary m row)
   unfolding rowSummary

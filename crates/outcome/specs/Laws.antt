@@ -16,7 +16,7 @@ use Rattle.summary.specs.Layout.{SummaryIn, encode}
 use Rattle.summary.specs.Judge.{IsSummary, isBlank, isSpoilt, isHill}
 use Rattle.summary.specs.Decode.{decode}
 use Rattle.summary.specs.DecideLaws.{decide-summary}
-use Rattle.summary.specs.Accepted.{IsSummaryIn, encoded, decode-encode}
+use Rattle.summary.specs.Accepted.{IsSummaryIn, mode-used, encoded, decode-encode}
 use Rattle.outcome.specs.Outcomes.{twoTo64, allSummaries, allOf, firstMode, modeOfAll, Summaries, askRow, askLog, mergedBytes, planBytes, runsBytes, workAlong, mergeRowOutcome, planOutcome, runsOutcome, workOutcome}
 
 -- ---- one question after another
@@ -71,6 +71,10 @@ module _ (m : ℕ) where
   pub first-mode : (ps : List (List ℕ)) → AllIn m ps → 2 ≤ length ps → firstMode ps ≡ m
   first-mode [] a l = absurd (omega arith)
   first-mode (p ∷ ps) a l = a .0 .mode-is
+
+  pub all-in-use : (ps : List (List ℕ)) → AllIn m ps → 0 < length ps → modeInUse m ≡ true
+  all-in-use [] a l = absurd (omega arith)
+  all-in-use (p ∷ ps) a l = mode-used m p (a .0)
 
   -- 2 to 64 of them are let through.
   pub ask-all : (ps : List (List ℕ)) → AllIn m ps → 2 ≤ length ps → length ps ≤ 64 → askRow ps ≡ result (record { mode = m; row = map (decode m) ps })

@@ -1,5 +1,5 @@
 -- The runs that are written are the paper's: for each line the one that figure/Run says, and no other. Assumes nothing.
-use mathlib.Core.Path.{_≡_, refl, sym, ap₂, subst, _∙_}
+use mathlib.Core.Path.{_≡_, refl, sym, ap₂, subst}
 use mathlib.Core.List.{List, [], _∷_, _++_, List·Memᴰ, List·Memᴰ·head, List·Memᴰ·tail}
 use Prim.Native.Nat.{ℕ, suc, _-_, _≤_, _<_}
 use native.Mathlib.Omega.{arith}
@@ -14,8 +14,8 @@ use Rattle.join_plan.specs.Plan.{Line, planOfRow}
 use Rattle.plan_work.specs.Fair.{ValidRow}
 use Rattle.plan_work.specs.Runs.{runLevels, runOf, runsAlong, runsOf}
 use Rattle.plan_work.specs.RunsExact.{run-length, run-sound}
-use Rattle.outcome.specs.Outcomes.{firstMode, Summaries, askRow, askLog, eachRun, runsBytes, runsOutcome}
-use Rattle.outcome.specs.Through.{Found, ask-found, log-found, valid-row}
+use Rattle.outcome.specs.Outcomes.{Summaries, askRow, askLog, eachRun, runsBytes, runsOutcome}
+use Rattle.outcome.specs.Through.{let-through}
 
 module _ (m : ℕ) (row : List (SummaryIn m)) where
   -- One run for each of these lines, in their order: numbers that figure/Run says are the run of the levels that the line goes through.
@@ -63,13 +63,5 @@ runs-written row s t e f = record {
   only = λ ks r. only-these (t .mode) (t .row) (planOfRow (t .row)) ks (runsOf (modeOf (t .mode) .context) (t .row)) r these;
 }
   where
-    found : Found (rowPieces row) s
-    found = ask-found (rowPieces row) s e
-
-    valid : ValidRow (modeOf (t .mode) .algebra) (modeOf (t .mode) .sizes) (t .row)
-    valid =
-        subst (λ (x : Summaries). ValidRow (modeOf (x .mode) .algebra) (modeOf (x .mode) .sizes) (x .row)) (sym (found .are) ∙ log-found s t f .1)
-        (valid-row (firstMode (rowPieces row)) (rowPieces row) (found .all))
-
     these : RunsOfLines (t .mode) (t .row) (planOfRow (t .row)) (runsOf (modeOf (t .mode) .context) (t .row))
-    these = computed (t .mode) (t .row) valid (planOfRow (t .row)) (λ e i. i)
+    these = computed (t .mode) (t .row) (let-through (rowPieces row) s t e f .valid) (planOfRow (t .row)) (λ d i. i)

@@ -10,7 +10,7 @@ use borrow.Author.Tests.{eqb-true, leb-true}
 use Rattle.gate.specs.Outcome.{result, question, onward}
 use Rattle.number.specs.Bytes.{bytesOf}
 use Rattle.record.specs.Laws.{and-left, and-right}
-use Rattle.figure.specs.Mode.{modeOf}
+use Rattle.figure.specs.Mode.{modeOf, modeInUse}
 use Rattle.hill.specs.Verdict.{Verdict, pass, refuse}
 use Rattle.hill.specs.Summary.{middle}
 use Rattle.hill.specs.Finish.{outcome, finishOf}
@@ -29,7 +29,7 @@ use Rattle.plan_work.specs.Gate.{rowFault}
 use Rattle.plan_work.specs.Fair.{ValidRow}
 use Rattle.plan_work.specs.GateExact.{mergeAll, finish-row, fair-row}
 use Rattle.outcome.specs.Outcomes.{twoTo64, allSummaries, allOf, firstMode, modeOfAll, Summaries, askRow, askLog, lineBytes, linesBytes, planBytes}
-use Rattle.outcome.specs.Laws.{AllIn}
+use Rattle.outcome.specs.Laws.{AllIn, all-in-use}
 
 -- ---- 4, 5 and 6
 
@@ -97,6 +97,22 @@ module _ (m : ℕ) where
       let e : finishOf 𝒜 (mergeRow 𝒜 r) ≡ result w =
       ap (finishOf 𝒜) (mergeRow-inOrder 𝒜 ℒ r) ∙ finish-row 𝒜 ℒ r (fair-row 𝒜 (modeOf m .sizes) r (valid-row ps a)) ∙ ap (λ (x : Verdict). outcome x w) v in
       omega (arith, gate-bound 𝒜 ℒ r w e (omega arith))
+
+-- A row that all questions let through.
+pub record LetThrough (t : Summaries) : Type 0 where
+  pub used : modeInUse (t .mode) ≡ true
+  pub valid : ValidRow (modeOf (t .mode) .algebra) (modeOf (t .mode) .sizes) (t .row)
+  pub passes : rowFault (t .row) ≡ pass
+
+pub let-through : (ps : List (List ℕ)) (s t : Summaries) → askRow ps ≡ result s → askLog s ≡ result t → LetThrough t
+let-through ps s t e f =
+    let h : Found ps s = ask-found ps s e in
+    subst LetThrough (sym (h .are) ∙ log-found s t f .1)
+    (record {
+      used = all-in-use (firstMode ps) ps (h .all) (omega (arith, h .some));
+      valid = valid-row (firstMode ps) ps (h .all);
+      passes = subst (λ (x : Summaries). rowFault (x .row) ≡ pass) (h .are) (log-found s t f .0);
+    })
 
 -- At most 125, for 64 pieces.
 pub lines-125 : (ps : List (List ℕ)) (s t : Summaries) → askRow ps ≡ result s → askLog s ≡ result t → length (planOfRow (t .row)) ≤ 125

@@ -14,8 +14,8 @@ use Rattle.run_back.specs.Judge.{runAt}
 use Rattle.run_back.specs.Decide.{near, isRunBytes}
 use Rattle.run_back.specs.Inverse.{inverse}
 
--- "Put an inner figure through a run": what the numbers k, in mode m, make of x. What they do is the mode's own `apply`, to which the runs that are
--- written are held; figures and numbers as they are stored.
+-- "Put an inner figure through a run": what the numbers k, in mode m, make of x, both as they are stored. What they do is the mode's own `apply`, by which
+-- runs are composed; `ForwardLaws` says that it is what figure/Run has in the papers' words.
 unfoldable pub forwards : (m : ℕ) → Run → ℤ → ℤ
 forwards m k x = modeOf m .store (modeOf m .context .apply (modeOf m .readRun k) (modeOf m .read x))
 

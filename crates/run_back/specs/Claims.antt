@@ -54,19 +54,20 @@ runIn m c w = take (runLength m) (drop (runLength m * c) w)
 abbrev pub outerOf : (m : ℕ) → List (Level (modeOf m .algebra)) → ℤ → ℤ
 outerOf m ls x = modeOf m .store (through (modeOf m .algebra) ls (modeOf m .read x))
 
--- The bytes b are the run of the levels ls in mode m: never 15; in modes 1 and 4 each y within 17's bounds comes back to the one inner figure that
--- the levels themselves lead to y, and in modes 2 and 5 each is refused 16.
-pub record TakenBack (m : ℕ) (ls : List (Level (modeOf m .algebra))) (b : List ℕ) : Type 0 where
+-- The bytes b are a run of mode m by 15, and make of each x what the levels ls make of it. In modes 1 and 4 each y within 17's bounds gets the one inner
+-- figure from which the levels lead to y; in modes 2 and 5 each gets 16.
+pub record AcceptedRun (m : ℕ) (ls : List (Level (modeOf m .algebra))) (b : List ℕ) : Type 0 where
   pub is : IsRunBytes b
   pub mode-is : modeAt b ≡ m
-  pub same : (x : ℤ) → forwards m (runAt b) x ≡ outerOf m ls x
+  pub as-levels : (x : ℤ) → forwards m (runAt b) x ≡ outerOf m ls x
   pub back : (y : ℤ) → Taken m y → (x : ℤ) × (backwardsOutcome b y ≡ result x) × TheOnly m (outerOf m ls) y x
   pub no-way : (m ≡ 2) ⊎ (m ≡ 5) → (y : ℤ) → backwardsOutcome b y ≡ refused 16
 
--- The bytes w that `runs` writes of a row: one run for each line of the plan, in plan order, and each is taken.
-pub record AllTakenBack (row w : List ℕ) : Type 0 where
+-- The bytes w that `runs` writes of a row: one run for each line of the plan, in plan order, and each is accepted. Line c is there, so the default d
+-- of the list is never taken.
+pub record AcceptedRuns (row w : List ℕ) : Type 0 where
   pub summaries : Summaries
   pub let-through : (askRow (rowPieces row) ≡ result summaries) × (askLog summaries ≡ result summaries)
   pub bytes : length w ≡ runLength (summaries .mode) * length (planOfRow (summaries .row))
-  pub each : (c : ℕ) (e : Line) → c < length (planOfRow (summaries .row)) → getD (planOfRow (summaries .row)) c e ≡ e →
-      TakenBack (summaries .mode) (runLevels (modeOf (summaries .mode) .algebra) (summaries .row) e) (runIn (summaries .mode) c w)
+  pub each : (c : ℕ) (d : Line) → c < length (planOfRow (summaries .row)) →
+      AcceptedRun (summaries .mode) (runLevels (modeOf (summaries .mode) .algebra) (summaries .row) (getD (planOfRow (summaries .row)) c d)) (runIn (summaries .mode) c w)

@@ -131,7 +131,7 @@ module _ (k : Run) where
       (λ r. ((((r .first-near (λ e. omega arith), first-of 5 (λ e. omega arith) (r .second-near (λ e. omega arith))), r .third-near (λ e. omega arith)), r .fourth-near refl), r .ordered refl))
       (tells-and (tells-and (tells-and (tells-and (tells-near (k .first)) (tells-near (k .second))) (tells-near (k .third))) (tells-near (k .fourth))) (tells-order (k .third) (k .fourth)))
 
-pub tells-numbers : (m : ℕ) (k : Run) → modeInUse m ≡ true → Tells (RunNumbers m k) (numbersFit m k)
+tells-numbers : (m : ℕ) (k : Run) → modeInUse m ≡ true → Tells (RunNumbers m k) (numbersFit m k)
 unfolding numbersFit modeInUse
 tells-numbers zero k u = false-true u
 tells-numbers (suc zero) k u = tells-net k

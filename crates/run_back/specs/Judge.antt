@@ -32,7 +32,7 @@ pub record RunNumbers (m : ℕ) (k : Run) : Type 0 where
   -- "unused numbers not 0"
   pub second-unused : m ≡ 1 → k .second ≡ pos 0
   pub third-unused : (m ≡ 1) ⊎ (m ≡ 4) → k .third ≡ pos 0
-  -- "in modes 1, 2 and 5 a number beyond ±10^14 that is not the -2^63 allowed for A in mode 2"
+  -- "in modes 1, 2 and 5 a number beyond ±10^14 that is not the -2^63 allowed for A in mode 2": the layout leaves these modes and 4
   pub first-near : m ≢ 4 → Near (k .first)
   pub second-near : m ≢ 4 → Near (k .second) ⊎ ((m ≡ 2) × (k .second ≡ nothing))
   pub third-near : m ≢ 4 → Near (k .third)

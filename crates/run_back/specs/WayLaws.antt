@@ -2,39 +2,26 @@
 use mathlib.Core.Path.{_≡_, refl, sym, ap, _∙_}
 use mathlib.Core.Logic.{inl, inr}
 use mathlib.Core.Bool.{true}
+use mathlib.Core.List.{[]}
 use Prim.Native.Nat.{ℕ, _+_, _-_, _*_, _/_, _%_, _^_, _<_}
-use native.Mathlib.Nat.{div-add-mod, mod-eq-of-lt}
+use native.Mathlib.Nat.{div-add-mod}
 use native.Mathlib.Omega.{arith}
-use lib.IntN.{ℤ, pos, natAbs, _+ℤ_, _-ℤ_, +ℤ-negℤ-cancel, -ℤ-+ℤ-cancel}
+use lib.IntN.{ℤ, natAbs, _-ℤ_, +ℤ-negℤ-cancel, -ℤ-+ℤ-cancel}
 use Rattle.number.specs.Modulo.{mod-unique, times-mod}
-use Rattle.figure.specs.FourModes.{Stamp, storeStamp, readStamp, isStamp}
+use Rattle.algebra.specs.Run.{Level, runOn, run}
+use Rattle.figure.specs.FourModes.{stamp, stampOf, Stamp, storeStamp, readStamp, isStamp}
 use Rattle.figure.specs.ModeLaws.{stamp-≡}
 use Rattle.figure.specs.Run.{Affine, affine, readStampRun}
+use Rattle.figure.specs.Runs.{stampContext}
 use Rattle.figure.specs.StoreLaws.{is-stamp, stamp-is, stamp-back}
 use Rattle.figure.specs.Mode.{modeOf}
 use Rattle.figure.specs.declared.Run.{Run}
 use Rattle.run_back.specs.Judge.{RunNumbers}
-use Rattle.run_back.specs.Inverse.{inverse}
+use Rattle.run_back.specs.Inverse.{newton, inverse}
 use Rattle.run_back.specs.InverseLaws.{inverse-product}
 use Rattle.run_back.specs.Backwards.{forwards, backNet, backStamp, innerOf}
+use Rattle.run_back.specs.ForwardLaws.{stamp-num}
 use Rattle.run_back.specs.Claims.{TheOnly, Taken}
-
--- ---- what a run does, in plain numbers
-
--- "(a,0,0), x + a"
-pub net-plain : (k : Run) (x : ℤ) → forwards 1 k x ≡ x +ℤ k .first
-unfolding forwards modeOf
-net-plain k x = refl
-
--- a number that stands for a stamp is that stamp's
-pub stamp-num : (z : ℤ) → isStamp z ≡ true → readStamp z .num ≡ natAbs z
-stamp-num z s = ap natAbs (is-stamp z s)
-
--- "(m,q,0), m·x + q modulo 2^32"
-pub stamp-plain : (k : Run) (x : ℕ) → isStamp (k .first) ≡ true → isStamp (k .second) ≡ true → x < 2 ^ 32 →
-    forwards 4 k (pos x) ≡ pos ((natAbs (k .first) * x + natAbs (k .second)) % 2 ^ 32)
-unfolding forwards modeOf
-stamp-plain k x m q h = rw (stamp-num (k .first) m, stamp-num (k .second) q, mod-eq-of-lt h) refl
 
 -- ---- mode 1
 
@@ -49,12 +36,12 @@ net-way k y = record {
 -- ---- mode 4
 
 -- m times its inverse i is 1 + N w; d is -q. With z = i (y - q), m z + q is y, ..
-leads : (m i w q d y N z v : ℕ) → m * i ≡ N * w + 1 → d + q ≡ N → N * v + z ≡ i * (y + d) → y + N * (1 + w * (y + d)) ≡ m * z + q + N * (m * v)
-leads m i w q d y N z v h hd hz = omega (arith, hd, ap (λ (t : ℕ). m * t) hz, ap (λ (t : ℕ). t * (y + d)) h)
+leads-num : (m i w q d y N z v : ℕ) → m * i ≡ N * w + 1 → d + q ≡ N → N * v + z ≡ i * (y + d) → y + N * (1 + w * (y + d)) ≡ m * z + q + N * (m * v)
+leads-num m i w q d y N z v h hd hz = omega (arith, hd, ap (λ (t : ℕ). m * t) hz, ap (λ (t : ℕ). t * (y + d)) h)
 
 -- .. and where m x + q is y, x is i (y - q).
-only : (m i w q d x y N v : ℕ) → m * i ≡ N * w + 1 → d + q ≡ N → N * v + y ≡ m * x + q → x + N * (w * x + i) ≡ i * (y + d) + N * (i * v)
-only m i w q d x y N v h hd hy = omega (arith, ap (λ (t : ℕ). i * t) hd, ap (λ (t : ℕ). i * t) hy, ap (λ (t : ℕ). t * x) h)
+only-num : (m i w q d x y N v : ℕ) → m * i ≡ N * w + 1 → d + q ≡ N → N * v + y ≡ m * x + q → x + N * (w * x + i) ≡ i * (y + d) + N * (i * v)
+only-num m i w q d x y N v h hd hy = omega (arith, ap (λ (t : ℕ). i * t) hd, ap (λ (t : ℕ). i * t) hy, ap (λ (t : ℕ). t * x) h)
 
 module _ (k : Affine) (y : Stamp) (odd : k .times .num % 2 ≡ 1) where
   abbrev i : ℕ
@@ -71,14 +58,14 @@ module _ (k : Affine) (y : Stamp) (odd : k .times .num % 2 ≡ 1) where
 
   affine-back-leads : affine k (backStamp k y) ≡ y
   affine-back-leads = stamp-≡ (sym (mod-unique (y .num) (k .times .num * backStamp k y .num + k .plus .num) (1 + k .times .num * i / 2 ^ 32 * (y .num + d)) (k .times .num * (i * (y .num + d) / 2 ^ 32)) (2 ^ 32) (y .small)
-      (leads (k .times .num) i (k .times .num * i / 2 ^ 32) (k .plus .num) d (y .num) (2 ^ 32) (backStamp k y .num) (i * (y .num + d) / 2 ^ 32) unit whole (div-add-mod (i * (y .num + d)) (2 ^ 32)))))
+      (leads-num (k .times .num) i (k .times .num * i / 2 ^ 32) (k .plus .num) d (y .num) (2 ^ 32) (backStamp k y .num) (i * (y .num + d) / 2 ^ 32) unit whole (div-add-mod (i * (y .num + d)) (2 ^ 32)))))
 
   affine-back-only : (x : Stamp) → affine k x ≡ y → x ≡ backStamp k y
   affine-back-only x e =
       let n : ℕ = k .times .num * x .num + k .plus .num in
       let hy : 2 ^ 32 * (n / 2 ^ 32) + y .num ≡ n = ap (λ (s : Stamp). 2 ^ 32 * (n / 2 ^ 32) + s .num) (sym e) ∙ div-add-mod n (2 ^ 32) in
       stamp-≡ (mod-unique (x .num) (i * (y .num + d)) (k .times .num * i / 2 ^ 32 * x .num + i) (i * (n / 2 ^ 32)) (2 ^ 32) (x .small)
-      (only (k .times .num) i (k .times .num * i / 2 ^ 32) (k .plus .num) d (x .num) (y .num) (2 ^ 32) (n / 2 ^ 32) unit whole hy))
+      (only-num (k .times .num) i (k .times .num * i / 2 ^ 32) (k .plus .num) d (x .num) (y .num) (2 ^ 32) (n / 2 ^ 32) unit whole hy))
 
 stamp-way : (k : Run) (y : ℤ) → isStamp (k .first) ≡ true → natAbs (k .first) % 2 ≡ 1 → isStamp y ≡ true → TheOnly 4 (forwards 4 k) y (storeStamp (backStamp (readStampRun k) (readStamp y)))
 unfolding forwards modeOf
@@ -93,6 +80,15 @@ stamp-way k y t o s = record {
 
     odd : readStampRun k .times .num % 2 ≡ 1
     odd = ap (λ (n : ℕ). n % 2) (stamp-num (k .first) t) ∙ o
+
+pub inverse-31 : inverse 31 ≡ 3_186_588_639
+unfolding newton inverse
+inverse-31 = refl
+
+-- "For one level the way back multiplies by 3,186,588,639."
+pub one-level : (l : Level stamp) (y : Stamp) → backStamp (run stampContext l []) y ≡ stampOf (3_186_588_639 * (y .num + (2 ^ 32 - run stampContext l [] .plus .num)))
+unfolding runOn
+one-level l y = ap (λ (i : ℕ). stampOf (i * (y .num + (2 ^ 32 - run stampContext l [] .plus .num)))) inverse-31
 
 -- ---- both
 

@@ -1,4 +1,4 @@
--- The runs that the call `runs` writes are taken, each one: never 15, in modes 1 and 4 answered with the inner figure that the log itself leads to y,
+-- The runs that the call `runs` writes are accepted, each one: never 15, in modes 1 and 4 answered with the inner figure from which the levels lead to y,
 -- in modes 2 and 5 refused 16. Assumes nothing.
 use mathlib.Core.Path.{_≡_, refl, sym, ap, subst, _∙_}
 use mathlib.Core.Logic.{_⊎_, inl, inr}
@@ -35,7 +35,6 @@ use Rattle.summary.specs.Layout.{i64Bytes, SummaryIn}
 use Rattle.summary.specs.Judge.{lengthAt, kindAt, modeAt}
 use Rattle.summary.specs.ReadBack.{number-back}
 use Rattle.summary.specs.Tests.{false-true}
-use Rattle.summary.specs.Accepted.{mode-used}
 use Rattle.hill.specs.Verdict.{pass}
 use Rattle.join_plan.specs.Plan.{Line, planOfRow}
 use Rattle.plan_work.specs.Gate.{rowFault}
@@ -43,14 +42,13 @@ use Rattle.plan_work.specs.Fair.{ValidRow}
 use Rattle.plan_work.specs.Runs.{runLevels, runOf, runsAlong, runsOf}
 use Rattle.plan_work.specs.RunsExact.{run-length, run-sound, line-spans, runs-count}
 use Rattle.plan_work.specs.WorkSizes.{levels-light, load-fits}
-use Rattle.outcome.specs.Outcomes.{hasFourth, runLength, runBytes, eachRun, firstMode, Summaries, askRow, askLog, runsBytes, runsOutcome}
-use Rattle.outcome.specs.Laws.{AllIn}
-use Rattle.outcome.specs.Through.{Found, ask-found, log-found, valid-row}
+use Rattle.outcome.specs.Outcomes.{hasFourth, runLength, runBytes, eachRun, Summaries, askRow, askLog, runsBytes, runsOutcome}
+use Rattle.outcome.specs.Through.{LetThrough, log-found, let-through}
 use Rattle.outcome.specs.RunLaws.{length-most, length-run, length-each}
 use Rattle.run_back.specs.Judge.{runAt, Near, RunNumbers, IsRunBytes}
 use Rattle.run_back.specs.DecideLaws.{net-numbers, heaviest-numbers, stamp-numbers, eaten-numbers}
 use Rattle.run_back.specs.Backwards.{forwards, innerOf, backwardsOutcome}
-use Rattle.run_back.specs.Claims.{TheOnly, Taken, runIn, outerOf, TakenBack, AllTakenBack}
+use Rattle.run_back.specs.Claims.{TheOnly, Taken, runIn, outerOf, AcceptedRun, AcceptedRuns}
 use Rattle.run_back.specs.CallLaws.{answer-is, only-inner, turns-away}
 
 -- ---- a run is read back from its bytes
@@ -131,15 +129,15 @@ stamp-stored : (k : Affine) → (isStamp (storeStamp (k .times)) ≡ true) × (i
 stamp-stored k = (stamp-is (storeStamp (k .times)) (ap storeStamp (stamp-back (k .times))), stamp-is (storeStamp (k .plus)) (ap storeStamp (stamp-back (k .plus))))
 
 module _ (m : ℕ) where
-  abbrev most : List (Level (modeOf m .algebra)) → Type 0
-  most ls = costs (modeOf m .sizes) ls ≤ 100_000_000_000_000
+  abbrev Light : List (Level (modeOf m .algebra)) → Type 0
+  Light ls = costs (modeOf m .sizes) ls ≤ 100_000_000_000_000
 
   within : (l : Level (modeOf m .algebra)) (ls : List (Level (modeOf m .algebra))) → AllSound InRange (l ∷ ls) →
       modeOf m .runSizes .Within (run (modeOf m .context) l ls) (costs (modeOf m .sizes) ls + cost (modeOf m .sizes) l)
   within l ls s = run-within (modeOf m .runSizes) (modeOf m .context .level l) ls (cost (modeOf m .sizes) l) (s .1) (modeOf m .runSizes .within-level l (s .0))
 
 -- "Its numbers are within the bounds", and the multiplier is odd.
-numbers-written : (m : ℕ) → modeInUse m ≡ true → (l : Level (modeOf m .algebra)) (ls : List (Level (modeOf m .algebra))) → AllSound InRange (l ∷ ls) → most m (l ∷ ls) →
+numbers-written : (m : ℕ) → modeInUse m ≡ true → (l : Level (modeOf m .algebra)) (ls : List (Level (modeOf m .algebra))) → AllSound InRange (l ∷ ls) → Light m (l ∷ ls) →
     RunNumbers m (modeOf m .storeRun (run (modeOf m .context) l ls))
 unfolding modeOf modeInUse
 numbers-written zero u l ls s h = false-true u
@@ -158,22 +156,22 @@ numbers-written (suc (suc (suc (suc (suc zero))))) u l ls s h =
     (run-fine (modeOf 5 .context) (modeOf 5 .context .level l) ls (modeOf 5 .context .level-fine l (s .0)) (s .1))
 numbers-written (suc (suc (suc (suc (suc (suc m)))))) u l ls s h = absurd (omega (arith, mode-small (suc (suc (suc (suc (suc (suc m)))))) u))
 
-no-fourth : (m : ℕ) → modeInUse m ≡ true → (k : modeOf m .context .K) → hasFourth m ≡ false → modeOf m .storeRun k .fourth ≡ pos 0
+fourth-0 : (m : ℕ) → modeInUse m ≡ true → (k : modeOf m .context .K) → hasFourth m ≡ false → modeOf m .storeRun k .fourth ≡ pos 0
 unfolding modeOf modeInUse
-no-fourth zero u k e = false-true u
-no-fourth (suc zero) u k e = refl
-no-fourth (suc (suc zero)) u k e = refl
-no-fourth (suc (suc (suc zero))) u k e = false-true u
-no-fourth (suc (suc (suc (suc zero)))) u k e = refl
-no-fourth (suc (suc (suc (suc (suc zero))))) u k e = false-true (sym e)
-no-fourth (suc (suc (suc (suc (suc (suc m)))))) u k e = absurd (omega (arith, mode-small (suc (suc (suc (suc (suc (suc m)))))) u))
+fourth-0 zero u k e = false-true u
+fourth-0 (suc zero) u k e = refl
+fourth-0 (suc (suc zero)) u k e = refl
+fourth-0 (suc (suc (suc zero))) u k e = false-true u
+fourth-0 (suc (suc (suc (suc zero)))) u k e = refl
+fourth-0 (suc (suc (suc (suc (suc zero))))) u k e = false-true (sym e)
+fourth-0 (suc (suc (suc (suc (suc (suc m)))))) u k e = absurd (omega (arith, mode-small (suc (suc (suc (suc (suc (suc m)))))) u))
 
--- ---- the run of nested levels is taken
+-- ---- the run of nested levels is accepted
 
 only-same : {m : ℕ} {f g : ℤ → ℤ} {y x : ℤ} → ((z : ℤ) → f z ≡ g z) → TheOnly m f y x → TheOnly m g y x
 only-same {m} {f} {g} {y} {x} e t = record { inner = t .inner; leads = sym (e x) ∙ t .leads; only = λ z i h. t .only z i (e z ∙ h) }
 
-module _ (m : ℕ) (u : modeInUse m ≡ true) (l : Level (modeOf m .algebra)) (ls : List (Level (modeOf m .algebra))) (s : AllSound InRange (l ∷ ls)) (h : most m (l ∷ ls)) where
+module _ (m : ℕ) (u : modeInUse m ≡ true) (l : Level (modeOf m .algebra)) (ls : List (Level (modeOf m .algebra))) (s : AllSound InRange (l ∷ ls)) (h : Light m (l ∷ ls)) where
   abbrev k : modeOf m .context .K
   k = run (modeOf m .context) l ls
 
@@ -190,23 +188,23 @@ module _ (m : ℕ) (u : modeInUse m ≡ true) (l : Level (modeOf m .algebra)) (l
   mode-is = mode-read m (modeOf m .storeRun k) u
 
   is : IsRunBytes b
-  is = is-run m (modeOf m .storeRun k) fits (no-fourth m u k) u (numbers-written m u l ls s h)
+  is = is-run m (modeOf m .storeRun k) fits (fourth-0 m u k) u (numbers-written m u l ls s h)
 
-  same : (x : ℤ) → forwards m (runAt b) x ≡ outerOf m (l ∷ ls) x
+  as-levels : (x : ℤ) → forwards m (runAt b) x ≡ outerOf m (l ∷ ls) x
   unfolding forwards
-  same x =
-      ap (λ (r : Run). modeOf m .store (modeOf m .context .apply (modeOf m .readRun r) (modeOf m .read x))) (run-read m (modeOf m .storeRun k) fits (no-fourth m u k))
+  as-levels x =
+      ap (λ (r : Run). modeOf m .store (modeOf m .context .apply (modeOf m .readRun r) (modeOf m .read x))) (run-read m (modeOf m .storeRun k) fits (fourth-0 m u k))
       ∙ ap (λ (j : modeOf m .context .K). modeOf m .store (modeOf m .context .apply j (modeOf m .read x))) (modeOf m .run-back k (costs (modeOf m .sizes) ls + cost (modeOf m .sizes) l) (within m l ls s) few)
       ∙ ap (modeOf m .store) (run-is (modeOf m .context) l ls s (modeOf m .read x))
 
-  taken-back : TakenBack m (l ∷ ls) b
-  taken-back = record {
+  accepted-run : AcceptedRun m (l ∷ ls) b
+  accepted-run = record {
     is = is;
     mode-is = mode-is;
-    same = same;
+    as-levels = as-levels;
     back = λ y t.
         let e : backwardsOutcome b y ≡ result (innerOf (modeAt b) (runAt b) y) = answer-is b y is (subst (λ (n : ℕ). Taken n y) (sym mode-is) t) in
-        (innerOf (modeAt b) (runAt b) y, e, only-same same (subst (λ (n : ℕ). TheOnly n (forwards n (runAt b)) y (innerOf (modeAt b) (runAt b) y)) mode-is (only-inner b y (innerOf (modeAt b) (runAt b) y) e)));
+        (innerOf (modeAt b) (runAt b) y, e, only-same as-levels (subst (λ (n : ℕ). TheOnly n (forwards n (runAt b)) y (innerOf (modeAt b) (runAt b) y)) mode-is (only-inner b y (innerOf (modeAt b) (runAt b) y) e)));
     no-way = λ w y. turns-away b y .by-16 .1 (is, subst (λ (n : ℕ). (n ≡ 2) ⊎ (n ≡ 5)) (sym mode-is) w);
   }
 
@@ -221,30 +219,30 @@ next-in L c x y e =
     ap (λ (n : ℕ). take L (drop n (x ++ y))) (mul-suc L c ∙ add-comm (L * c) L ∙ ap (λ (n : ℕ). n + L * c) (sym e)) ∙ ap (take L) (drop-append-add x y (L * c))
 
 module _ (m : ℕ) (u : modeInUse m ≡ true) (row : List (SummaryIn m)) (v : ValidRow (modeOf m .algebra) (modeOf m .sizes) row) (passes : rowFault row ≡ pass) where
-  -- The run of these levels, and that it is taken.
-  abbrev Takes : List (Level (modeOf m .algebra)) → Type 0
-  Takes ls = (k : modeOf m .context .K) × (runOf (modeOf m .context) ls ≡ k ∷ []) × TakenBack m ls (runBytes m (modeOf m .storeRun k))
+  -- The run of these levels, and that it is accepted.
+  abbrev Accepts : List (Level (modeOf m .algebra)) → Type 0
+  Accepts ls = (k : modeOf m .context .K) × (runOf (modeOf m .context) ls ≡ k ∷ []) × AcceptedRun m ls (runBytes m (modeOf m .storeRun k))
 
-  takes-levels : (ls : List (Level (modeOf m .algebra))) → 0 < length ls → AllSound InRange ls → most m ls → Takes ls
-  takes-levels [] p s h = absurd (omega arith)
-  takes-levels (l ∷ ls) p s h = (run (modeOf m .context) l ls, refl, taken-back m u l ls s h)
+  accepts-levels : (ls : List (Level (modeOf m .algebra))) → 0 < length ls → AllSound InRange ls → Light m ls → Accepts ls
+  accepts-levels [] p s h = absurd (omega arith)
+  accepts-levels (l ∷ ls) p s h = (run (modeOf m .context) l ls, refl, accepted-run m u l ls s h)
 
-  takes-line : (e : Line) → List·Memᴰ e (planOfRow row) → Takes (runLevels (modeOf m .algebra) row e)
-  takes-line e i =
+  accepts-line : (e : Line) → List·Memᴰ e (planOfRow row) → Accepts (runLevels (modeOf m .algebra) row e)
+  accepts-line e i =
       let 𝒜 = modeOf m .algebra in
       let 𝒮 = modeOf m .sizes in
       let n : (e .lowest ≤ e .highest) × (length (runLevels 𝒜 row e) ≡ suc (e .highest) - e .lowest) = run-length 𝒜 row e i in
-      takes-levels (runLevels 𝒜 row e) (omega arith) (run-sound 𝒜 𝒮 InRange (λ r s. s) row e v)
+      accepts-levels (runLevels 𝒜 row e) (omega arith) (run-sound 𝒜 𝒮 InRange (λ r s. s) row e v)
       (omega (arith, levels-light 𝒜 𝒮 row v e (line-spans 𝒜 row e i), load-fits 𝒜 𝒮 row v (modeOf m .laws) (modeOf m .commutative) passes (modeOf m .unit-small)))
 
-  each-taken : (es : List Line) → ((e : Line) → List·Memᴰ e es → List·Memᴰ e (planOfRow row)) → (c : ℕ) (e : Line) → c < length es → getD es c e ≡ e →
-      TakenBack m (runLevels (modeOf m .algebra) row e) (runIn m c (eachRun m (runsAlong (modeOf m .context) row es)))
+  each-accepted : (es : List Line) → ((e : Line) → List·Memᴰ e es → List·Memᴰ e (planOfRow row)) → (c : ℕ) (d : Line) → c < length es →
+      AcceptedRun m (runLevels (modeOf m .algebra) row (getD es c d)) (runIn m c (eachRun m (runsAlong (modeOf m .context) row es)))
   unfolding runsAlong
-  each-taken [] f c e l q = absurd (omega arith)
-  each-taken (d ∷ es) f c e l q = rw (t .1) (go c l q (λ n. each-taken es (λ a i. f a (List·Memᴰ·tail i)) n e))
+  each-accepted [] f c d l = absurd (omega arith)
+  each-accepted (e ∷ es) f c d l = rw (t .1) (go c l (λ n. each-accepted es (λ a i. f a (List·Memᴰ·tail i)) n d))
     where
-      t : Takes (runLevels (modeOf m .algebra) row d)
-      t = takes-line d (f d (List·Memᴰ·head refl))
+      t : Accepts (runLevels (modeOf m .algebra) row e)
+      t = accepts-line e (f e (List·Memᴰ·head refl))
 
       first : List ℕ
       first = runBytes m (modeOf m .storeRun (t .0))
@@ -252,53 +250,42 @@ module _ (m : ℕ) (u : modeInUse m ≡ true) (row : List (SummaryIn m)) (v : Va
       rest : List ℕ
       rest = eachRun m (runsAlong (modeOf m .context) row es)
 
-      Here : List ℕ → Type 0
-      Here b = TakenBack m (runLevels (modeOf m .algebra) row e) b
+      Here : (c : ℕ) → List ℕ → Type 0
+      Here c b = AcceptedRun m (runLevels (modeOf m .algebra) row (getD (e ∷ es) c d)) b
 
-      go : (c : ℕ) → c < length (d ∷ es) → getD (d ∷ es) c e ≡ e → ((n : ℕ) → n < length es → getD es n e ≡ e → Here (runIn m n rest)) → Here (runIn m c (first ++ rest))
-      go zero l q later =
-          subst Here (sym (first-in (runLength m) first rest (length-run m (modeOf m .storeRun (t .0))))) (subst (λ (a : Line). TakenBack m (runLevels (modeOf m .algebra) row a) first) q (t .2))
-      go (suc c) l q later = subst Here (sym (next-in (runLength m) c first rest (length-run m (modeOf m .storeRun (t .0))))) (later c (omega arith) q)
+      go : (c : ℕ) → c < length (e ∷ es) → ((n : ℕ) → n < length es → Here (suc n) (runIn m n rest)) → Here c (runIn m c (first ++ rest))
+      go zero l later = subst (Here 0) (sym (first-in (runLength m) first rest (length-run m (modeOf m .storeRun (t .0))))) (t .2)
+      go (suc c) l later = subst (Here (suc c)) (sym (next-in (runLength m) c first rest (length-run m (modeOf m .storeRun (t .0))))) (later c (omega arith))
 
 -- ---- what the call writes
 
-all-used : (m : ℕ) (ps : List (List ℕ)) → AllIn m ps → 2 ≤ length ps → modeInUse m ≡ true
-all-used m [] a l = absurd (omega arith)
-all-used m (p ∷ ps) a l = mode-used m p (a .0)
-
 module _ (row w : List ℕ) (s : Summaries) (asked : askRow (rowPieces row) ≡ result s) (logged : askLog s ≡ result s) (is : runsBytes s ≡ w) where
-  found : Found (rowPieces row) s
-  found = ask-found (rowPieces row) s asked
+  through-all : LetThrough s
+  through-all = let-through (rowPieces row) s s asked logged
 
-  valid : ValidRow (modeOf (s .mode) .algebra) (modeOf (s .mode) .sizes) (s .row)
-  valid = subst (λ (x : Summaries). ValidRow (modeOf (x .mode) .algebra) (modeOf (x .mode) .sizes) (x .row)) (sym (found .are)) (valid-row (firstMode (rowPieces row)) (rowPieces row) (found .all))
-
-  used : modeInUse (s .mode) ≡ true
-  used = subst (λ (x : Summaries). modeInUse (x .mode) ≡ true) (sym (found .are)) (all-used (firstMode (rowPieces row)) (rowPieces row) (found .all) (found .some))
-
-  all-taken : AllTakenBack row w
+  all-accepted : AcceptedRuns row w
   unfolding runsBytes
-  all-taken = record {
+  all-accepted = record {
     summaries = s;
     let-through = (asked, logged);
     bytes = ap length (sym is) ∙ length-each (s .mode) (runsOf (modeOf (s .mode) .context) (s .row))
-        ∙ ap (λ (n : ℕ). runLength (s .mode) * n) (runs-count (modeOf (s .mode) .context) (modeOf (s .mode) .sizes) (λ r f. f) (s .row) valid);
-    each = λ c e l q. subst (λ (b : List ℕ). TakenBack (s .mode) (runLevels (modeOf (s .mode) .algebra) (s .row) e) (runIn (s .mode) c b)) is
-        (each-taken (s .mode) used (s .row) valid (log-found s s logged .0) (planOfRow (s .row)) (λ a i. i) c e l q);
+        ∙ ap (λ (n : ℕ). runLength (s .mode) * n) (runs-count (modeOf (s .mode) .context) (modeOf (s .mode) .sizes) (λ r f. f) (s .row) (through-all .valid));
+    each = λ c d l. subst (λ (b : List ℕ). AcceptedRun (s .mode) (runLevels (modeOf (s .mode) .algebra) (s .row) (getD (planOfRow (s .row)) c d)) (runIn (s .mode) c b)) is
+        (each-accepted (s .mode) (through-all .used) (s .row) (through-all .valid) (through-all .passes) (planOfRow (s .row)) (λ a i. i) c d l);
   }
 
--- EACH RUN THAT IS WRITTEN IS TAKEN, for every row.
-pub runs-taken : (row : List ℕ) (cap : ℕ) (w : List ℕ) → runsOutcome row cap ≡ result w → AllTakenBack row w
+-- EACH RUN THAT IS WRITTEN IS ACCEPTED, of every row.
+pub runs-accepted : (row : List ℕ) (cap : ℕ) (w : List ℕ) → runsOutcome row cap ≡ result w → AcceptedRuns row w
 unfolding runsOutcome
-runs-taken row cap w h = asks (askRow (rowPieces row)) refl h
+runs-accepted row cap w h = asks (askRow (rowPieces row)) refl h
   where
-    logs : (s : Summaries) → askRow (rowPieces row) ≡ result s → (o : Outcome Summaries) → askLog s ≡ o → onward o (λ t. written cap (runsBytes t)) ≡ result w → AllTakenBack row w
+    logs : (s : Summaries) → askRow (rowPieces row) ≡ result s → (o : Outcome Summaries) → askLog s ≡ o → onward o (λ t. written cap (runsBytes t)) ≡ result w → AcceptedRuns row w
     logs s e (refused n) f h = absurd (not-result n w h)
     logs s e (result t) f h =
         let same : s ≡ t = log-found s t f .1 in
         let bytes : runsBytes t ≡ w = result-same (yes 12 (leb (length (runsBytes t)) cap) (result (runsBytes t)) h .1) in
-        all-taken row w s e (f ∙ ap result (sym same)) (ap runsBytes same ∙ bytes)
+        all-accepted row w s e (f ∙ ap result (sym same)) (ap runsBytes same ∙ bytes)
 
-    asks : (o : Outcome Summaries) → askRow (rowPieces row) ≡ o → onward o (λ s. onward (askLog s) (λ t. written cap (runsBytes t))) ≡ result w → AllTakenBack row w
+    asks : (o : Outcome Summaries) → askRow (rowPieces row) ≡ o → onward o (λ s. onward (askLog s) (λ t. written cap (runsBytes t))) ≡ result w → AcceptedRuns row w
     asks (refused n) e h = absurd (not-result n w h)
     asks (result s) e h = logs s e (askLog s) refl h

@@ -101,13 +101,13 @@ pub record AllStamps (b : List ℕ) : Type 0 where
   pub middle : isStamp (middleAt b) ≡ true
   pub helds : (j : ℕ) → j < fallAt b → isStamp (heldAt b j) ≡ true
 
--- "Bytes are a summary if the layout and mode fit."
+-- "Bytes are a summary if the layout and mode fit." A run has such a layout too, of kind 20.
 pub record HasLayout (b : List ℕ) (kind bytes : ℕ) : Type 0 where
   pub kind-fits : kindAt b ≡ kind
   -- as many bytes as the kind asks for, and as the length field says
   pub length-fits : length b ≡ bytes
   pub length-said : lengthAt b ≡ length b
-  -- "The layout and mode fit": "mode 3 gets .. 5 within a summary".
+  -- "The layout and mode fit": "mode 3 gets .. 5 within a summary"; of a run 15 asks it, "a mode out of use".
   pub mode-fits : modeInUse (modeAt b) ≡ true
 
 pub record IsSpoilt (b : List ℕ) : Type 0 where

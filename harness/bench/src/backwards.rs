@@ -2,13 +2,20 @@
 
 use crate::chunks::many;
 use crate::rows::micros;
-use reference::gen::runs::{any_run, figure};
+use reference::backwards::FARTHEST;
+use reference::gen::raw::run;
 use std::hint::black_box;
 use tulghimo::raw;
 
 /// Runs of a mode, each with an outer figure. Every one must be taken.
 fn asked(mode: u16) -> Vec<(Vec<u8>, i64)> {
-    let asked = many(|rng| (any_run(rng, mode), figure(rng, mode)));
+    let asked = many(|rng| match mode {
+        1 => (run(1, &[rng.between(-FARTHEST, FARTHEST), 0, 0]), rng.between(-FARTHEST, FARTHEST)),
+        _ => {
+            let [m, q, y] = [(); 3].map(|_| i64::from(rng.bits() as u32));
+            (run(4, &[m | 1, q, 0]), y)
+        }
+    });
     assert!(asked.iter().all(|(run, y)| raw::backwards(run, *y, &mut [0]) == 0));
     asked
 }
@@ -37,7 +44,7 @@ mod tests {
     fn what_is_timed_is_taken_and_different() {
         for mode in [1, 4] {
             let asked = asked(mode);
-            assert!(asked.iter().collect::<HashSet<_>>().len() > 40, "mode {mode}");
+            assert_eq!(asked.iter().collect::<HashSet<_>>().len(), 48, "mode {mode}");
         }
     }
 }

@@ -19,7 +19,7 @@ is-run-requires : tie.Need-is-run-requires
 is-run-requires c κs = search needs
 
 returns : tie.Need-returns
-returns c = let a = c .before .before .before .args in sym (refused-15 (now (a .run)) (a .outer) (sym (c .before .is-run .ensures) ∙ not-true _ (c .if1 .taken)))
+returns c = let a = c .before .before .before .args in sym (refused-15 (now (a .run)) (a .y) (sym (c .before .is-run .ensures) ∙ not-true _ (c .if1 .taken)))
 
 read-u16-requires : tie.Need-read-u16-requires
 read-u16-requires c κs = six _ (is-run c)
@@ -36,21 +36,21 @@ back-stamp-requires c κs = rw (c .before .read-run .ensures) (run-numbers _ (is
 returns-2 : tie.Need-returns-2
 returns-2 c =
     let s = c .before .before .before .before .before .before .before in
-    (simp (c .before .before .read-run .ensures, toZ-ofZ (s .fits .outer)) at (c .back-net .ensures))
-    ∙ sym (way-net (now (s .args .run)) (s .args .outer) (is-run (c .before .before .before .before)) (sym (c .before .before .before .read-u16 .ensures) ∙ c .before .match .keys1))
+    (simp (c .before .before .read-run .ensures, toZ-ofZ (s .fits .y)) at (c .back-net .ensures))
+    ∙ sym (way-net (now (s .args .run)) (s .args .y) (is-run (c .before .before .before .before)) (sym (c .before .before .before .read-u16 .ensures) ∙ c .before .match .keys1))
 
 returns-3 : tie.Need-returns-3
 returns-3 c =
     let s = c .before .before .before .before .before .before .before in
-    (simp (c .before .before .read-run .ensures, toZ-ofZ (s .fits .outer)) at (c .back-stamp .ensures))
-    ∙ sym (way-stamp (now (s .args .run)) (s .args .outer) (is-run (c .before .before .before .before)) (sym (c .before .before .before .read-u16 .ensures) ∙ c .before .match .keys2))
+    (simp (c .before .before .read-run .ensures, toZ-ofZ (s .fits .y)) at (c .back-stamp .ensures))
+    ∙ sym (way-stamp (now (s .args .run)) (s .args .y) (is-run (c .before .before .before .before)) (sym (c .before .before .before .read-u16 .ensures) ∙ c .before .match .keys2))
 
 returns-4 : tie.Need-returns-4
 returns-4 c =
     let s = c .before .before .before .before .before .before in
     let r = c .match .rest in
     let m = c .before .before .read-u16 .ensures in
-    sym (refused-16 (now (s .args .run)) (s .args .outer) (is-run (c .before .before .before)) (λ e. r .0 .1 (m ∙ e)) (λ e. r .1 (m ∙ e)))
+    sym (refused-16 (now (s .args .run)) (s .args .y) (is-run (c .before .before .before)) (λ e. r .0 .1 (m ∙ e)) (λ e. r .1 (m ∙ e)))
 
 pub backwards-spec : {M : Type 1} → statement M
 backwards-spec =

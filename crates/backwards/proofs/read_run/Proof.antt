@@ -5,7 +5,7 @@ use native.Mathlib.Omega.{arith}
 use mir.Syntax.{w64}
 use Rattle.number.specs.Word.{back}
 use Rattle.outcome.specs.RunLaws.{length-four, length-three, length-least}
-use Rattle.backwards.specs.Laws.{read-four, no-fourth}
+use Rattle.backwards.specs.Laws.{read-four, fourth-past}
 use borrow.Author.Needs.{needs}
 use Rattle.backwards.proofs.read_run.Statement.{statement}
 use Rattle.backwards.proofs.read_run.Tie as tie
@@ -39,7 +39,7 @@ returns-2 c =
     (back w64 (c .before .before .before .before .read-i64 .result) (c .before .before .before .before .read-i64 .ok) ∙ c .before .before .before .before .read-i64 .ensures)
     (back w64 (c .before .before .before .read-i642 .result) (c .before .before .before .read-i642 .ok) ∙ c .before .before .before .read-i642 .ensures)
     (back w64 (c .before .before .read-i643 .result) (c .before .before .read-i643 .ok) ∙ c .before .before .read-i643 .ensures)
-    (no-fourth (now (c .before .before .before .before .before .before .args .b)) (omega (arith, c .before .before .before .before .before .before .pre, length-three (c .before .before .before .before .before .before .args .mode) (sym (c .before .has-fourth .ensures) ∙ c .if1 .left))))
+    (fourth-past (now (c .before .before .before .before .before .before .args .b)) (omega (arith, c .before .before .before .before .before .before .pre, length-three (c .before .before .before .before .before .before .args .mode) (sym (c .before .has-fourth .ensures) ∙ c .if1 .left))))
 
 pub read-run-spec : {M : Type 1} → statement M
 read-run-spec =

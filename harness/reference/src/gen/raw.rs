@@ -134,6 +134,14 @@ pub fn run_numbers(run: &[u8]) -> Vec<i64> {
     run[6..].chunks(8).map(|number| i64::from_le_bytes(number.try_into().expect("8 bytes"))).collect()
 }
 
+/// 2^32.
+pub const RANGE: i64 = 1 << 32;
+
+/// m·x + q modulo 2^32. Of numbers below 2^32 the sum is below 2^64.
+pub fn stamp_forwards(m: i64, q: i64, x: i64) -> i64 {
+    ((m as u64 * x as u64 + q as u64) % RANGE as u64) as i64
+}
+
 /// How many bytes a run of a mode has.
 pub fn run_length(mode: u16) -> usize {
     if mode == 5 {

@@ -92,8 +92,9 @@ pub fn nearly_a_run(rng: &mut Rng) -> Vec<u8> {
             *number = rng.pick(&EDGES);
         }
     }
-    let mut head = [run_length(mode) as u16, 20, mode];
-    for (field, others) in head.iter_mut().zip([[29, 30, 31, 38], [0, 18, 19, 21], [3, 0, 6, 256 + mode]]) {
+    let length = run_length(mode) as u16;
+    let mut head = [length, 20, mode];
+    for (field, others) in head.iter_mut().zip([[length - 1, length + 1, 30, 38], [0, 18, 19, 21], [3, 0, 6, 256 + mode]]) {
         if rng.one_in(10) {
             let any = rng.bits() as u16;
             *field = if rng.one_in(4) { any } else { rng.pick(&others) };
@@ -102,6 +103,10 @@ pub fn nearly_a_run(rng: &mut Rng) -> Vec<u8> {
     let mut out = run_of_fields(head, &numbers);
     if rng.one_in(10) {
         out.resize(out.len() + rng.below(5) - 2, 0);
+        // Now and then the head says as many bytes as there are.
+        if rng.one_in(2) {
+            out[0] = out.len() as u8;
+        }
     }
     out
 }

@@ -3,24 +3,18 @@
 //! `compare`, which has this file too.
 
 use crate::calls::{backwards, plan, runs, summarise};
-use reference::gen::raw::{blank, close, in_mode, log_d, run, run_length, run_of_fields, short, MODES};
+use reference::gen::raw::{
+    blank, close, in_mode, log_d, run, run_length, run_of_fields, short, stamp_forwards as forwards, MODES, RANGE,
+};
 
 /// "±10^14"
 const FAR: i64 = 100_000_000_000_000;
-
-/// 2^32.
-const RANGE: i64 = 4_294_967_296;
 
 /// "for one level the way back multiplies by 3,186,588,639"
 const BACK: i64 = 3_186_588_639;
 
 /// Outer figures at the ends of both ranges, next to them and beyond all.
 const FIGURES: [i64; 13] = [i64::MIN, i64::MIN + 1, -FAR - 1, -FAR, -1, 0, 1, 72, RANGE - 1, RANGE, FAR, FAR + 1, i64::MAX];
-
-/// m·x + q modulo 2^32. Of numbers below 2^32 the sum is below 2^64.
-fn forwards(m: i64, q: i64, x: i64) -> i64 {
-    ((m as u64 * x as u64 + q as u64) % RANGE as u64) as i64
-}
 
 /// A number so many times over as a factor, modulo 2^32.
 fn power(number: i64, times: u32) -> i64 {
@@ -120,7 +114,7 @@ fn log_d_backwards() {
     for (y, x) in [(72, 0), (1033, 1), (1994, 2), (961_072, 1000), (RANGE - 889, RANGE - 1)] {
         assert_eq!(backwards(&run(4, &[961, 72, 0]), y), Ok(x));
     }
-    // Two levels: twice the factor of one.
+    // Two levels: the factor of one, twice.
     assert_eq!(backwards(&run(4, &[961, 72, 0]), 0), Ok(forwards(power(BACK, 2), 0, RANGE - 72)));
     for y in FIGURES {
         assert_eq!(backwards(&run(2, &[15, 7, 15]), y), Err(16));

@@ -3,7 +3,7 @@
 
 use crate::calls::{backwards, day, runs, summarise};
 use reference::gen::logs::{any_log, cut, longest_plan};
-use reference::gen::raw::{close, run, run_length, run_numbers, short, Hill, MODES};
+use reference::gen::raw::{close, run, run_length, run_numbers, short, stamp_forwards, Hill, MODES, RANGE};
 use reference::gen::runs::{any_run, any_y, figure};
 use reference::gen::{forged, Rng};
 use reference::layout::encode;
@@ -12,8 +12,8 @@ use reference::record::{encode_all, Record};
 
 const AMPLE: usize = 8192;
 
-/// 2^32.
-const RANGE: i64 = 1 << 32;
+/// "±10^14"
+const FAR: i64 = 100_000_000_000_000;
 
 /// An x put through a run of mode 1 or 4, by its numbers.
 fn forwards(run: &[u8], x: i64) -> i64 {
@@ -21,7 +21,7 @@ fn forwards(run: &[u8], x: i64) -> i64 {
     if run[4] == 1 {
         return x + numbers[0];
     }
-    ((numbers[0] as u64 * x as u64 + numbers[1] as u64) % RANGE as u64) as i64
+    stamp_forwards(numbers[0], numbers[1], x)
 }
 
 /// A run of mode 1 or 4: back to a y is an x that leads to it, and an x comes back.
@@ -35,7 +35,7 @@ fn there_and_back(rng: &mut Rng, run: &[u8]) {
         let x = figure(rng, mode);
         // In mode 1 the outer figure may be beyond 10^14.
         match backwards(run, forwards(run, x)) {
-            Err(17) => assert!(mode == 1 && forwards(run, x).abs() > 100_000_000_000_000),
+            Err(17) => assert!(mode == 1 && forwards(run, x).abs() > FAR),
             back => assert_eq!(back, Ok(x)),
         }
     }
@@ -77,6 +77,7 @@ fn no_other_x_leads_there() {
         let run = any_run(&mut rng, mode);
         let y = figure(&mut rng, mode);
         let x = backwards(&run, y).expect("a run and a figure in range");
+        assert_eq!(forwards(&run, x), y);
         // Each bit of it changed, its neighbours and any others.
         let bits = (0..32).map(|bit| x ^ (1 << bit));
         let others = [x - 1, x + 1, figure(&mut rng, mode), figure(&mut rng, mode)];
@@ -140,7 +141,7 @@ fn every_run_of_a_row_that_no_chunk_makes_is_one() {
 fn the_farthest_run_is_taken() {
     // 100,000 records of 10^9, or of -10^9, all but one of them held in the one that is open.
     const GRAMS: i32 = 1_000_000_000;
-    for (grams, far) in [(GRAMS, 100_000_000_000_000), (-GRAMS, -100_000_000_000_000)] {
+    for (grams, far) in [(GRAMS, FAR), (-GRAMS, -FAR)] {
         let ends = i64::from(GRAMS);
         let alone = i64::from(grams);
         for mode in [1, 2, 5] {
