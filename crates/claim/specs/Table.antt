@@ -30,7 +30,7 @@ use Rattle.chunk.specs.Chunk.{wholeLog}
 use Rattle.outcome.specs.Day.{figureIn, figuresOf, dayOutcome}
 use Rattle.outcome.specs.Line.{ascii, lineText, dayLine}
 use Rattle.outcome.specs.Outcomes.{twoTo64, askRow, askLog, lineBytes, planBytes, runLength, runBytes, runsBytes, planOutcome, runsOutcome}
-use Rattle.run_back.specs.Decide.{netFits, heaviestFits, stampFits, eatenFits, numbersFit, isRunBytes}
+use Rattle.run_back.specs.Decide.{stampFits, numbersFit, isRunBytes}
 use Rattle.run_back.specs.Inverse.{newton, inverse}
 use Rattle.run_back.specs.Backwards.{innerOf, outerFits, backwardsOutcome}
 
@@ -126,5 +126,5 @@ AllHold [] = Unit {0}
 AllHold (r ∷ rs) = (r .gives ≡ r .paper) × AllHold rs
 
 pub proved-cases : AllHold table
-unfolding leAt bytesOf minZ maxZ clamp wrap lift lineOf eatenOf storeHeld readHeld atLeast eatenAlong moved runOn firstLength piecesIn rowPieces within inRange accepted whole byShape readOf recordsIn recordsOf modeInUse modeOf joint count cut ends encode decode sumTo nothingIn counted isStamp allTo layoutFits spoiltFits levelsFit openedFits middleFits recordsFit valuesFit hillFits isSummary summaryBytes summariseOutcome finishOutcome leftOpen upTo downFrom select depthsJoined lineFor planOf flatMap levelsDown runLevels runsAlong twoTo64 askRow askLog lineBytes planBytes runLength runBytes runsBytes planOutcome runsOutcome netFits heaviestFits stampFits eatenFits numbersFit isRunBytes newton inverse innerOf outerFits backwardsOutcome digitsIn digitsOf decimalOf ascii lineText dayLine wholeLog figureIn figuresOf dayOutcome
+unfolding leAt bytesOf minZ maxZ clamp wrap lift lineOf eatenOf storeHeld readHeld atLeast eatenAlong moved runOn firstLength piecesIn rowPieces within inRange accepted whole byShape readOf recordsIn recordsOf modeInUse modeOf joint count cut ends encode decode sumTo nothingIn counted isStamp allTo layoutFits spoiltFits levelsFit openedFits middleFits recordsFit valuesFit hillFits isSummary summaryBytes summariseOutcome finishOutcome leftOpen upTo downFrom select depthsJoined lineFor planOf flatMap levelsDown runLevels runsAlong twoTo64 askRow askLog lineBytes planBytes runLength runBytes runsBytes planOutcome runsOutcome stampFits numbersFit isRunBytes newton inverse innerOf outerFits backwardsOutcome digitsIn digitsOf decimalOf ascii lineText dayLine wholeLog figureIn figuresOf dayOutcome
 proved-cases = (refl, (refl, (refl, (refl, (refl, (refl, (refl, (refl, (refl, (refl, (refl, (refl, (refl, (refl, tt))))))))))))))
