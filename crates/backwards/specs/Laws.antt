@@ -13,10 +13,10 @@ use mir.Syntax.{w64}
 use mir.Val.{toZ}
 use Rattle.gate.specs.Outcome.{result, refused, question}
 use Rattle.number.specs.Bytes.{leAt, i64At}
-use Rattle.number.specs.IntegerLaws.{zed, canon, neg-law, abs-law, abs-+}
+use Rattle.number.specs.IntegerLaws.{canon, neg-law, abs-law, abs-+}
 use Rattle.figure.specs.FourModes.{readStamp, isStamp}
 use Rattle.figure.specs.Run.{readStampRun}
-use Rattle.figure.specs.StoreLaws.{is-stamp}
+use Rattle.figure.specs.StoreLaws.{is-stamp, stored-range}
 use Rattle.figure.specs.declared.Run.{Run}
 use Rattle.summary.specs.Judge.{modeAt}
 use Rattle.summary.specs.Decide.{layoutFits}
@@ -100,9 +100,6 @@ module _ (b : List ℕ) where
 
 -- ---- 17, and the way back
 
-pub near-small : (z : ℤ) → near z ≡ true → Near z
-near-small z e = tells-near z .from e
-
 pub abs-diff : (y a : ℤ) → natAbs (y -ℤ a) ≤ natAbs y + natAbs a
 abs-diff y a = omega (arith, abs-+ y (negℤ a), neg-law a, abs-law (negℤ a), abs-law a, canon a, canon (negℤ a))
 
@@ -122,7 +119,7 @@ module _ (k : Run) (y : ℤ) where
   back-stamp-is r n e p h = rw e (ap result (p ∙ ap pos h))
 
 pub stamp-range : (z : ℤ) → isStamp z ≡ true → (pos 0 ≤ℤ z) × (z <ℤ pos 4294967296)
-stamp-range z e = let h = is-stamp z e in omega (zed, h)
+stamp-range z e = stored-range z (is-stamp z e)
 
 -- a stamp by its number
 pub stamp-as : (z : ℤ) (n : ℕ) → isStamp z ≡ true → pos n ≡ z → readStamp z .num ≡ n

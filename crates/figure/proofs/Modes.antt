@@ -4,15 +4,15 @@ use mathlib.Core.Bool.{true}
 use Prim.Native.Nat.{ℕ, zero, suc, _%_, _^_}
 use lib.IntN.{ℤ, pos, _+ℤ_, natAbs}
 use lib.Signed.{_≤ℤ_, _<ℤ_}
-use Rattle.number.specs.IntegerLaws.{zed}
 use Rattle.number.specs.Integer.{up}
+use Rattle.figure.specs.StoreLaws.{stored-range}
 use Rattle.figure.specs.Mode.{Mode, modeOf}
 use Rattle.figure.specs.Stored.{IsStored, sizeOf, combined}
 
 -- a stored stamp is 0 to 2^32 - 1
 pub stamp-range : (z : ℤ) → IsStored (modeOf 4) z → (pos 0 ≤ℤ z) × (z <ℤ pos 4294967296)
 unfolding IsStored modeOf
-stamp-range z e = omega zed
+stamp-range z e = stored-range z e
 
 pub stamp-number : (z : ℤ) → IsStored (modeOf 4) z → up z ≡ up z % 2 ^ 32
 unfolding IsStored modeOf

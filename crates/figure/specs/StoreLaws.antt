@@ -7,7 +7,7 @@ use native.Mathlib.Omega.{arith}
 use lib.Dec.{T, leb, leb·zero, eqb, eqb→eq, lit<}
 use borrow.Author.Tests.{leb-true, le-leb}
 use lib.IntN.{ℤ, pos, negsuc, natAbs}
-use lib.Signed.{_≤ℤ_}
+use lib.Signed.{_≤ℤ_, _<ℤ_}
 use mir.Syntax.{w64}
 use mir.Val.{SFits}
 use Rattle.number.specs.Integer.{maxZ}
@@ -90,6 +90,13 @@ is-stamp (negsuc n) e = absurd (subst T (sym e) tt)
 pub stamp-is : (z : ℤ) → storeStamp (readStamp z) ≡ z → isStamp z ≡ true
 stamp-is (pos n) e = is-stamp-pos n ∙ le-leb n 4294967295 (omega (zed, e))
 stamp-is (negsuc n) e = absurd (omega (zed, e))
+
+pub stored-is : (x : Stamp) → isStamp (storeStamp x) ≡ true
+stored-is x = stamp-is (storeStamp x) (ap storeStamp (stamp-back x))
+
+-- a stored stamp is 0 to 2^32 - 1
+pub stored-range : (z : ℤ) → storeStamp (readStamp z) ≡ z → (pos 0 ≤ℤ z) × (z <ℤ pos 4294967296)
+stored-range z e = omega zed
 
 -- ---- runs
 

@@ -101,6 +101,17 @@ mode-small (suc (suc (suc (suc zero)))) u = omega arith
 mode-small (suc (suc (suc (suc (suc zero))))) u = omega arith
 mode-small (suc (suc (suc (suc (suc (suc m)))))) u = absurd (subst T (sym u ∙ above-out m) tt)
 
+-- What holds in modes 1, 2, 4 and 5 holds in every mode in use.
+pub by-mode : (P : ℕ → Type 0) → P 1 → P 2 → P 4 → P 5 → (m : ℕ) → modeInUse m ≡ true → P m
+unfolding modeInUse
+by-mode P a b c d zero u = absurd (subst T (sym u) tt)
+by-mode P a b c d (suc zero) u = a
+by-mode P a b c d (suc (suc zero)) u = b
+by-mode P a b c d (suc (suc (suc zero))) u = absurd (subst T (sym u) tt)
+by-mode P a b c d (suc (suc (suc (suc zero)))) u = c
+by-mode P a b c d (suc (suc (suc (suc (suc zero))))) u = d
+by-mode P a b c d (suc (suc (suc (suc (suc (suc m)))))) u = absurd (omega (arith, mode-small (suc (suc (suc (suc (suc (suc m)))))) u))
+
 -- nothing held, and what a number counts, by whether nothing held is no number; in mode 4 a number counts 0
 pub none-is : (m : ℕ) → none (modeOf m) ≡ cond (storesNothing m) nothing (pos 0)
 unfolding none modeOf storeHeld

@@ -3,7 +3,7 @@ use mathlib.Core.Path.{_≡_, refl, sym, ap, subst, _∙_}
 use mathlib.Core.Logic.{_≢_, _⊎_, inl, inr}
 use mathlib.Core.Bool.{Bool, true, false}
 use mathlib.Core.List.{List}
-use Prim.Native.Nat.{ℕ, zero, suc}
+use Prim.Native.Nat.{ℕ}
 use native.Mathlib.Omega.{arith}
 use lib.IntN.{ℤ}
 use borrow.Author.Tests.{ne-eqb}
@@ -11,9 +11,9 @@ use Rattle.gate.specs.Outcome.{refused, result, question}
 use Rattle.gate.specs.Laws.{not-result, one-number, result-same}
 use Rattle.figure.specs.FourModes.{isStamp}
 use Rattle.figure.specs.Mode.{modeInUse}
-use Rattle.figure.specs.Stored.{mode-small}
+use Rattle.figure.specs.Stored.{by-mode}
 use Rattle.summary.specs.Judge.{modeAt}
-use Rattle.summary.specs.Tests.{Tells, false-true}
+use Rattle.summary.specs.Tests.{Tells, told-no, no-told}
 use Rattle.run_back.specs.Judge.{runAt, Near, IsRunBytes}
 use Rattle.run_back.specs.Decide.{near, isRunBytes}
 use Rattle.run_back.specs.DecideLaws.{tells-near, decide-run}
@@ -29,26 +29,16 @@ data Asked (m : ℕ) (y : ℤ) : Type 0 where
   beyond : Beyond m y → Asked m y
   taken : Taken m y → Asked m y
 
-test-false : {P : Type 0} {t : Bool} → Tells P t → t ≡ false → ¬ P
-test-false s e p = false-true (sym e ∙ s .to p)
-
 asked-net : (y : ℤ) (t : Bool) → Tells (Near y) t → Asked 1 y
 asked-net y true s = taken (inl (refl, s .from refl))
-asked-net y false s = beyond (inl (refl, test-false s refl))
+asked-net y false s = beyond (inl (refl, told-no s refl))
 
 asked-stamp : (y : ℤ) (t : Bool) → isStamp y ≡ t → Asked 4 y
 asked-stamp y true e = taken (inr (refl, e))
 asked-stamp y false e = beyond (inr (refl, e))
 
 asked : (m : ℕ) (y : ℤ) → modeInUse m ≡ true → Asked m y
-unfolding modeInUse
-asked zero y u = false-true u
-asked (suc zero) y u = asked-net y (near y) (tells-near y)
-asked (suc (suc zero)) y u = no-way (inl refl)
-asked (suc (suc (suc zero))) y u = false-true u
-asked (suc (suc (suc (suc zero)))) y u = asked-stamp y (isStamp y) refl
-asked (suc (suc (suc (suc (suc zero))))) y u = no-way (inr refl)
-asked (suc (suc (suc (suc (suc (suc m)))))) y u = absurd (omega (arith, mode-small (suc (suc (suc (suc (suc (suc m)))))) u))
+asked m y u = by-mode (λ (m : ℕ). Asked m y) (asked-net y (near y) (tells-near y)) (no-way (inl refl)) (asked-stamp y (isStamp y) refl) (no-way (inr refl)) m u
 
 -- ---- what the questions come to
 
@@ -76,11 +66,7 @@ module _ (b : List ℕ) (y : ℤ) where
     no-way-16 (inr e) = refused-16 (λ d. omega arith) (λ d. omega arith)
 
     beyond-17 : Beyond (modeAt b) y → backwardsOutcome b y ≡ refused 17
-    beyond-17 (inl e) = way-net (e .0) ∙ ap (λ (t : Bool). question 17 t (result (innerOf 1 (runAt b) y))) (far (near y) (tells-near y))
-      where
-        far : (t : Bool) → Tells (Near y) t → t ≡ false
-        far true s = absurd (e .1 (s .from refl))
-        far false s = refl
+    beyond-17 (inl e) = way-net (e .0) ∙ ap (λ (t : Bool). question 17 t (result (innerOf 1 (runAt b) y))) (no-told (tells-near y) (e .1))
     beyond-17 (inr e) = way-stamp (e .0) ∙ ap (λ (t : Bool). question 17 t (result (innerOf 4 (runAt b) y))) (e .1)
 
     taken-is : Taken (modeAt b) y → backwardsOutcome b y ≡ result (innerOf (modeAt b) (runAt b) y)
@@ -105,7 +91,7 @@ module _ (b : List ℕ) (y : ℤ) where
     where
       go : (t : Bool) → isRunBytes b ≡ t → Tells (IsRunBytes b) t → Comes
       go true e s = let is : IsRunBytes b = s .from refl in comes-run is e (asked (modeAt b) y (is .layout .mode-fits))
-      go false e s = away-15 (test-false s refl) (refused-15 e)
+      go false e s = away-15 (told-no s refl) (refused-15 e)
 
   only-15 : Comes → backwardsOutcome b y ≡ refused 15 → ¬ IsRunBytes b
   only-15 (away-15 n e) r = n
@@ -132,11 +118,7 @@ module _ (b : List ℕ) (y : ℤ) where
   no-other (answered is w e) k r = absurd (not-result k (innerOf (modeAt b) (runAt b) y) (sym r ∙ e))
 
   not-a-run : ¬ IsRunBytes b → backwardsOutcome b y ≡ refused 15
-  not-a-run n = refused-15 (go (isRunBytes b) (decide-run b))
-    where
-      go : (t : Bool) → Tells (IsRunBytes b) t → t ≡ false
-      go true s = absurd (n (s .from refl))
-      go false s = refl
+  not-a-run n = refused-15 (no-told (decide-run b) n)
 
   pub answer-is : IsRunBytes b → Taken (modeAt b) y → backwardsOutcome b y ≡ result (innerOf (modeAt b) (runAt b) y)
   answer-is is w = taken-is (decide-run b .to is) w

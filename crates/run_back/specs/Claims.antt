@@ -67,7 +67,7 @@ pub record AcceptedRun (m : ℕ) (ls : List (Level (modeOf m .algebra))) (b : Li
 -- of the list is never taken.
 pub record AcceptedRuns (row w : List ℕ) : Type 0 where
   pub summaries : Summaries
-  pub let-through : (askRow (rowPieces row) ≡ result summaries) × (askLog summaries ≡ result summaries)
+  pub asked : (askRow (rowPieces row) ≡ result summaries) × (askLog summaries ≡ result summaries)
   pub bytes : length w ≡ runLength (summaries .mode) * length (planOfRow (summaries .row))
   pub each : (c : ℕ) (d : Line) → c < length (planOfRow (summaries .row)) →
       AcceptedRun (summaries .mode) (runLevels (modeOf (summaries .mode) .algebra) (summaries .row) (getD (planOfRow (summaries .row)) c d)) (runIn (summaries .mode) c w)

@@ -3,16 +3,16 @@ use mathlib.Core.Path.{_≡_, refl, ap}
 use mathlib.Core.Logic.{_≢_, _⊎_, inl, inr}
 use mathlib.Core.Bool.{true}
 use mathlib.Core.List.{List}
-use Prim.Native.Nat.{ℕ, zero, suc, _%_}
+use Prim.Native.Nat.{ℕ, _%_}
 use native.Mathlib.Omega.{arith}
 use lib.IntN.{ℤ, pos, natAbs}
 use lib.Signed.{_≤ℤ_}
 use Rattle.figure.specs.FourModes.{nothing, isStamp}
 use Rattle.figure.specs.Mode.{modeInUse}
-use Rattle.figure.specs.Stored.{mode-small}
+use Rattle.figure.specs.Stored.{by-mode}
 use Rattle.figure.specs.declared.Run.{Run}
 use Rattle.summary.specs.Judge.{modeAt}
-use Rattle.summary.specs.Tests.{Tells, tells-le, tells-eq, tells-true, tells-and, tells-or, tells-then, tells-order, tells-same, tells-also, false-true}
+use Rattle.summary.specs.Tests.{Tells, tells-le, tells-eq, tells-true, tells-and, tells-or, tells-then, tells-order, tells-same, tells-also}
 use Rattle.summary.specs.DecideLaws.{tells-layout}
 use Rattle.outcome.specs.Outcomes.{runLength}
 use Rattle.run_back.specs.Judge.{runAt, Near, RunNumbers, IsRunBytes}
@@ -132,14 +132,8 @@ module _ (k : Run) where
       (tells-and (tells-and (tells-and (tells-and (tells-near (k .first)) (tells-near (k .second))) (tells-near (k .third))) (tells-near (k .fourth))) (tells-order (k .third) (k .fourth)))
 
 tells-numbers : (m : ℕ) (k : Run) → modeInUse m ≡ true → Tells (RunNumbers m k) (numbersFit m k)
-unfolding numbersFit modeInUse
-tells-numbers zero k u = false-true u
-tells-numbers (suc zero) k u = tells-net k
-tells-numbers (suc (suc zero)) k u = tells-heaviest k
-tells-numbers (suc (suc (suc zero))) k u = false-true u
-tells-numbers (suc (suc (suc (suc zero)))) k u = tells-stamp k
-tells-numbers (suc (suc (suc (suc (suc zero))))) k u = tells-eaten k
-tells-numbers (suc (suc (suc (suc (suc (suc m)))))) k u = absurd (omega (arith, mode-small (suc (suc (suc (suc (suc (suc m)))))) u))
+unfolding numbersFit
+tells-numbers m k u = by-mode (λ (m : ℕ). Tells (RunNumbers m k) (numbersFit m k)) (tells-net k) (tells-heaviest k) (tells-stamp k) (tells-eaten k) m u
 
 -- THE TEST TELLS WHICH BYTES ARE A RUN.
 pub decide-run : (b : List ℕ) → Tells (IsRunBytes b) (isRunBytes b)

@@ -22,7 +22,7 @@ abbrev pub Near : ℤ → Type 0
 Near z = natAbs z ≤ 100_000_000_000_000
 
 -- The numbers k of a run in mode m: "Mode 1: (a,0,0) ..", "Mode 2: (z,A,B) ..", "Mode 4: (m,q,0) ..", and in mode 5 "z .., then a, l, h".
--- Turned away by 15:
+-- Beside each clause stand the words for what 15 turns away; the clause says that it is not so.
 pub record RunNumbers (m : ℕ) (k : Run) : Type 0 where
   -- "a mode 4 number outside 0 to 2^32 - 1"
   pub times-stamp : m ≡ 4 → isStamp (k .first) ≡ true

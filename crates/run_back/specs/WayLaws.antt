@@ -13,7 +13,7 @@ use Rattle.figure.specs.FourModes.{stamp, stampOf, Stamp, storeStamp, readStamp
 use Rattle.figure.specs.ModeLaws.{stamp-≡}
 use Rattle.figure.specs.Run.{Affine, affine, readStampRun}
 use Rattle.figure.specs.Runs.{stampContext}
-use Rattle.figure.specs.StoreLaws.{is-stamp, stamp-is, stamp-back}
+use Rattle.figure.specs.StoreLaws.{is-stamp, stored-is, stamp-back}
 use Rattle.figure.specs.Mode.{modeOf}
 use Rattle.figure.specs.declared.Run.{Run}
 use Rattle.run_back.specs.Judge.{RunNumbers}
@@ -70,7 +70,7 @@ module _ (k : Affine) (y : Stamp) (odd : k .times .num % 2 ≡ 1) where
 stamp-way : (k : Run) (y : ℤ) → isStamp (k .first) ≡ true → natAbs (k .first) % 2 ≡ 1 → isStamp y ≡ true → TheOnly 4 (forwards 4 k) y (storeStamp (backStamp (readStampRun k) (readStamp y)))
 unfolding forwards modeOf
 stamp-way k y t o s = record {
-  inner = λ _. stamp-is (storeStamp b) (ap storeStamp (stamp-back b));
+  inner = λ _. stored-is b;
   leads = ap storeStamp (ap (affine (readStampRun k)) (stamp-back b) ∙ affine-back-leads (readStampRun k) (readStamp y) odd) ∙ is-stamp y s;
   only = λ z i e. sym (is-stamp z (i refl)) ∙ ap storeStamp (affine-back-only (readStampRun k) (readStamp y) odd (readStamp z) (sym (stamp-back (affine (readStampRun k) (readStamp z))) ∙ ap readStamp e));
 }
@@ -81,7 +81,7 @@ stamp-way k y t o s = record {
     odd : readStampRun k .times .num % 2 ≡ 1
     odd = ap (λ (n : ℕ). n % 2) (stamp-num (k .first) t) ∙ o
 
-pub inverse-31 : inverse 31 ≡ 3_186_588_639
+inverse-31 : inverse 31 ≡ 3_186_588_639
 unfolding newton inverse
 inverse-31 = refl
 

@@ -21,13 +21,13 @@ use Rattle.number.specs.Modulo.{mod-unique}
 use Rattle.row.specs.Row.{rowPieces}
 use Rattle.algebra.specs.Run.{Level, AllSound, run, runOn, run-is, run-fine}
 use Rattle.algebra.specs.Sizes.{cost, costs, run-within}
-use Rattle.figure.specs.FourModes.{InRange, stamp, storeStamp, storeHeld, isStamp, nothing}
+use Rattle.figure.specs.FourModes.{InRange, stamp, storeHeld, nothing}
 use Rattle.figure.specs.Run.{Affine, HeaviestNumbers, heaviestRun}
 use Rattle.figure.specs.Runs.{stampContext, affineLevel, affineAfter}
 use Rattle.figure.specs.Bound.{sizeHeld}
-use Rattle.figure.specs.StoreLaws.{stamp-is, stamp-back, RunFits}
+use Rattle.figure.specs.StoreLaws.{stored-is, RunFits}
 use Rattle.figure.specs.Mode.{modeOf, modeInUse}
-use Rattle.figure.specs.Stored.{mode-small}
+use Rattle.figure.specs.Stored.{mode-small, by-mode}
 use Rattle.figure.specs.declared.Held.{Held}
 use Rattle.figure.specs.declared.Held.the-variants.{Nothing, Figure}
 use Rattle.figure.specs.declared.Run.{Run}
@@ -125,9 +125,6 @@ unfolding sizeHeld storeHeld
 held-near Nothing s = inr refl
 held-near (Figure z) s = inl s
 
-stamp-stored : (k : Affine) → (isStamp (storeStamp (k .times)) ≡ true) × (isStamp (storeStamp (k .plus)) ≡ true)
-stamp-stored k = (stamp-is (storeStamp (k .times)) (ap storeStamp (stamp-back (k .times))), stamp-is (storeStamp (k .plus)) (ap storeStamp (stamp-back (k .plus))))
-
 module _ (m : ℕ) where
   abbrev Light : List (Level (modeOf m .algebra)) → Type 0
   Light ls = costs (modeOf m .sizes) ls ≤ 100_000_000_000_000
@@ -137,34 +134,39 @@ module _ (m : ℕ) where
   within l ls s = run-within (modeOf m .runSizes) (modeOf m .context .level l) ls (cost (modeOf m .sizes) l) (s .1) (modeOf m .runSizes .within-level l (s .0))
 
 -- "Its numbers are within the bounds", and the multiplier is odd.
-numbers-written : (m : ℕ) → modeInUse m ≡ true → (l : Level (modeOf m .algebra)) (ls : List (Level (modeOf m .algebra))) → AllSound InRange (l ∷ ls) → Light m (l ∷ ls) →
-    RunNumbers m (modeOf m .storeRun (run (modeOf m .context) l ls))
-unfolding modeOf modeInUse
-numbers-written zero u l ls s h = false-true u
-numbers-written (suc zero) u l ls s h = net-numbers _ (omega (arith, within 1 l ls s)) refl refl
-numbers-written (suc (suc zero)) u l ls s h =
+abbrev NumbersFit : ℕ → Type 0
+NumbersFit m = (l : Level (modeOf m .algebra)) (ls : List (Level (modeOf m .algebra))) → AllSound InRange (l ∷ ls) → Light m (l ∷ ls) → RunNumbers m (modeOf m .storeRun (run (modeOf m .context) l ls))
+
+net-written : NumbersFit 1
+unfolding modeOf
+net-written l ls s h = net-numbers _ (omega (arith, within 1 l ls s)) refl refl
+
+heaviest-written : NumbersFit 2
+unfolding modeOf
+heaviest-written l ls s h =
     let w = within 2 l ls s in
     let k : HeaviestNumbers = run (modeOf 2 .context) l ls in
     heaviest-numbers (heaviestRun k) (omega (arith, w .empty-in)) (held-near (k .other) (omega (arith, w .other-in))) (omega (arith, w .add-in))
-numbers-written (suc (suc (suc zero))) u l ls s h = false-true u
-numbers-written (suc (suc (suc (suc zero)))) u l ls s h =
+
+stamp-written : NumbersFit 4
+unfolding modeOf
+stamp-written l ls s h =
     let k : Affine = run (modeOf 4 .context) l ls in
-    stamp-numbers _ (stamp-stored k .0) (stamp-stored k .1) refl (odd-after (affineLevel l) ls refl)
-numbers-written (suc (suc (suc (suc (suc zero))))) u l ls s h =
+    stamp-numbers _ (stored-is (k .times)) (stored-is (k .plus)) refl (odd-after (affineLevel l) ls refl)
+
+eaten-written : NumbersFit 5
+unfolding modeOf
+eaten-written l ls s h =
     let w = within 5 l ls s in
     eaten-numbers _ (omega (arith, w .empty-in)) (omega (arith, w .some-in .add-in)) (omega (arith, w .some-in .low-in)) (omega (arith, w .some-in .high-in))
     (run-fine (modeOf 5 .context) (modeOf 5 .context .level l) ls (modeOf 5 .context .level-fine l (s .0)) (s .1))
-numbers-written (suc (suc (suc (suc (suc (suc m)))))) u l ls s h = absurd (omega (arith, mode-small (suc (suc (suc (suc (suc (suc m)))))) u))
+
+numbers-written : (m : ℕ) → modeInUse m ≡ true → NumbersFit m
+numbers-written m u = by-mode NumbersFit net-written heaviest-written stamp-written eaten-written m u
 
 fourth-0 : (m : ℕ) → modeInUse m ≡ true → (k : modeOf m .context .K) → hasFourth m ≡ false → modeOf m .storeRun k .fourth ≡ pos 0
-unfolding modeOf modeInUse
-fourth-0 zero u k e = false-true u
-fourth-0 (suc zero) u k e = refl
-fourth-0 (suc (suc zero)) u k e = refl
-fourth-0 (suc (suc (suc zero))) u k e = false-true u
-fourth-0 (suc (suc (suc (suc zero)))) u k e = refl
-fourth-0 (suc (suc (suc (suc (suc zero))))) u k e = false-true (sym e)
-fourth-0 (suc (suc (suc (suc (suc (suc m)))))) u k e = absurd (omega (arith, mode-small (suc (suc (suc (suc (suc (suc m)))))) u))
+unfolding modeOf
+fourth-0 m u = by-mode (λ (m : ℕ). (k : modeOf m .context .K) → hasFourth m ≡ false → modeOf m .storeRun k .fourth ≡ pos 0) (λ _ _. refl) (λ _ _. refl) (λ _ _. refl) (λ _ e. false-true (sym e)) m u
 
 -- ---- the run of nested levels is accepted
 
@@ -267,7 +269,7 @@ module _ (row w : List ℕ) (s : Summaries) (asked : askRow (rowPieces row) ≡ 
   unfolding runsBytes
   all-accepted = record {
     summaries = s;
-    let-through = (asked, logged);
+    asked = (asked, logged);
     bytes = ap length (sym is) ∙ length-each (s .mode) (runsOf (modeOf (s .mode) .context) (s .row))
         ∙ ap (λ (n : ℕ). runLength (s .mode) * n) (runs-count (modeOf (s .mode) .context) (modeOf (s .mode) .sizes) (λ r f. f) (s .row) (through-all .valid));
     each = λ c d l. subst (λ (b : List ℕ). AcceptedRun (s .mode) (runLevels (modeOf (s .mode) .algebra) (s .row) (getD (planOfRow (s .row)) c d)) (runIn (s .mode) c b)) is

@@ -1,5 +1,5 @@
 -- Tests that say whether a statement holds. Assumes nothing.
-use mathlib.Core.Path.{_≡_, refl, sym, subst}
+use mathlib.Core.Path.{_≡_, refl, sym, subst, _∙_}
 use mathlib.Core.Logic.{_⊎_, inl, inr}
 use mathlib.Core.Bool.{Bool, true, false, not, _&&_, _||_}
 use Prim.Native.Nat.{ℕ, zero, suc, _≤_, _<_}
@@ -87,6 +87,17 @@ module _ {P Q : Type 0} where
   -- the same test for another wording
   pub tells-also : {t : Bool} → (P → Q) → (Q → P) → Tells P t → Tells Q t
   tells-also f g p = record { to = λ q. p .to (g q); from = λ e. f (p .from e) }
+
+-- what the test says no to does not hold, and the other way round
+pub told-no : {P : Type 0} {t : Bool} → Tells P t → t ≡ false → ¬ P
+told-no p e x = false-true (sym e ∙ p .to x)
+
+pub no-told : {P : Type 0} {t : Bool} → Tells P t → ¬ P → t ≡ false
+no-told {P} {t} p = go t (p .from)
+  where
+    go : (t : Bool) → (t ≡ true → P) → ¬ P → t ≡ false
+    go true f n = absurd (n (f refl))
+    go false f n = refl
 
 pub tells-not : {P : Type 0} {t : Bool} → Tells P t → Tells (¬ P) (not t)
 tells-not {P} {t} p = record { to = to t (p .from); from = from t (p .to) }

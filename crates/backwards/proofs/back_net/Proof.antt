@@ -8,7 +8,8 @@ use mir.Syntax.{w64}
 use Rattle.number.specs.Word.{back}
 use Rattle.number.specs.IntegerLaws.{sfits-abs}
 use Rattle.run_back.specs.Decide.{near}
-use Rattle.backwards.specs.Laws.{abs-diff, near-small, far-net, back-net-is}
+use Rattle.run_back.specs.DecideLaws.{tells-near}
+use Rattle.backwards.specs.Laws.{abs-diff, far-net, back-net-is}
 use borrow.Author.Needs.{needs}
 use Rattle.backwards.proofs.back_net.Statement.{statement}
 use Rattle.backwards.proofs.back_net.Tie as tie
@@ -30,7 +31,7 @@ sub-t6 c =
     let y = a .args .y in
     let n = a .args .k .first in
     simp (back w64 (a .args .k .first) (search needs), toZ-ofZ (a .fits .y))
-    (sfits-abs w64 _ (omega (arith, abs-diff y n, abs-diff n y, a .pre .first-near (λ e. omega arith), near-small y (near-y (c .before)))))
+    (sfits-abs w64 _ (omega (arith, abs-diff y n, abs-diff n y, a .pre .first-near (λ e. omega arith), tells-near y .from (near-y (c .before)))))
 
 returns-2 : tie.Need-returns-2
 returns-2 c =
