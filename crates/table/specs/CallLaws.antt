@@ -9,20 +9,19 @@ use native.Mathlib.Omega.{arith}
 use lib.Dec.{leb, eqb}
 use lib.ListN.{length}
 use borrow.Author.Tests.{le-leb, lt-leb, leb-true, eqb-true}
-use Rattle.gate.specs.Outcome.{Outcome, refused, result, onward, written}
-use Rattle.gate.specs.Laws.{not-result}
+use Rattle.gate.specs.Outcome.{refused, written}
 use Rattle.record.specs.Laws.{and-left, and-right}
 use Rattle.figure.specs.FourModes.{Amounts}
 use Rattle.hill.specs.Log.{Record, openedOf}
 use Rattle.chunk.specs.Chunk.{wholeLog, IsWellFormed}
-use Rattle.chunk.specs.Laws.{IsLog, is-log, log-is, one-log}
-use Rattle.whole_log.specs.Gate.{askOutcome}
+use Rattle.chunk.specs.Laws.{IsLog, log-is, one-log}
+use Rattle.whole_log.specs.AskLaws.{Opens}
 use Rattle.day_table.specs.Table.{tableOf, logOf, nested}
 use Rattle.day_table.specs.Outcomes.{tableLines, tableBytes, allCouldHold, logBytes, writeLogOutcome, readTableOutcome}
 use Rattle.day_table.specs.TableLaws.{table-opened}
 use Rattle.day_table.specs.LineLaws.{length-lines, length-table}
 use Rattle.day_table.specs.CallLaws.{Taken, unreadable, not-nested, no-line, nested-length}
-use Rattle.table.specs.Contracts.{firstNo, Opens, TableFits}
+use Rattle.table.specs.Contracts.{firstNo, TableFits}
 
 -- ---- questions 3, 13 and 10 by one number
 
@@ -85,21 +84,9 @@ pub opens-fit : {log : List ℕ} {opened : ℕ} (o : Opens log opened) {room : �
 opens-fit o h = record { records = o .records; is = o .is .formed; fits = omega (arith, o .count) }
 
 module _ (log : List ℕ) where
-  pub log-opens : {n : ℕ} → result n ≡ askOutcome log → Opens log n
-  unfolding askOutcome
-  log-opens {n} e = go (wholeLog log) refl e
-    where
-      go : (o : Outcome (List (Record Amounts))) → wholeLog log ≡ o → result n ≡ onward o (λ xs. result (openedOf xs)) → Opens log n
-      go (refused k) w e = absurd (not-result k n (sym e))
-      go (result xs) w e = record { records = xs; is = is-log log xs w; count = cc }
-
-  pub read-refused : {n : ℕ} (cap : ℕ) → refused n ≡ askOutcome log → readTableOutcome log cap ≡ refused n
-  unfolding askOutcome readTableOutcome
-  read-refused {n} cap e = go (wholeLog log) e
-    where
-      go : (o : Outcome (List (Record Amounts))) → refused n ≡ onward o (λ xs. result (openedOf xs)) → onward o (λ xs. written cap (tableBytes (tableOf xs))) ≡ refused n
-      go (refused k) e = cc
-      go (result xs) e = absurd (not-result n (openedOf xs) e)
+  pub read-refused : {n : ℕ} (cap : ℕ) → wholeLog log ≡ refused n → readTableOutcome log cap ≡ refused n
+  unfolding readTableOutcome
+  read-refused cap e = rw e
 
   pub table-is : {xs : List (Record Amounts)} (cap : ℕ) → IsLog log xs → readTableOutcome log cap ≡ written cap (tableBytes (tableOf xs))
   unfolding readTableOutcome

@@ -11,7 +11,8 @@ ghost use Rattle.chunk.specs.Chunk.{IsWellFormed};
 ghost use Rattle.day_table.specs.Table.{tableOf, logOf};
 ghost use Rattle.day_table.specs.Outcomes.{tableLines, tableBytes, logBytes, writeLogOutcome, readTableOutcome};
 ghost use Rattle.day_table.specs.CallLaws.{Taken};
-ghost use Rattle.table.specs.Contracts.{firstNo, Opens};
+ghost use Rattle.whole_log.specs.AskLaws.{Opens};
+ghost use Rattle.table.specs.Contracts.{firstNo};
 use gate::Written;
 use whole_log::LogAsked;
 

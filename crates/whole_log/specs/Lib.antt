@@ -3,3 +3,6 @@ pub mod Gate
 pub mod Tallies
 pub mod TallyLaws
 pub mod Pass
+-- What the gate's answer says, and what a pass keeps over a log that was let through.
+pub mod AskLaws
+pub mod Second

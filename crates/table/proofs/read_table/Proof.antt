@@ -5,7 +5,8 @@ use denote.Ref.{now}
 use Rattle.gate.specs.Outcome.{result}
 use Rattle.gate.specs.Promises.{refuses, comes-to}
 use Rattle.whole_log.specs.Gate.{askOutcome, askedAnswer}
-use Rattle.table.specs.CallLaws.{log-opens, read-refused, table-is}
+use Rattle.whole_log.specs.AskLaws.{log-opens, log-refused}
+use Rattle.table.specs.CallLaws.{read-refused, table-is}
 use Rattle.table.proofs.read_table.Statement.{statement}
 use Rattle.table.proofs.read_table.Tie as tie
 
@@ -32,7 +33,7 @@ returns : tie.Need-returns
 returns c = let o = log-opens (now (c .before .before .before .before .before .before .before .before .before .before .args .log)) (opened (c .before .before .before .before)) in comes-to (table-is (now (c .before .before .before .before .before .before .before .before .before .before .args .log)) _ (o .is)) (c .before .before .put-table .ensures (o .records) (o .is .formed))
 
 returns-2 : tie.Need-returns-2
-returns-2 c = let a = c .before .before .before .before .before .before .args in refuses (now (a .out)) (read-refused (now (a .log)) _ (ap askedAnswer (sym (c .before .asked2 .given .1)) ∙ c .before .before .before .ask .ensures))
+returns-2 c = let a = c .before .before .before .before .before .before .args in refuses (now (a .out)) (read-refused (now (a .log)) _ (log-refused (now (a .log)) (ap askedAnswer (sym (c .before .asked2 .given .1)) ∙ c .before .before .before .ask .ensures)))
 
 pub read-table-spec : {M : Type 1} → statement M
 read-table-spec =
