@@ -1,8 +1,9 @@
 -- Definitions that a reader must believe: Claim, what demand 3 says, Batches, what is claimed of logs that differ in batches only, and Drops, what is
--- claimed of mode 5, in plain numbers, and of mode 3. Demand3 has the theorem, Table the proved cases of the papers.
+-- claimed of mode 5, in plain numbers, and of mode 3, and HeaviestSum, what is claimed of the values along the heaviest line. Demand3 has the theorem, Table the proved cases of the papers.
 pub mod Claim
 pub mod Batches
 pub mod Drops
+pub mod HeaviestSum
 pub mod Demand3
 pub mod Table
 -- The proof: stretches; the cut, and that every list of readable chunks is one; the lines of the plan; one merge and the whole list; what is left says what
@@ -17,5 +18,7 @@ pub mod FirstRow
 pub mod BatchLaws
 -- A drop is taken at its value.
 pub mod DropLaws
+-- The values along the heaviest line add to its figure.
+pub mod HeaviestSumLaws
 -- The theorems on log D.
 pub mod Examples

@@ -41,6 +41,8 @@ use Rattle.day_table.specs.Outcomes.{tableBytes, writeLogOutcome, readTableOutc
 use Rattle.day_table.specs.RoundTrips.{written-log, table-short}
 use Rattle.day_list.specs.Days.{smallDays, smallDaysOutcome}
 use Rattle.day_list.specs.Counts.{most-54912}
+use Rattle.log_records.specs.Line.{heaviestLineOutcome}
+use Rattle.log_records.specs.CallLaws.{written-line}
 use Rattle.tulghimo.specs.Interface.{Short}
 
 short-question : (n : ℕ) (t : Bool) (o : Outcome (List ℕ)) → Short (lengthAnswered o) → Short (lengthAnswered (question n t o))
@@ -135,7 +137,7 @@ short-table log cap = go (wholeLog log) refl
     go (refused n) e = tt
     go (result xs) e = short-written cap (tableBytes (tableOf xs)) (omega (arith, table-short log xs e))
 
--- .. and all small days at most 54,912.
+-- .. all small days at most 54,912, ..
 pub short-days : (n cap : ℕ) → Short (lengthAnswered (smallDaysOutcome n cap))
 unfolding smallDaysOutcome
 short-days n cap = go (leb 1 n && leb n 8) refl
@@ -143,3 +145,11 @@ short-days n cap = go (leb 1 n && leb n 8) refl
     go : (t : Bool) → leb 1 n && leb n 8 ≡ t → Short (lengthAnswered (question 14 t (written cap (joined (smallDays n)))))
     go false e = tt
     go true e = short-written cap (joined (smallDays n)) (omega (arith, most-54912 n (leb-true n 8 (and-right (leb 1 n) (leb n 8) e))))
+
+-- .. and the numbers of a line at most 256.
+pub short-line : (log : List ℕ) (cap : ℕ) → Short (lengthAnswered (heaviestLineOutcome log cap))
+short-line log cap = go (heaviestLineOutcome log cap) refl
+  where
+    go : (o : Outcome (List ℕ)) → heaviestLineOutcome log cap ≡ o → Short (lengthAnswered o)
+    go (refused n) e = tt
+    go (result w) e = let b = written-line log cap e .2 in omega (arith, b .whole-length, b .few)

@@ -11,6 +11,7 @@ ghost use Rattle.outcome.specs.Day.{dayOutcome};
 ghost use Rattle.day_table.specs.Outcomes.{writeLogOutcome, readTableOutcome};
 ghost use Rattle.day_list.specs.Days.{smallDaysOutcome};
 ghost use Rattle.run_back.specs.Backwards.{backwardsOutcome};
+ghost use Rattle.log_records.specs.Line.{heaviestLineOutcome};
 ghost use Rattle.work.specs.Answers.{workIn};
 ghost use Rattle.tulghimo.specs.Interface.{statusOf, lengthStatus, Short, fieldsAfter, figureAfter, figuresAfter, workAfter};
 use day::Day;
@@ -222,4 +223,14 @@ pub extern "C" fn tulghimo_backwards(run: &[u8], y: i64, x: &mut [i64; 1]) -> i6
 {
     let d = backwards::backwards(run, y);
     figure_status(d, x)
+}
+
+// The records behind the heaviest line of a whole log, by their numbers: the bytes written, or -2, -3, -7 to -11 or -12 and `out` as it was.
+#[no_mangle]
+pub extern "C" fn tulghimo_heaviest_line(log: &[u8], out: &mut [u8]) -> i64
+    ensures answer { λ r. ⌜ r ≡ lengthStatus (lengthAnswered (heaviestLineOutcome (now (log .entry)) (length (now (out .entry))))) ⌝ }
+    ensures buffer { λ _. ⌜ now (out .exit) ≡ bufferAfter (heaviestLineOutcome (now (log .entry)) (length (now (out .entry)))) (now (out .entry)) ⌝ }
+{
+    let numbers = heaviest_line::heaviest_line(log, out);
+    status(numbers)
 }

@@ -1,0 +1,98 @@
+-- `heaviest_line::numbers::write_numbers` meets its contract: the reader cannot refuse, and the end of the line is met. Assumes nothing.
+use mathlib.Core.Path.{_≡_, sym, ap, _∙_}
+use native.Mathlib.Omega.{arith}
+use lib.ListN.{length, length-drop}
+use borrow.Author.Needs.{needs}
+use denote.Ref.{now}
+use Rattle.gate.specs.Outcome.{result}
+use Rattle.number.specs.Laws.{part-rest}
+use Rattle.record.specs.Record.{readOf, answerOf}
+use Rattle.record.specs.Laws.{sound}
+use Rattle.whole_log.specs.Second as second
+use Rattle.heaviest_line.specs.NumberingLaws.{NumberingTo, numbering-begin, room, some-left, number-small, numbering-next, numbered}
+use Rattle.heaviest_line.proofs.numbers.write_numbers.Statement.{statement}
+use Rattle.heaviest_line.proofs.numbers.write_numbers.Tie as tie
+
+abbrev Inv-loop : tie.InvT-loop
+Inv-loop log end depth out₀ number₀ rest₀ out number rest = NumberingTo log rest end depth out₀ number out
+
+abbrev μ-loop : tie.MeasureT-loop
+μ-loop log end depth out₀ number₀ rest₀ out number rest = length rest
+
+-- the record that was read is the first of the rest
+read : (c : tie.After-f Inv-loop μ-loop) → readOf (now (c .before .before .before .before .loop .rest)) ≡ result (c .f .given .0 .0)
+read c = sym (c .before .before .read-first .ensures) ∙ ap answerOf (c .f .given .1)
+
+loop-holds : tie.Need-loop-holds Inv-loop μ-loop
+loop-holds c = numbering-begin (c .before .before .pre)
+
+read-first-requires : tie.Need-read-first-requires Inv-loop μ-loop
+read-first-requires c κs = search needs
+
+enum-known-f : tie.Need-enum-known-f Inv-loop μ-loop
+enum-known-f c = search needs
+
+enum-told : tie.Need-enum-told Inv-loop μ-loop
+enum-told c = search needs
+
+same-length : tie.Need-same-length Inv-loop μ-loop
+same-length c = c .before .before .before .before .loop .inv .numbering .size
+
+returns : tie.Need-returns Inv-loop μ-loop
+returns c xs i =
+    let l = c .before .before .before .before .loop in
+    absurd (second.not-refused (l .inv .second) (some-left (l .inv) (c .before .before .before .loop-test .taken)) (sym (c .before .before .read-first .ensures) ∙ ap answerOf (c .enum-told .given .1)))
+
+cast-length : tie.Need-cast-length Inv-loop μ-loop
+cast-length c = search needs
+
+write-number-requires : tie.Need-write-number-requires Inv-loop μ-loop
+write-number-requires c κs = let l = c .before .before .before .before .before .before .before .loop in (number-small (l .inv) (c .before .before .before .before .before .before .loop-test .taken), room (l .inv))
+
+sub-rest : tie.Need-sub-rest Inv-loop μ-loop
+sub-rest c = sound _ _ (read (c .before .before .before .before .before .before)) .inside
+
+part-rest-start : tie.Need-part-rest-start Inv-loop μ-loop
+part-rest-start c = sound _ _ (read (c .before .before .before .before .before .before)) .inside
+
+part-rest-end : tie.Need-part-rest-end Inv-loop μ-loop
+part-rest-end c = search needs
+
+loop-less : tie.Need-loop-less Inv-loop μ-loop
+loop-less c =
+    let l = c .before .before .before .before .before .before .before .before .before .before .before .loop in
+    let f = c .before .before .before .before .before .before .before .f .given .0 .0 in
+    rw (part-rest (f .length) (now (l .rest))) (omega (arith, length-drop (f .length) (now (l .rest)), sound _ _ (read (c .before .before .before .before .before .before .before))))
+
+loop-again : tie.Need-loop-again Inv-loop μ-loop
+loop-again c =
+    let l = c .before .before .before .before .before .before .before .before .before .before .before .loop in
+    numbering-next (l .inv) (c .before .before .before .before .before .before .before .before .before .before .loop-test .taken) (read (c .before .before .before .before .before .before .before)) (c .before .before .before .write-number .ensures)
+
+same-length-2 : tie.Need-same-length-2 Inv-loop μ-loop
+same-length-2 c = c .before .loop .inv .numbering .size
+
+returns-2 : tie.Need-returns-2 Inv-loop μ-loop
+returns-2 c xs i = let l = c .before .loop in numbered (l .inv) (c .loop-test .left) xs i
+
+pub write-numbers-spec : {M : Type 1} → statement M
+write-numbers-spec =
+    tie.close
+    (tie.spec
+    Inv-loop
+    μ-loop
+    loop-holds
+    read-first-requires
+    enum-known-f
+    enum-told
+    same-length
+    returns
+    cast-length
+    write-number-requires
+    sub-rest
+    part-rest-start
+    part-rest-end
+    loop-less
+    loop-again
+    same-length-2
+    returns-2)
