@@ -77,6 +77,10 @@ def small_days(n, room=200):
     return call("small_days::small_days", b"", n, room)
 
 
+def heaviest_line(log, room=200):
+    return call("heaviest_line::heaviest_line", log, room=room)
+
+
 def run(mode, *numbers):
     return struct.pack(f"<HHH{len(numbers)}q", 6 + 8 * len(numbers), 20, mode, *numbers)
 
@@ -98,7 +102,14 @@ def runs(mode, floor=0):
     return call("runs::runs", b"".join(halves(mode, floor)))
 
 
+def held(*values):
+    """A root of 5 g that holds a record for each value."""
+    return short(0, 5) + b"".join(short(1, value) + close(1) for value in values) + close(0)
+
+
 HEAD, TAIL = halves(1)
+# Record 2 is deeper than the line goes, which is of records 0 and 3.
+LATER = short(0, 1) + short(1, 1) + short(2, 1) + close(2) + close(1) + short(1, 9) + close(1) + close(0)
 WHOLE = hill(1, 0, 0, 0, 3, [], 12)
 # A closed record of one gram at depth 1, and the two halves of what may hold it.
 INSIDE = hill(1, 1, 1, 1, 1, [], 1)
@@ -203,6 +214,26 @@ INPUTS = {
     "finish/blank_is_11": call("finish::finish", blank(1)),
     "finish/end_level_ignored": call("finish::finish", OPEN),
     "finish/start_level_for_fault": call("finish::finish", spoilt(1, 8, 3, 0, 2)),
+    "heaviest_line/always_one_number": heaviest_line(D),
+    "heaviest_line/close_as_open": heaviest_line(D),
+    "heaviest_line/closes_numbered": heaviest_line(D),
+    "heaviest_line/counted_from_1": heaviest_line(D),
+    "heaviest_line/deeper_not_counted": heaviest_line(LATER),
+    "heaviest_line/each_fault_11": heaviest_line(D[:71]),
+    "heaviest_line/end_forgotten": heaviest_line(D),
+    "heaviest_line/from_one": heaviest_line(D),
+    "heaviest_line/full_buffer_refused": heaviest_line(D, 8),
+    "heaviest_line/last_left_out": heaviest_line(D),
+    "heaviest_line/latest_of_equals": heaviest_line(held(2, 2)),
+    "heaviest_line/none_below_0": heaviest_line(short(0, -5) + close(0)),
+    "heaviest_line/one_number_short": heaviest_line(D),
+    "heaviest_line/one_record_too_far": heaviest_line(D),
+    "heaviest_line/open_not_counted": heaviest_line(D),
+    "heaviest_line/root_alone": heaviest_line(held(1, 2)),
+    "heaviest_line/siblings_added": heaviest_line(held(1, 2)),
+    "heaviest_line/stops_at_its_value": heaviest_line(held(-2)),
+    "heaviest_line/sum_of_the_holder": heaviest_line(held(1, 2)),
+    "heaviest_line/value_left_out": heaviest_line(held(1, 2)),
     "judge/byte_too_many": backwards(b"\x1f" + run(1, 12, 0, 0)[1:] + b"\0", 13),
     "judge/end_for_peak": call("plan::plan", HEAD + TAIL),
     "judge/fault_10": call("finish::finish", spoilt(1, 10, 0, 0, 1)),
@@ -354,6 +385,8 @@ INPUTS = {
     "tulghimo/figure_zero": call("tulghimo::tulghimo_finish", WHOLE),
     "tulghimo/finish_always_12": call("tulghimo::tulghimo_finish", blank(1)),
     "tulghimo/finish_refused": call("tulghimo::tulghimo_finish", WHOLE),
+    "tulghimo/heaviest_line_always_one_number": call("tulghimo::tulghimo_heaviest_line", D),
+    "tulghimo/heaviest_line_refused": call("tulghimo::tulghimo_heaviest_line", D),
     "tulghimo/merge_left_twice": call("tulghimo::tulghimo_merge", HEAD + TAIL, len(HEAD)),
     "tulghimo/merge_row_always_6": call("tulghimo::tulghimo_merge_row", HEAD + TAIL),
     "tulghimo/merge_row_refused": call("tulghimo::tulghimo_merge_row", HEAD + TAIL),

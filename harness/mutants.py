@@ -28,7 +28,7 @@ TIMEOUT_SECONDS = 300
 # The tests that take no time; the others follow where these notice nothing.
 QUICK = ["--", "paper::", "gate::", "figures::", "records::", "question_5::", "rows::pieces",
          "rows::halves", "day_table::", "batch::", "drop_at_value::", "levels::", "small_days::",
-         "backwards::"]
+         "backwards::", "heaviest_line::"]
 
 # Records: bytes, reading, ranges.
 RECORDS = [
@@ -607,8 +607,115 @@ BACKWARDS = [
     ("calls.rs", "    backwards::question_17(&run, y)?;\n", "", "backwards: y is not checked"),
 ]
 
+# Document 02, L7: the records behind the heaviest line.
+HEAVIEST_LINE = [
+    ("heaviest_line.rs", "figures.iter().position(", "figures.iter().rposition(",
+     "the earliest of equals, not the latest"),
+    ("heaviest_line.rs", "figures.iter().position(|&figure| figure == greatest)",
+     "figures.iter().position(|&figure| figure == greatest).map(|place| if place == 0 { figures.iter()"
+     ".rposition(|&figure| figure == greatest).unwrap_or(0) } else { place })",
+     "the earliest of equals, also where it is the first held"),
+    ("heaviest_line.rs", "figures.iter().position(|&figure| figure == greatest)",
+     "(0..trees.len()).filter(|&place| figures[place] == greatest)"
+     ".max_by_key(|&place| (trees[place].record.value, std::cmp::Reverse(place)))",
+     "the earliest of equals, not the one of the greatest value"),
+    ("heaviest_line.rs", "figures.iter().position(|&figure| figure == greatest)",
+     "(0..trees.len()).filter(|&place| figures[place] == greatest).min_by_key(|&place| size(&trees[place]))",
+     "the earliest of equals, not the one that holds least"),
+    ("heaviest_line.rs", "figures.iter().position(|&figure| figure == greatest)",
+     "(0..trees.len()).filter(|&place| figures[place] == greatest)"
+     ".max_by_key(|&place| (size(&trees[place]), std::cmp::Reverse(place)))",
+     "the earliest of equals, not the one that holds most"),
+    ("heaviest_line.rs", "figures.iter().position(|&figure| figure == greatest)",
+     "figures.iter().position(|_| true)", "one that reaches the figure, not the first held"),
+    ("heaviest_line.rs", "figures.iter().position(|&figure| figure == greatest)",
+     "figures.iter().position(|&figure| figure >= greatest - 1)",
+     "one that reaches the figure, not one that nearly does"),
+    ("heaviest_line.rs", "figure(Mode::Heaviest, tree)).collect()", "tree.record.value).collect()",
+     "the greatest figure, not the greatest value"),
+    ("heaviest_line.rs", "figure(Mode::Heaviest, tree)", "figure(Mode::Net, tree)",
+     "mode 2's figure: all that is held (net)"),
+    ("heaviest_line.rs", "figure(Mode::Heaviest, tree)", "figure(Mode::Eaten, tree)",
+     "mode 2's figure: between floor and ceiling (eaten)"),
+    ("heaviest_line.rs", "figure(Mode::Heaviest, tree)", "figure(Mode::Stamp, tree)", "mode 2's figure: the stamp"),
+    ("heaviest_line.rs", "figure(Mode::Heaviest, tree)", "i64::from(figure(Mode::Heaviest, tree) as i32)",
+     "a figure has more than 32 bits"),
+    ("heaviest_line.rs", "figure(Mode::Heaviest, tree)",
+     "figure(Mode::Heaviest, tree).clamp(-60_000_000_000, 60_000_000_000)", "a figure is not cut at its ends"),
+    ("heaviest_line.rs", "figures.iter().max()?", "figures.iter().min()?",
+     "the greatest held figure, not the least"),
+    ("heaviest_line.rs", "figures.iter().max()?", "figures.iter().max_by_key(|figure| figure.abs())?",
+     "the greatest figure has a sign"),
+    ("heaviest_line.rs", "= *figures.iter().max()?;", "= (*figures.iter().max()?).max(0);",
+     "down to one that holds nothing: below 0 too"),
+    ("heaviest_line.rs", "= heaviest(&tree.held) {",
+     "= heaviest(&tree.held).filter(|_| figure(Mode::Heaviest, tree) != tree.record.value) {",
+     "down to one that holds nothing: not only to where the figure is the value"),
+    ("heaviest_line.rs", "= heaviest(&tree.held) {",
+     "= heaviest(&tree.held).filter(|_| figure(Mode::Heaviest, tree) >= tree.record.value) {",
+     "down to one that holds nothing: not only as long as it adds"),
+    ("heaviest_line.rs", "numbers.extend(line(&later[0], next));", "numbers.push(next);",
+     "down to one that holds nothing: more than one step"),
+    ("heaviest_line.rs", "line(&tree_of(log), 0)", "{\n        let mut numbers = line(&tree_of(log), 0);\n"
+     "        if numbers.len() > 1 {\n            numbers.pop();\n        }\n        numbers\n    }",
+     "down to one that holds nothing: with it"),
+    ("heaviest_line.rs", "line(&tree_of(log), 0)", "line(&tree_of(log), 0).split_off(1)", "from the root: with it"),
+    ("heaviest_line.rs", "line(&tree_of(log), 0)", "line(&tree_of(log), 0).into_iter().rev().collect()",
+     "from the root down, not up"),
+    ("heaviest_line.rs", "line(&tree_of(log), 0)", "line(&tree_of(log), 1)", "counted from 0"),
+    ("heaviest_line.rs", "    1 + tree.held", "    2 + tree.held", "opened records are counted, not closes"),
+    ("heaviest_line.rs", "earlier.iter().map(size).sum::<usize>()", "place",
+     "opened records are counted: those that are held too"),
+    ("heaviest_line.rs", "earlier.iter().map(size).sum::<usize>()", "later[1..].iter().map(size).sum::<usize>()",
+     "in log order, not from the end"),
+    ("heaviest_line.rs", "number + 1 + earlier", "1 + earlier", "counted over the whole log"),
+    ("heaviest_line.rs", "put(&mut out, number as i64, 4);", "out.extend((number as u32).to_be_bytes());",
+     "numbers are little-endian"),
+    ("heaviest_line.rs", "put(&mut out, number as i64, 4);", "put(&mut out, number as i64, 2);",
+     "32-bit numbers, not 16"),
+    ("heaviest_line.rs", "put(&mut out, number as i64, 4);", "put(&mut out, number as i64, 8);",
+     "32-bit numbers, not 64"),
+    ("heaviest_line.rs", "put(&mut out, number as i64, 4);", "put(&mut out, number as i64 % 256, 4);",
+     "impostor: numbers cut to 8 bits"),
+    ("heaviest_line.rs", "for &number in numbers {", "for &number in numbers.iter().take(63) {",
+     "64 numbers where the depth is 63"),
+    ("heaviest_line.rs", "for &number in numbers {",
+     "for &number in numbers.iter().filter(|&&number| number < 4095) {", "the last of 4,096 records has a number"),
+    ("calls.rs", "question_12(encode_numbers(&line_of(&records)), capacity)",
+     "Ok(encode_numbers(&line_of(&records)))", "the heaviest line puts 12"),
+    ("calls.rs", "question_12(encode_numbers(&line_of(&records)), capacity)",
+     "question_12(encode_numbers(&line_of(&records)), capacity + 1)",
+     "the heaviest line: a buffer one byte short gets 12"),
+    ("calls.rs", "question_12(encode_numbers(&line_of(&records)), capacity)",
+     "question_12(encode_numbers(&line_of(&records)), capacity.saturating_sub(1))",
+     "the heaviest line: an exact buffer is enough"),
+    ("calls.rs", "question_12(encode_numbers(&line_of(&records)), capacity)",
+     "question_12(encode_numbers(&line_of(&records)), if capacity < 256 { 0 } else { capacity })",
+     "the heaviest line: a buffer need not be as long as the longest line"),
+    ("calls.rs", "question_12(encode_numbers(&line_of(&records)), capacity)",
+     "Ok(encode_numbers(&line_of(&records)).chunks(4).take(capacity / 4).flatten().copied().collect())",
+     "impostor: as much of the heaviest line as fits"),
+    ("calls.rs", "    let records = whole_log(log)?;\n    question_12(encode_numbers",
+     "    if capacity < 4 {\n        return Err(12);\n    }\n"
+     "    let records = whole_log(log)?;\n    question_12(encode_numbers", "the heaviest line: faults before 12"),
+    ("calls.rs", "    let records = whole_log(log)?;\n    question_12(encode_numbers",
+     "    let records = question_3(log)?;\n    questions_7_to_11_of_log(&records)?;\n    question_12(encode_numbers",
+     "the heaviest line puts 2"),
+    ("calls.rs", "    let records = whole_log(log)?;\n    question_12(encode_numbers",
+     "    let records = question_3(log)?;\n    whole_log(log)?;\n    question_12(encode_numbers",
+     "the heaviest line: 2 before 3"),
+    ("calls.rs", "    let records = whole_log(log)?;\n    question_12(encode_numbers",
+     "    question_2(log)?;\n    let records = question_3(log)?;\n"
+     "    if let Err(fault @ (7 | 10 | 11)) = questions_7_to_11_of_log(&records) {\n"
+     "        return Err(fault);\n    }\n    question_12(encode_numbers",
+     "impostor: the heaviest line of the first of two days"),
+    ("calls.rs", "    let records = whole_log(log)?;\n    question_12(encode_numbers",
+     "    let records = whole_log(log).map_err(|fault| if fault == 10 { 11 } else { fault })?;\n"
+     "    question_12(encode_numbers", "the heaviest line: no record gets 10"),
+]
+
 TABLE = (RECORDS + LOG + MODES + SUMMARIES + MERGING + ACCEPTING + PLANS + CALLS + DAY_TABLE + BATCH
-         + DROPS + SMALL_DAYS + BACKWARDS)
+         + DROPS + SMALL_DAYS + BACKWARDS + HEAVIEST_LINE)
 
 
 def cargo(workspace, *arguments):

@@ -67,7 +67,8 @@ enum tulghimo_length {
     TULGHIMO_LONGEST_TABLE_TAKEN = 2730 * TULGHIMO_TABLE_LINE, /* by tulghimo_write_log */
     TULGHIMO_LONGEST_LOG_WRITTEN = 2730 * (18 + 6),            /* an open and a close for each line */
     TULGHIMO_LONGEST_TABLE_READ = 4096 * TULGHIMO_TABLE_LINE,  /* of a log of 65,536 bytes: 4,096 short opens and their closes */
-    TULGHIMO_LONGEST_SMALL_DAYS = 429 * 8 * (10 + 6)           /* 429 logs of 8 short opens and their closes */
+    TULGHIMO_LONGEST_SMALL_DAYS = 429 * 8 * (10 + 6),          /* 429 logs of 8 short opens and their closes */
+    TULGHIMO_LONGEST_HEAVIEST_LINE = 64 * 4                    /* a number of 32 bits for each depth from 0 to 63 */
 };
 
 /* The first record of a chunk: 0 and kind (1 open, 2 close), length, depth, value, floor, ceiling and batch (the last four 0 for a
@@ -138,6 +139,13 @@ int64_t tulghimo_small_days(uint32_t n, uint8_t *out, size_t cap);
  * may be in heaviest; or l is above h. All runs that tulghimo_runs writes pass. -16: the run is of heaviest or eaten, where several x
  * may lead to y, or none. -17: y is outside -10^14 to 10^14 in net, or outside 0 to 2^32 - 1 in stamp. */
 int64_t tulghimo_backwards(const uint8_t *run, size_t n, int64_t y, int64_t x[1]);
+
+/* The records behind the heaviest figure of a whole log, of the length of a chunk: their numbers, 32 bits each, from the record that
+ * the log begins with down to one that holds nothing. A number counts the opened records before it, in log order: the first is 0, and
+ * record k is line k of tulghimo_read_table. Each directly holds the next, and their values add to the heaviest figure of
+ * tulghimo_day. At each step the one taken has the greatest figure of those held; of several the earliest. Their length in all, 4 to
+ * 256, or -2, -3, -7, -8, -10, -11 or -12. (No log of this length has enough records for -9.) */
+int64_t tulghimo_heaviest_line(const uint8_t *log, size_t n, uint8_t *out, size_t cap);
 
 #ifdef __cplusplus
 }

@@ -61,6 +61,8 @@ static void nothing_in(void) {
     is("small_days, n = 0, a buffer", tulghimo_small_days(0, out, sizeof out), -14);
     is("backwards", tulghimo_backwards(NULL, 0, 0, numbers), -15);
     is("backwards, y beyond", tulghimo_backwards(NULL, 0, INT64_MIN, numbers), -15);
+    is("heaviest_line", tulghimo_heaviest_line(NULL, 0, NULL, 0), -10);
+    is("heaviest_line, a buffer", tulghimo_heaviest_line(NULL, 0, out, sizeof out), -10);
     untouched("numbers", numbers, 7);
     is("the blank in the buffer", memcmp(out, blanks, sizeof out), 0);
 }
@@ -80,6 +82,7 @@ static void nowhere_out(void) {
     is("small_days, n = 1", tulghimo_small_days(1, NULL, 0), -12);
     is("small_days, n = 8", tulghimo_small_days(8, NULL, 0), -12);
     is("small_days, n = 9", tulghimo_small_days(9, NULL, 0), -14);
+    is("heaviest_line of a log", tulghimo_heaviest_line(whole_log, sizeof whole_log, NULL, 0), -12);
 }
 
 int main(void) {

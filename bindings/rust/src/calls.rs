@@ -272,3 +272,27 @@ pub fn small_days(n: u32) -> Result<Vec<u8>, Refusal> {
 pub fn backwards(run: &[u8], y: i64) -> Result<i64, Refusal> {
     numbers(|x| raw::backwards(run, y, x)).map(|[x]| x)
 }
+
+/// The records behind the heaviest figure of a whole log of at most 65,536 bytes, by their numbers: from the record that the log
+/// begins with down to one that holds nothing. A number counts the opened records before it, in log order: the first is 0, and
+/// record k is line k of [`read_table`]. Each directly holds the next, and their values add to [`Figures::heaviest`]. At each step
+/// the one taken has the greatest figure of those held; of several the earliest. Refused: 2, 3, 7, 8, 10, 11; none has enough
+/// records for 9.
+///
+/// ```
+/// use tulghimo::{day, example, heaviest_line, Refusal};
+///
+/// // The site of 10 g, and the first of its two tanks, of 5 g.
+/// let numbers = heaviest_line(example::LOG_D)?;
+/// assert_eq!(numbers, [0, 1]);
+/// let values = numbers.iter().map(|&number| i64::from(example::TABLE_D[number as usize].value));
+/// assert_eq!(values.sum::<i64>(), day(example::LOG_D)?.heaviest);
+///
+/// let (one, _) = example::two_stretches();
+/// assert_eq!(heaviest_line(one), Err(Refusal::NotWhole));
+/// # Ok::<(), Refusal>(())
+/// ```
+pub fn heaviest_line(log: &[u8]) -> Result<Vec<u32>, Refusal> {
+    let numbers = written(raw::LONGEST_HEAVIEST_LINE, |out| raw::heaviest_line(log, out))?;
+    Ok(numbers.chunks_exact(4).map(|number| u32::from_le_bytes(number.try_into().expect("4 bytes"))).collect())
+}

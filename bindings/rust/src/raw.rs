@@ -26,6 +26,9 @@ pub const LONGEST_TABLE_READ: usize = 4_096 * crate::TableLine::LENGTH;
 /// No logs written by [`small_days`] are longer, in bytes: 429 logs open 8 records, of 10 bytes each and 6 for the close.
 pub const LONGEST_SMALL_DAYS: usize = 429 * 8 * (10 + 6);
 
+/// No line written by [`heaviest_line`] is longer, in bytes: a number of 4 bytes for each depth from 0 to 63.
+pub const LONGEST_HEAVIEST_LINE: usize = 64 * 4;
+
 mod ffi {
     extern "C" {
         pub fn tulghimo_read_record(chunk: *const u8, n: usize, fields: *mut i64) -> i64;
@@ -41,6 +44,7 @@ mod ffi {
         pub fn tulghimo_read_table(log: *const u8, n: usize, out: *mut u8, cap: usize) -> i64;
         pub fn tulghimo_small_days(n: u32, out: *mut u8, cap: usize) -> i64;
         pub fn tulghimo_backwards(run: *const u8, n: usize, y: i64, x: *mut i64) -> i64;
+        pub fn tulghimo_heaviest_line(log: *const u8, n: usize, out: *mut u8, cap: usize) -> i64;
     }
 }
 
@@ -121,4 +125,11 @@ pub fn small_days(n: u32, out: &mut [u8]) -> i64 {
 pub fn backwards(run: &[u8], y: i64, x: &mut [i64; 1]) -> i64 {
     // SAFETY: the slice has as many bytes as it is said to have, and the array has the number that the call may store.
     unsafe { ffi::tulghimo_backwards(run.as_ptr(), run.len(), y, x.as_mut_ptr()) }
+}
+
+/// Writes the numbers of the records behind a whole log's heaviest figure into `out`, 4 bytes each: the length written, or minus the
+/// refusal (2, 3, 7, 8, 10, 11 or 12).
+pub fn heaviest_line(log: &[u8], out: &mut [u8]) -> i64 {
+    // SAFETY: each slice has as many bytes as it is said to have, and the lent one is not borrowed elsewhere.
+    unsafe { ffi::tulghimo_heaviest_line(log.as_ptr(), log.len(), out.as_mut_ptr(), out.len()) }
 }

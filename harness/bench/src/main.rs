@@ -7,15 +7,17 @@
 //! pattern is regular. In each of 200 rounds each call is put once to each log, the library first and the recursion first in turns. A time is
 //! the sum of each log's best.
 //!
-//! Then merging, the plan, the runs and the work (`rows.rs`), the day table (`tables.rs`), all small days (`small_days.rs`), and the way back
-//! through a run (`backwards.rs`). Buffers are lent once and not cleared between calls.
+//! Then merging, the plan, the runs and the work (`rows.rs`), the day table (`tables.rs`), all small days (`small_days.rs`), the way back
+//! through a run (`backwards.rs`), and the records behind the heaviest line (`heaviest_line.rs`). Buffers are lent once and not cleared
+//! between calls.
 //!
 //! Run with `cargo run --release -p bench`, for one part alone with `cargo run --release -p bench -- rows`, `beside`, `tables`,
-//! `small_days` or `backwards`.
+//! `small_days`, `backwards` or `heaviest_line`.
 
 mod backwards;
 mod beside;
 mod chunks;
+mod heaviest_line;
 mod peer;
 mod rows;
 mod small_days;
@@ -29,6 +31,7 @@ fn main() {
         ("tables", tables::bench),
         ("small_days", small_days::bench),
         ("backwards", backwards::bench),
+        ("heaviest_line", heaviest_line::bench),
     ];
     for (name, bench) in parts {
         if part.as_ref().is_none_or(|part| part == name) {

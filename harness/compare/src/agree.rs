@@ -88,6 +88,10 @@ pub fn backwards(run: &[u8], y: i64) -> Vec<i64> {
     numbers(calls::backwards(run, y).map(|x| [x]), |x| raw::backwards(run, y, x))
 }
 
+pub fn heaviest_line(log: &[u8]) -> Vec<i64> {
+    bytes(calls::heaviest_line(log, AMPLE), |out| raw::heaviest_line(log, out))
+}
+
 /// What the library says of two chunks, which must be the same: 0, or minus its refusal.
 fn same<T: Debug + PartialEq>(call: impl Fn(&[u8]) -> Result<T, u8>, [one, other]: [&[u8]; 2]) -> i64 {
     let answer = call(one);
@@ -107,5 +111,6 @@ pub fn batches_only(one: &[u8], other: &[u8], mode: u32) -> Vec<i64> {
     let summary = same(|chunk| library::summarise(chunk, mode, AMPLE), both);
     let day = same(library::day, both);
     let table = same(|chunk| library::read_table(chunk, AMPLE), both);
-    vec![read, summary, day, table]
+    let line = same(|chunk| library::heaviest_line(chunk, AMPLE), both);
+    vec![read, summary, day, table, line]
 }

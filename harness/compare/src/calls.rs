@@ -70,6 +70,10 @@ pub fn backwards(run: &[u8], y: i64) -> Result<i64, u8> {
     numbers(|x| raw::backwards(run, y, x)).map(|[x]| x)
 }
 
+pub fn heaviest_line(log: &[u8], capacity: usize) -> Result<Vec<u8>, u8> {
+    LentBytes::new(capacity).lend(|out| raw::heaviest_line(log, out))
+}
+
 /// The day program, as `rt check day_program` makes it.
 pub fn program() -> PathBuf {
     Path::new(env!("CARGO_MANIFEST_DIR")).join("../../target/bin/day_program")

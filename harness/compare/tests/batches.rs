@@ -16,6 +16,7 @@ fn all_agree(chunk: &[u8]) {
     }
     agree::day(chunk);
     agree::read_table(chunk);
+    agree::heaviest_line(chunk);
 }
 
 #[test]
@@ -51,6 +52,7 @@ fn the_other_safe_functions_drop_it() {
         assert_eq!(tulghimo::read_table(&log), Ok(lines.to_vec()));
         let written = [open(0, 5, 0, 9), open(1, -2, -1_000_000_000, 1_000_000_000), close(1), close(0)].concat();
         assert_eq!(tulghimo::write_log(&lines), Ok(written));
+        assert_eq!(tulghimo::heaviest_line(&log), Ok(vec![0, 1]));
     }
 }
 
@@ -130,7 +132,7 @@ fn logs_that_differ_in_batches_only() {
         for chunk in [damage::damage(&mut rng, &log), log] {
             let other = logs::rebatched(&mut rng, &chunk);
             let answers = agree::batches_only(&chunk, &other, MODES[round % 4].into());
-            taken += usize::from(chunk != other && answers == [0; 4]);
+            taken += usize::from(chunk != other && answers == [0; 5]);
         }
     }
     assert!(taken > 600, "{taken}");

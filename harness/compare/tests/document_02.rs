@@ -16,6 +16,10 @@ mod day_table;
 mod drop_at_value;
 #[path = "../../reference/tests/document_02/drop_laws.rs"]
 mod drop_laws;
+#[path = "../../reference/tests/document_02/heaviest_line.rs"]
+mod heaviest_line;
+#[path = "../../reference/tests/document_02/heaviest_line_laws.rs"]
+mod heaviest_line_laws;
 #[path = "../../reference/tests/document_02/levels.rs"]
 mod levels;
 #[path = "../../reference/tests/document_02/round_trips.rs"]

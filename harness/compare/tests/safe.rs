@@ -28,6 +28,9 @@ fn agree_on_log(log: &[u8]) {
     assert_eq!(day, calls::day(log));
     let table = by_number(tulghimo::read_table(log)).map(|lines| encode_table(&lines.iter().map(plain).collect::<Vec<_>>()));
     assert_eq!(table, calls::read_table(log, AMPLE));
+    let line =
+        by_number(tulghimo::heaviest_line(log)).map(|numbers| numbers.iter().flat_map(|n| n.to_le_bytes()).collect::<Vec<u8>>());
+    assert_eq!(line, calls::heaviest_line(log, AMPLE));
 }
 
 /// A line with the reference's types.
@@ -91,6 +94,19 @@ fn random_logs_and_their_chunks() {
             agree_on_chunk(&damage::damage(&mut rng, &bytes), mode);
         }
     }
+}
+
+#[test]
+fn heaviest_lines_with_ties_and_long_ones() {
+    let mut rng = Rng::new(0x5b01);
+    let mut longest = 0;
+    for round in 0..300 {
+        let log = logs::log_with_ties(&mut rng, if round % 10 == 0 { 1500 } else { 60 });
+        let bytes = logs::encode_mixed(&mut rng, &log);
+        agree_on_log(&bytes);
+        longest = longest.max(tulghimo::heaviest_line(&bytes).expect("a well-formed log").len());
+    }
+    assert_eq!(longest, 64);
 }
 
 /// The bytes of a run, put together here. It must give the same itself.
@@ -181,7 +197,7 @@ fn the_header_has_the_same_numbers() {
     assert!(header.contains(&format!("TULGHIMO_LONGEST_SUMMARY = {},", raw::LONGEST_SUMMARY)));
     assert_eq!((raw::LONGEST_PLAN, raw::LONGEST_RUNS), (1500, 4750));
     assert_eq!((raw::LONGEST_TABLE_TAKEN, raw::LONGEST_LOG_WRITTEN, raw::LONGEST_TABLE_READ), (38_220, 65_520, 57_344));
-    assert_eq!(raw::LONGEST_SMALL_DAYS, 54_912);
+    assert_eq!((raw::LONGEST_SMALL_DAYS, raw::LONGEST_HEAVIEST_LINE), (54_912, 256));
     for constant in [
         "LONGEST_CHUNK = 65536,",
         "LINE = 12,",
@@ -193,7 +209,8 @@ fn the_header_has_the_same_numbers() {
         "LONGEST_TABLE_TAKEN = 2730 * TULGHIMO_TABLE_LINE,",
         "LONGEST_LOG_WRITTEN = 2730 * (18 + 6),",
         "LONGEST_TABLE_READ = 4096 * TULGHIMO_TABLE_LINE,",
-        "LONGEST_SMALL_DAYS = 429 * 8 * (10 + 6) ",
+        "LONGEST_SMALL_DAYS = 429 * 8 * (10 + 6),",
+        "LONGEST_HEAVIEST_LINE = 64 * 4 ",
     ] {
         assert!(header.contains(&format!("TULGHIMO_{constant}")), "{constant}");
     }

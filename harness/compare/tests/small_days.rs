@@ -109,6 +109,7 @@ fn each_log_by_the_calls_on_a_log() {
             let summary = calls::summarise(&log, mode, 24).expect("a well-formed log");
             assert_eq!(agree::finish(&summary), [0]);
         }
+        agree::heaviest_line(&log);
         agree::read_table(&log);
         let table = calls::read_table(&log, log.len()).expect("a well-formed log");
         // A line of 14 bytes and, written again, a full open and a close for each record.
@@ -165,6 +166,7 @@ fn one_after_another_they_are_no_log() {
         let all = logs(n).concat();
         assert_eq!(agree::day(&all), [-8]);
         assert!(agree::read_table(&all).iter().all(|&answer| answer == -8));
+        assert!(agree::heaviest_line(&all).iter().all(|&answer| answer == -8));
         for mode in MODES.map(u32::from) {
             // Spoilt.
             assert!(agree::summarise(&all, mode).contains(&16));

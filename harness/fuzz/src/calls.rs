@@ -80,6 +80,12 @@ pub const CALLS: &[Call] = &[
         compare: |given| agree::backwards(&given.first, signed(&given.second)),
     },
     Call {
+        name: "heaviest_line",
+        takes: Takes::Chunk,
+        refuses: &[2, 3, 7, 8, 10, 11, 12],
+        compare: |given| agree::heaviest_line(&given.first),
+    },
+    Call {
         name: "batches",
         takes: Takes::Twins,
         refuses: &[1, 3, 7, 8, 10, 11],

@@ -52,7 +52,7 @@ fn run(bytes: Vec<u8>, y: i64) -> Input {
 /// The inputs that a seed gives.
 pub fn inputs(seed: u64) -> Vec<Input> {
     let rng = &mut Rng::new(seed);
-    match rng.below(16) {
+    match rng.below(17) {
         0 => whole_log(rng),
         1 => faulty_log(rng),
         2 | 3 => cut_log(rng),
@@ -66,6 +66,7 @@ pub fn inputs(seed: u64) -> Vec<Input> {
         12 => small_days(rng),
         13 => forged_runs(rng),
         14 => written_runs(rng),
+        15 => log_with_ties(rng),
         _ => noise(rng),
     }
 }
@@ -103,6 +104,14 @@ fn size(rng: &mut Rng, small: usize, large: usize) -> usize {
 fn whole_log(rng: &mut Rng) -> Vec<Input> {
     let most = size(rng, 60, 4000);
     let log = logs::any_log(rng, most);
+    let input = chunk(any_mode(rng), logs::encode_mixed(rng, &log));
+    with_damage(rng, input)
+}
+
+/// A log in which several records on the way down the heaviest line have the same figure, or nearly.
+fn log_with_ties(rng: &mut Rng) -> Vec<Input> {
+    let most = rng.pick(&[12, 60, 60, 600]);
+    let log = logs::log_with_ties(rng, most);
     let input = chunk(any_mode(rng), logs::encode_mixed(rng, &log));
     with_damage(rng, input)
 }
@@ -325,11 +334,15 @@ fn noise(rng: &mut Rng) -> Vec<Input> {
 mod tests {
     use super::*;
     use reference::backwards::question_15;
+    use reference::heaviest_line::line_of;
     use reference::layout::decode;
+    use reference::log::{fault, held, opens};
     use reference::plan::plan_by_levels;
+    use reference::record::records_of;
     use reference::row;
     use reference::run::{run_of, Run};
     use reference::summary::Summary;
+    use reference::tree::{figure, subtree};
 
     /// The runs of a row between neighbours, which have nothing inside; none where it is not a row of mode 5 with a figure.
     fn with_nothing_inside(bytes: &[u8]) -> Vec<Run> {
@@ -379,6 +392,29 @@ mod tests {
             }
         }
         assert!(seen.iter().flatten().all(|&count| count > 100), "{seen:?}");
+    }
+
+    /// The steps of a log's heaviest line at which a later record has the same figure as the one that is taken.
+    fn ties(log: &[Record]) -> usize {
+        let places: Vec<usize> = line_of(log).into_iter().map(|number| opens(log)[number]).collect();
+        let figure = |place: usize| figure(Mode::Heaviest, &subtree(log, place));
+        let is_tie = |pair: &&[usize]| held(log, pair[0]).iter().any(|&other| other > pair[1] && figure(other) == figure(pair[1]));
+        places.windows(2).filter(is_tie).count()
+    }
+
+    #[test]
+    fn heaviest_lines_are_short_long_and_with_ties() {
+        // Lines of one record, of 64, and with a tie at one step, at two and at more.
+        let mut seen = [0; 5];
+        for input in (0..4000).flat_map(inputs).filter(|input| input.takes == Takes::Chunk) {
+            let records = records_of(&input.first).filter(|records| fault(records).is_none());
+            if let Some(log) = records.filter(|_| input.first.len() <= 65_536) {
+                let (length, ties) = (line_of(&log).len(), ties(&log));
+                let found = [length == 1, length == 64, ties == 1, ties == 2, ties > 2];
+                seen.iter_mut().zip(found).for_each(|(count, found)| *count += usize::from(found));
+            }
+        }
+        assert!(seen.iter().all(|&count| count > 2) && seen[2..].iter().all(|&count| count > 20), "{seen:?}");
     }
 
     #[test]

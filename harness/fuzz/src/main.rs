@@ -86,11 +86,11 @@ fn run(settings: &Settings) -> Vec<Answers> {
 }
 
 fn report(answers: &[Answers]) -> u64 {
-    println!("{:<11} {:>12} {:>12}  refused", "call", "calls", "results");
+    println!("{:<13} {:>12} {:>12}  refused", "call", "calls", "results");
     let mut sum = Answers::default();
     for (call, answers) in CALLS.iter().zip(answers) {
         let refused: Vec<String> = call.refuses.iter().map(|&number| format!("{number}: {}", answers.refused[number])).collect();
-        println!("{:<11} {:>12} {:>12}  {}", call.name, answers.calls, answers.results, refused.join(", "));
+        println!("{:<13} {:>12} {:>12}  {}", call.name, answers.calls, answers.results, refused.join(", "));
         sum.add(answers);
     }
     println!("{} calls, {} differences", sum.calls, sum.differences);

@@ -7,6 +7,7 @@ use crate::gate::{
     question_1, question_12, question_2, question_3, question_4, question_5, question_6, questions_7_to_11_of_log,
     questions_7_to_11_of_row,
 };
+use crate::heaviest_line::{encode_numbers, line_of};
 use crate::layout::encode;
 use crate::merge;
 use crate::mode::{stored, Mode};
@@ -137,6 +138,13 @@ pub fn backwards(run: &[u8], y: i64) -> Result<i64, u8> {
     backwards::question_16(&run)?;
     backwards::question_17(&run, y)?;
     Ok(backwards::inner(&run, y))
+}
+
+/// Document 02, L7: "Name the records that make it: for a well-formed log of one chunk".
+/// "Faults get their numbers as at finish; a short buffer 12."
+pub fn heaviest_line(log: &[u8], capacity: usize) -> Result<Vec<u8>, u8> {
+    let records = whole_log(log)?;
+    question_12(encode_numbers(&line_of(&records)), capacity)
 }
 
 /// The records of a whole log, by questions 2, 3 and 7 to 11.

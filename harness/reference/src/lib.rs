@@ -22,6 +22,7 @@
 //! | L3                         | [`mode`], [`layout`], [`run`]            |
 //! | L5                         | [`small_days`], [`calls`]                |
 //! | L6                         | [`backwards`], [`calls`]                 |
+//! | L7                         | [`heaviest_line`], [`calls`]             |
 //!
 //! [`gen`] makes the inputs that tests try: logs, cuts, merge lists, day tables, runs,
 //! damaged bytes and summaries that no chunk makes.
@@ -31,6 +32,7 @@ pub mod bytes;
 pub mod calls;
 pub mod gate;
 pub mod gen;
+pub mod heaviest_line;
 pub mod layout;
 pub mod log;
 pub mod merge;

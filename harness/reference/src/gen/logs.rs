@@ -1,6 +1,8 @@
 //! Logs, well formed and with each fault; their bytes; cuts; merge lists.
 
 use super::Rng;
+use crate::heaviest_line::line_of;
+use crate::log::{closer, opens};
 use crate::mode::Mode;
 use crate::record::{encode_close, encode_full, encode_short, encode_with_batch, read_first};
 use crate::record::{Open, Record, DEEPEST, DEFAULT_CEILING, DEFAULT_FLOOR, GRAMS};
@@ -26,6 +28,8 @@ pub const SHAPES: [Shape; 5] = [Shape::Flat, Shape::Bushy, Shape::Deep, Shape::C
 /// From where values, floors and ceilings are drawn.
 #[derive(Clone, Copy, Debug, PartialEq, Eq)]
 pub enum Values {
+    /// -1, 0 or 1 gram, so that figures are often equal.
+    Few,
     /// A few grams, so that floors and ceilings bind often.
     Small,
     /// The ends of the range, and next to them.
@@ -34,11 +38,13 @@ pub enum Values {
     Full,
 }
 
+/// Those of most logs.
 pub const VALUES: [Values; 3] = [Values::Small, Values::Ends, Values::Full];
 
 /// A number of grams within ±1,000,000,000.
 pub fn grams(rng: &mut Rng, values: Values) -> i64 {
     match values {
+        Values::Few => rng.between(-1, 1),
         Values::Small => rng.between(-20, 20),
         Values::Ends => rng.pick(&[-GRAMS, 1 - GRAMS, -1, 0, 1, GRAMS - 1, GRAMS]),
         Values::Full => rng.between(-GRAMS, GRAMS),
@@ -78,6 +84,39 @@ pub fn any_log(rng: &mut Rng, most_opened: usize) -> Vec<Record> {
     let values = rng.pick(&VALUES);
     let opened = 1 + rng.below(most_opened);
     log(rng, shape, values, opened)
+}
+
+/// A well-formed log of at most so many opened records, or a few more, in which several of
+/// those that one holds often have the greatest figure in mode 2, or nearly.
+pub fn log_with_ties(rng: &mut Rng, most_opened: usize) -> Vec<Record> {
+    let shape = rng.pick(&SHAPES);
+    let opened = 1 + rng.below(most_opened);
+    let mut records = log(rng, shape, Values::Few, opened.div_ceil(2));
+    for _ in 0..rng.below(12) {
+        let longer = with_copy(rng, &records);
+        if longer.len() <= 2 * most_opened {
+            records = longer;
+        }
+    }
+    records
+}
+
+/// The log in which a record of its heaviest line stands twice, with all that it holds: the
+/// copy before or after it, as it is or with a gram more or less somewhere.
+fn with_copy(rng: &mut Rng, log: &[Record]) -> Vec<Record> {
+    let line = line_of(log);
+    if line.len() == 1 {
+        return log.to_vec();
+    }
+    let place = opens(log)[line[1 + rng.below(line.len() - 1)]];
+    let after = closer(log, place).expect("a record that is closed") + 1;
+    let mut copy = log[place..after].to_vec();
+    let changed = rng.below(copy.len());
+    if let Record::Open(open) = &mut copy[changed] {
+        open.value += rng.pick(&[-1, 0, 0, 1]);
+    }
+    let (before, rest) = log.split_at(rng.pick(&[place, after]));
+    [before, &copy, rest].concat()
 }
 
 /// Opens and closes at random until `opened` are opened, then closes down to level

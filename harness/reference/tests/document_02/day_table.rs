@@ -3,7 +3,7 @@
 //! has this file too.
 
 use crate::calls::{day, read_table, summarise, write_log};
-use reference::gen::raw::{close, line, log_d, longest_log, open, short, MODES};
+use reference::gen::raw::{close, faulty_logs, line, log_d, longest_log, open, short, MODES};
 
 /// As long as the longest result: no log written is longer, and no table read.
 const AMPLE: usize = 65_520;
@@ -299,43 +299,6 @@ fn reading_back_has_no_limit_of_lines() {
     assert_refused(&table[..38_234], 2);
     assert_eq!(read_table(&lines(2730), AMPLE), Ok(table[..38_220].to_vec()));
     assert_eq!(write_log(&table[..38_220], AMPLE).map(|log| log.len()), Ok(65_520));
-}
-
-/// Logs with one fault or more, and the number that each gets.
-fn faulty_logs() -> Vec<(Vec<u8>, u8)> {
-    let long = longest_log();
-    let unreadable = close(64);
-    let two_days = [short(0, 1), close(0), short(0, 1), close(0)].concat();
-    let gap = [short(0, 1), short(0, 1)].concat();
-    vec![
-        (vec![], 10),
-        // 7 alone; with 8; with 11; with both.
-        ([short(0, 1), short(2, 1), close(2), close(0)].concat(), 7),
-        ([two_days.clone(), close(0)].concat(), 7),
-        (gap.clone(), 7),
-        ([two_days.clone(), short(1, 1)].concat(), 7),
-        // 8 alone; with 11.
-        (two_days.clone(), 8),
-        ([short(0, 1), close(0), short(0, 1)].concat(), 8),
-        // 11 at the begin, at the end, and at both.
-        ([short(1, 1), close(1), close(0)].concat(), 11),
-        (short(0, 1), 11),
-        (close(1), 11),
-        // 3 with 7, with 8, with 11; alone.
-        ([gap.clone(), unreadable.clone()].concat(), 3),
-        ([two_days.clone(), unreadable.clone()].concat(), 3),
-        ([unreadable.clone(), close(1)].concat(), 3),
-        ([short(0, 1), close(0), vec![6]].concat(), 3),
-        (vec![0; 65_536], 3),
-        // 2 alone: 4,097 opened records.
-        ([short(0, 1), [short(1, 1), close(1)].concat().repeat(4096), close(0)].concat(), 2),
-        // 2 with 3; with 7; with 8; with 11: 65,536 bytes before the last ones.
-        (vec![0; 65_537], 2),
-        ([long.clone(), vec![0]].concat(), 2),
-        ([long.clone(), gap].concat(), 2),
-        (long.repeat(2), 2),
-        ([&long[..65_530], &short(1, 1)].concat(), 2),
-    ]
 }
 
 #[test]
