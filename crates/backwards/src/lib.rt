@@ -4,7 +4,7 @@ ghost use lib.ListN.{length};
 ghost use Rattle.gate.specs.Outcome.{question, result};
 ghost use Rattle.gate.specs.Answers.{finishedAnswer};
 ghost use Rattle.figure.specs.FourModes.{isStamp};
-ghost use Rattle.summary.specs.Judge.{same};
+ghost use Rattle.number.specs.Integer.{same};
 ghost use Rattle.outcome.specs.Outcomes.{runLength};
 ghost use Rattle.run_back.specs.Judge.{runAt, RunNumbers};
 ghost use Rattle.run_back.specs.Decide.{near, isOdd, netFits, heaviestFits, stampFits, eatenFits, numbersFit, isRunBytes};

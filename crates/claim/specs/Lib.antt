@@ -1,5 +1,6 @@
--- Definitions that a reader must believe: Claim, what demand 3 says, Batches, what is claimed of logs that differ in batches only, and Drops, what is
--- claimed of mode 5, in plain numbers, and of mode 3, and HeaviestSum, what is claimed of the values along the heaviest line. Demand3 has the theorem, Table the proved cases of the papers.
+-- Definitions that a reader must believe: Claim, what demand 3 says; Batches, what is claimed of logs that differ in batches only; Drops, what is claimed of
+-- mode 5, in plain numbers, and of mode 3; and HeaviestSum, what is claimed of the values along the heaviest line and of its faults. Demand3 has the theorem,
+-- Table the proved cases of the papers.
 pub mod Claim
 pub mod Batches
 pub mod Drops
@@ -18,7 +19,7 @@ pub mod FirstRow
 pub mod BatchLaws
 -- A drop is taken at its value.
 pub mod DropLaws
--- The values along the heaviest line add to its figure.
+-- The values along the heaviest line add to its figure, and its faults are those of finish.
 pub mod HeaviestSumLaws
 -- The theorems on log D.
 pub mod Examples

@@ -19,7 +19,8 @@ use Rattle.join_plan.specs.Plan.{Line, Before, planOfRow}
 use Rattle.join_plan.specs.ByRecords.{Joined, IsPlan}
 use Rattle.join_plan.specs.Joins.{Joins}
 use Rattle.join_plan.specs.PlanExact.{planOf-some}
-use Rattle.join_plan.specs.LogLevels.{levelsOf, log-well-formed, levels-of-log}
+use Rattle.hill.specs.LogPlaces.{log-well-formed}
+use Rattle.join_plan.specs.LogLevels.{levelsOf, levels-of-log}
 use Rattle.join_plan.specs.LogJoins.{joins-exact}
 use Rattle.join_plan.specs.LogPlan.{row-of}
 use Rattle.join_plan.specs.PlanOfLog.{plan-of-log, plan-only}

@@ -21,7 +21,7 @@ pub record Pinned {𝒜 : Algebra Amounts} (C : Context 𝒜 InRange) (IsRun : L
   pub is : (l : Level 𝒜) (ls : List (Level 𝒜)) → AllSound InRange (l ∷ ls) → IsRun (l ∷ ls) (run C l ls)
   pub only : (ls : List (Level 𝒜)) (j k : C .K) → IsRun ls j → IsRun ls k → j ≡ k
 
-figure-same : {y z : ℤ} → Figure y ≡ Figure z → y ≡ z
+pub figure-same : {y z : ℤ} → Figure y ≡ Figure z → y ≡ z
 figure-same e = ap addend e
 
 -- ---- mode 1: x + a for one x determines a

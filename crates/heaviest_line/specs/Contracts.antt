@@ -12,19 +12,14 @@ use Rattle.chunk.specs.Chunk.{IsWellFormed}
 use Rattle.heaviest_line.specs.declared.ends.Search.{Search}
 use Rattle.heaviest_line.specs.Search.{IsEnd}
 
--- A log that was let through.
-pub record IsWhole (log : List ℕ) : Type 0 where
-  pub records : List (Record Amounts)
-  pub is : IsWellFormed log records
-
 -- What an open and a close leave of the search.
 abbrev pub afterOpen : Search → Search
-afterOpen s = record { opened = s .opened + 1; opens = true; end = s .end; depth = s .depth; sum = s .sum }
+afterOpen s = record { opened = s .opened + 1; opens = true; upto = s .upto; depth = s .depth; sum = s .sum }
 
 abbrev pub afterClose : Search → (depth : ℕ) (sum : ℤ) → Search
 afterClose s depth sum =
-    cond (s .opens && ltZ (s .sum) sum) (record { opened = s .opened; opens = false; end = s .opened; depth = depth; sum = sum })
-    (record { opened = s .opened; opens = false; end = s .end; depth = s .depth; sum = s .sum })
+    cond (s .opens && ltZ (s .sum) sum) (record { opened = s .opened; opens = false; upto = s .opened; depth = depth; sum = sum })
+    (record { opened = s .opened; opens = false; upto = s .upto; depth = s .depth; sum = s .sum })
 
 -- A value is added to what stands at a depth.
 pub record AddsAt (depth : ℕ) (value : ℤ) (sums : List ℤ) : Type 0 where
@@ -32,13 +27,13 @@ pub record AddsAt (depth : ℕ) (value : ℤ) (sums : List ℤ) : Type 0 where
   pub value-light : natAbs value ≤ limit
   pub sum-light : natAbs (getD sums depth (pos 0)) ≤ limit * 64
 
-pub record Able (s : Search) (f : Fields) (sums : List ℤ) : Type 0 where
+pub record CanNote (s : Search) (f : Fields) (sums : List ℤ) : Type 0 where
   pub adds : AddsAt (f .depth) (f .value) sums
   pub few : s .opened ≤ 100_000
 
 -- The line of a log that was let through fits into so many bytes.
-pub record LineFits (log : List ℕ) (end depth room : ℕ) : Type 0 where
+pub record LineFits (log : List ℕ) (upto depth room : ℕ) : Type 0 where
   pub records : List (Record Amounts)
   pub is : IsWellFormed log records
-  pub found : IsEnd records end depth
+  pub found : IsEnd records upto depth
   pub fits : 4 * depth + 4 ≤ room

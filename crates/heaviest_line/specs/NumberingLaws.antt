@@ -1,4 +1,4 @@
--- The pass that writes the numbers of the line: each record keeps what `Numbering` says, and at the end of the line its numbers are written. Assumes nothing.
+-- The pass that writes the numbers of the line: each record keeps what `Numbering` says, and at the upto of the line its numbers are written. Assumes nothing.
 use mathlib.Core.Path.{_≡_, refl, sym, ap, ap₂, subst, _∙_}
 use mathlib.Core.Logic.{⊎-elim, dite}
 use mathlib.Core.List.{List, [], _∷_, _++_, map, append-assoc, append-nil, map-append}
@@ -61,14 +61,14 @@ module _ (xs : List (Record Amounts)) (depth : ℕ) where
   begins-all out [] l b = refl
   begins-all out (p ∷ ps) l b = b .0 (omega arith)
 
-  pub numbering-start : Formed xs → (before : List ℕ) → Numbering xs depth before 0 0 before
+  numbering-start : Formed xs → (before : List ℕ) → Numbering xs depth before 0 0 before
   numbering-start f before = record { formed = f; stack = []; stands = stack-start xs f; counted = refl; begins = tt; size = refl; after = refl }
 
   module _ {before : List ℕ} {k number : ℕ} {out : List ℕ} (i : Numbering xs depth before k number out) (inside : k < length xs) where
     -- a close
-    pub numbering-close : {d : ℕ} → at xs k ≡ closing d → Numbering xs depth before (suc k) number out
+    numbering-close : {d : ℕ} → at xs k ≡ closing d → Numbering xs depth before (suc k) number out
     numbering-close {d} e =
-        let g : Left xs (i .formed) (i .stands) inside d = stack-close xs (i .formed) (i .stack) (i .stands) inside e in
+        let g : Left xs k (i .stack) d = stack-close xs (i .formed) (i .stack) (i .stands) inside e in
         record {
           formed = i .formed;
           stack = g .rest;
@@ -87,7 +87,7 @@ module _ (xs : List (Record Amounts)) (depth : ℕ) where
       count = omega (arith, i .counted, number-next xs k inside, ap opens e)
 
       -- an open deeper than the line goes
-      pub numbering-deeper : depth < d → Numbering xs depth before (suc k) (number + 1) out
+      numbering-deeper : depth < d → Numbering xs depth before (suc k) (number + 1) out
       numbering-deeper l = record {
         formed = i .formed;
         stack = k ∷ i .stack;
@@ -99,7 +99,7 @@ module _ (xs : List (Record Amounts)) (depth : ℕ) where
       }
 
       -- one whose number is stored
-      pub numbering-open : {out′ : List ℕ} → d ≤ depth → 4 * depth + 4 ≤ length out → out′ ≡ putAt 4 out (4 * d) number → Numbering xs depth before (suc k) (number + 1) out′
+      numbering-open : {out′ : List ℕ} → d ≤ depth → 4 * depth + 4 ≤ length out → out′ ≡ putAt 4 out (4 * d) number → Numbering xs depth before (suc k) (number + 1) out′
       numbering-open {out′} l room s = record {
         formed = i .formed;
         stack = k ∷ i .stack;
@@ -119,22 +119,22 @@ module _ (xs : List (Record Amounts)) (depth : ℕ) where
               ∙ sym (bytes-append (map (numberAt xs) (unwind (i .stack) [])) (numberAt xs k))
               ∙ ap numberBytes (sym (map-append (numberAt xs) (unwind (i .stack) []) (k ∷ [])) ∙ ap (map (numberAt xs)) (sym (unwind-append (i .stack) (k ∷ []))))
 
-  -- ---- the end of the line
+  -- ---- the upto of the line
 
-  module _ {end : ℕ} (e : IsEnd xs end depth) {before : List ℕ} {k number : ℕ} {out : List ℕ} (i : Numbering xs depth before k number out) where
+  module _ {upto : ℕ} (e : IsEnd xs upto depth) {before : List ℕ} {k number : ℕ} {out : List ℕ} (i : Numbering xs depth before k number out) where
     -- it is still to come, ..
-    pub not-past : number < end → k ≤ e .place
+    pub not-past : number < upto → k ≤ e .place
     not-past h = number-before xs (e .place) k depth (e .leaf .opens) (omega (arith, i .counted, e .counted))
 
     -- .. or it is written
-    pub all-numbered : end ≤ number → k ≤ suc (e .place) → 4 * depth + 4 ≤ length before → out ≡ bufferAfter (result (numberBytes (lineNumbers xs))) before
+    pub all-numbered : upto ≤ number → k ≤ suc (e .place) → 4 * depth + 4 ≤ length before → out ≡ bufferAfter (result (numberBytes (lineNumbers xs))) before
     all-numbered h l room = go (i .stack) refl
       where
-        at-end : k ≡ suc (e .place)
-        at-end = ⊎-elim (λ (g : k ≡ suc (e .place)). g) (λ g. absurd (omega (arith, number-mono xs k (e .place) (omega arith), i .counted, e .counted))) (eq-or-lt-of-le l)
+        at-upto : k ≡ suc (e .place)
+        at-upto = ⊎-elim (λ (g : k ≡ suc (e .place)). g) (λ g. absurd (omega (arith, number-mono xs k (e .place) (omega arith), i .counted, e .counted))) (eq-or-lt-of-le l)
 
         high : suc depth ≡ length (i .stack)
-        high = sym (ap startLevel (e .leaf .closes)) ∙ ap (λ n. startLevel (at xs n)) (sym at-end) ∙ i .stands .level (omega (arith, at-end, e .leaf .inside))
+        high = sym (ap startLevel (e .leaf .closes)) ∙ ap (λ n. startLevel (at xs n)) (sym at-upto) ∙ i .stands .level (omega (arith, at-upto, e .leaf .inside))
 
         whole : (w : List ℕ) → length w ≡ 4 * depth + 4 → take (4 * depth + 4) out ≡ w → out ≡ bufferAfter (result w) before
         whole w n s =
@@ -147,8 +147,8 @@ module _ (xs : List (Record Amounts)) (depth : ℕ) where
             let n : length ps ≡ depth = omega (arith, high, ap length q) in
             let w : OpenStack xs k (p ∷ ps) = subst (OpenStack xs k) q (i .stands .open-records) in
             let top : p ≡ e .place =
-            ⊎-elim (λ (g : p ≡ e .place). g) (λ g. absurd (omega (arith, w .0 .deeper (e .place) g (omega (arith, at-end)), ap depthOf (e .leaf .opens .1))))
-            (eq-or-lt-of-le (omega (arith, w .0 .before, at-end))) in
+            ⊎-elim (λ (g : p ≡ e .place). g) (λ g. absurd (omega (arith, w .0 .deeper (e .place) g (omega (arith, at-upto)), ap depthOf (e .leaf .opens .1))))
+            (eq-or-lt-of-le (omega (arith, w .0 .before, at-upto))) in
             let line : unwind ps (p ∷ []) ≡ linePlaces xs = ap (λ j. unwind ps (j ∷ [])) top ∙ e .is-line ps (subst (λ j. OpenStack xs j ps) top (w .1)) n in
             let b : Begins xs depth out (p ∷ ps) = subst (Begins xs depth out) q (i .begins) in
             let m : 4 * depth + 4 ≡ 4 * suc (length ps) = omega arith in
@@ -167,24 +167,24 @@ module _ (f : Fields) {depth number : ℕ} {out : List ℕ} (xs : List (Record A
   pub write-open : {out′ : List ℕ} → f .kind ≡ 1 → f .depth ≤ depth → 4 * depth + 4 ≤ length out → out′ ≡ putAt 4 out (4 * f .depth) number → Numbering xs depth before (suc k) (number + 1) out′
   write-open o l room s = numbering-open xs depth i inside (here ∙ is-open f o) l room s
 
--- ---- the pass over a log that was let through, up to the end of the line
+-- ---- the pass over a log that was let through, up to the upto of the line
 
--- Of the log, `rest` is left to be read, and the end of the line is not past.
-pub record NumberingTo (log rest : List ℕ) (end depth : ℕ) (before : List ℕ) (number : ℕ) (out : List ℕ) : Type 0 where
-  pub fits : LineFits log end depth (length before)
+-- Of the log, `rest` is left to be read, and the upto of the line is not past.
+pub record NumberingTo (log rest : List ℕ) (upto depth : ℕ) (before : List ℕ) (number : ℕ) (out : List ℕ) : Type 0 where
+  pub fits : LineFits log upto depth (length before)
   pub place : ℕ
   pub second : Second (fits .records) rest place
   pub numbering : Numbering (fits .records) depth before place number out
   pub so-far : place ≤ suc (fits .found .place)
 
-pub numbering-begin : {log : List ℕ} {end depth : ℕ} {before : List ℕ} → LineFits log end depth (length before) → NumberingTo log log end depth before 0 before
+pub numbering-begin : {log : List ℕ} {upto depth : ℕ} {before : List ℕ} → LineFits log upto depth (length before) → NumberingTo log log upto depth before 0 before
 numbering-begin {depth = depth} {before} l = record { fits = l; place = 0; second = second.begin (l .is); numbering = numbering-start (l .records) depth (l .found .formed) before; so-far = omega arith }
 
-module _ {log rest : List ℕ} {end depth : ℕ} {before : List ℕ} {number : ℕ} {out : List ℕ} (i : NumberingTo log rest end depth before number out) where
+module _ {log rest : List ℕ} {upto depth : ℕ} {before : List ℕ} {number : ℕ} {out : List ℕ} (i : NumberingTo log rest upto depth before number out) where
   pub room : 4 * depth + 4 ≤ length out
   room = omega (arith, i .fits .fits, i .numbering .size)
 
-  module _ (h : number < end) where
+  module _ (h : number < upto) where
     to-come : i .place ≤ i .fits .found .place
     to-come = not-past (i .fits .records) depth (i .fits .found) (i .numbering) h
 
@@ -198,7 +198,7 @@ module _ {log rest : List ℕ} {end depth : ℕ} {before : List ℕ} {number : �
 
     pub numbering-next : {f : Fields} (e : readOf rest ≡ result f) {number′ : ℕ} {out′ : List ℕ}
         → ((xs : List (Record Amounts)) (before : List ℕ) (k : ℕ) → Numbering xs depth before k number out → k < length xs → at xs k ≡ recordOf f → Numbering xs depth before (suc k) number′ out′)
-        → NumberingTo log (take (length rest - f .length) (drop (f .length) rest)) end depth before number′ out′
+        → NumberingTo log (take (length rest - f .length) (drop (f .length) rest)) upto depth before number′ out′
     numbering-next e step = record {
       fits = i .fits;
       place = suc (i .place);
@@ -207,7 +207,7 @@ module _ {log rest : List ℕ} {end depth : ℕ} {before : List ℕ} {number : �
       so-far = omega (arith, to-come);
     }
 
-  pub numbered : end ≤ number → (xs : List (Record Amounts)) → IsWellFormed log xs → out ≡ bufferAfter (result (numberBytes (lineNumbers xs))) before
+  pub numbered : upto ≤ number → (xs : List (Record Amounts)) → IsWellFormed log xs → out ≡ bufferAfter (result (numberBytes (lineNumbers xs))) before
   numbered h xs w =
       all-numbered (i .fits .records) depth (i .fits .found) (i .numbering) h (i .so-far) (i .fits .fits)
       ∙ ap (λ ys. bufferAfter (result (numberBytes (lineNumbers ys))) before) (one-log (i .fits .is) w)

@@ -33,16 +33,16 @@ module _ (xs : List (Record Amounts)) where
     pub nothing-yet : s .sum ≡ nothing
 
   -- .. or s has the first heaviest of them.
-  pub record SomeEnd (f : Formed xs) (k : ℕ) (s : Search) : Type 0 where
+  pub record SomeEnd (k : ℕ) (s : Search) : Type 0 where
     pub place : ℕ
     pub stack : List ℕ
     pub stands : OpenStack xs place stack
     pub leaf : Leaf xs place (length stack)
     pub closed : suc place < k
-    pub counted : s .end ≡ suc (numberAt xs place)
+    pub counted : s .upto ≡ suc (numberAt xs place)
     pub deep : s .depth ≡ length stack
     pub adds : s .sum ≡ sumOf xs (place ∷ stack)
-    pub lighter : (r d : ℕ) → Leaf xs r d → suc r < k → Lighter xs f r place (sumOf xs (place ∷ stack))
+    pub lighter : (r d : ℕ) → Leaf xs r d → suc r < k → Lighter xs r place (sumOf xs (place ∷ stack))
 
   -- Of the log's records xs, k are read.
   pub record Searched (k : ℕ) (s : Search) (sums : List ℤ) : Type 0 where
@@ -54,13 +54,13 @@ module _ (xs : List (Record Amounts)) where
     pub light : (i : ℕ) → natAbs (getD sums i (pos 0)) ≤ limit * i
     pub counted : s .opened ≡ numberAt xs k
     pub last : LastOpens k (s .opens)
-    pub best : NoEnd k s ⊎ SomeEnd formed k s
+    pub best : NoEnd k s ⊎ SomeEnd k s
 
-  -- The record that the line ends with, of this depth, is the last of `end` opened ones: what is open there is the line.
-  pub record IsEnd (end depth : ℕ) : Type 0 where
+  -- The record that the line ends with, of this depth, is the last of `upto` opened ones: what is open there is the line.
+  pub record IsEnd (upto depth : ℕ) : Type 0 where
     pub formed : Formed xs
     pub place : ℕ
     pub leaf : Leaf xs place depth
-    pub counted : end ≡ suc (numberAt xs place)
+    pub counted : upto ≡ suc (numberAt xs place)
     pub is-line : (ps : List ℕ) → OpenStack xs place ps → length ps ≡ depth → unwind ps (place ∷ []) ≡ linePlaces xs
     pub long : length (linePlaces xs) ≡ suc depth

@@ -1,6 +1,6 @@
 -- The pass that looks for the end of the line: an open and a close keep what `Searched` says, and at the end of the log the end is found. Assumes nothing.
 use mathlib.Core.Path.{_≡_, refl, sym, ap, subst, _∙_}
-use mathlib.Core.Bool.{Bool, true, false, cond, _&&_}
+use mathlib.Core.Bool.{Bool, true, false, cond, _&&_, true≢false}
 use mathlib.Core.Logic.{_⊎_, inl, inr, ⊎-elim, dite}
 use mathlib.Core.List.{List, [], _∷_}
 use Prim.Native.Nat.{ℕ, zero, suc, _+_, _-_, _*_, _≤_, _<_}
@@ -28,12 +28,12 @@ use Rattle.whole_log.specs.Second.{Second}
 use Rattle.log_records.specs.Numbers.{numberAt}
 use Rattle.log_records.specs.NumberLaws.{number-next, number-most}
 use Rattle.log_records.specs.Line.{linePlaces}
-use Rattle.log_records.specs.Claims.{valueOf, valueAt, sumOf}
+use Rattle.log_records.specs.Claims.{valueOf, recordValue, sumOf}
 use Rattle.log_records.specs.Formed.{Formed, formed}
 use Rattle.log_records.specs.StackLaws.{unwind, unwind-length, OpenStack, stack-start, open-level, stack-open, Left, stack-close, Leaf, Lighter, end-leaf, stack-line, first-heaviest}
 use Rattle.heaviest_line.specs.declared.ends.Search.{Search}
 use Rattle.heaviest_line.specs.Search.{Sums, LastOpens, NoEnd, SomeEnd, Searched, IsEnd}
-use Rattle.heaviest_line.specs.Contracts.{IsWhole, Able, afterOpen, afterClose}
+use Rattle.heaviest_line.specs.Contracts.{CanNote, afterOpen, afterClose}
 
 module _ (xs : List (Record Amounts)) where
   -- ---- the sums of the open records
@@ -57,8 +57,8 @@ module _ (xs : List (Record Amounts)) where
 
   -- ---- the end so far, one place on
 
-  module _ (f : Formed xs) (k : ℕ) (same : (r d : ℕ) → Leaf xs r d → suc r < suc k → suc r < k) where
-    end-later : {s t : Search} → t .end ≡ s .end → t .depth ≡ s .depth → t .sum ≡ s .sum → NoEnd xs k s ⊎ SomeEnd xs f k s → NoEnd xs (suc k) t ⊎ SomeEnd xs f (suc k) t
+  module _ (k : ℕ) (same : (r d : ℕ) → Leaf xs r d → suc r < suc k → suc r < k) where
+    end-later : {s t : Search} → t .upto ≡ s .upto → t .depth ≡ s .depth → t .sum ≡ s .sum → NoEnd xs k s ⊎ SomeEnd xs k s → NoEnd xs (suc k) t ⊎ SomeEnd xs (suc k) t
     end-later e d a (inl n) = inl (record { none = λ r c l h. n .none r c l (same r c l h); nothing-yet = a ∙ n .nothing-yet })
     end-later e d a (inr n) = inr (record {
       place = n .place;
@@ -85,13 +85,13 @@ module _ (xs : List (Record Amounts)) where
       top-sum : (z : ℤ) → z ≡ getD sums d (pos 0) +ℤ r .value → z ≡ sumOf xs (k ∷ i .stack)
       top-sum z h =
           let t : getD sums d (pos 0) ≡ sumOf xs (i .stack) = ap (λ n. getD sums n (pos 0)) level ∙ sums-top sums (i .stack) (i .added) in
-          let v : r .value ≡ valueAt xs k = ap valueOf (sym e) in
-          h ∙ ap (λ (y : ℤ). y +ℤ r .value) t ∙ ap (λ (y : ℤ). sumOf xs (i .stack) +ℤ y) v ∙ turned (sumOf xs (i .stack)) (valueAt xs k)
+          let v : r .value ≡ recordValue xs k = ap valueOf (sym e) in
+          h ∙ ap (λ (y : ℤ). y +ℤ r .value) t ∙ ap (λ (y : ℤ). sumOf xs (i .stack) +ℤ y) v ∙ turned (sumOf xs (i .stack)) (recordValue xs k)
         where
           turned : (a b : ℤ) → a +ℤ b ≡ b +ℤ a
           turned a b = omega (zed, add-law a b, add-law b a)
 
-      pub searched-open : d < 64 → natAbs (r .value) ≤ limit → Searched xs (suc k) (afterOpen s) (set sums (d + 1) (getD sums d (pos 0) +ℤ r .value))
+      searched-open : d < 64 → natAbs (r .value) ≤ limit → Searched xs (suc k) (afterOpen s) (set sums (d + 1) (getD sums d (pos 0) +ℤ r .value))
       searched-open deep small =
           let z : ℤ = getD sums d (pos 0) +ℤ r .value in
           let n : d + 1 ≡ suc (length (i .stack)) = omega (arith, level) in
@@ -104,14 +104,14 @@ module _ (xs : List (Record Amounts)) where
             light = light-kept sums (d + 1) z (omega (arith, i .size)) (omega (arith, i .light d, abs-+ (getD sums d (pos 0)) (r .value))) (i .light);
             counted = omega (arith, i .counted, number-next xs k inside, ap opens e);
             last = (k, d, refl, (r, e));
-            best = end-later (i .formed) k not-leaf refl refl refl (i .best);
+            best = end-later k not-leaf refl refl refl (i .best);
           }
 
     -- ---- a close
 
     module _ {d : ℕ} (e : at xs k ≡ closing d) (deep : d < 64) where
       -- the record that it closes
-      gone : Left xs (i .formed) (i .stands) inside d
+      gone : Left xs k (i .stack) d
       gone = stack-close xs (i .formed) (i .stack) (i .stands) inside e
 
       stack-sums : Sums xs sums (gone .top ∷ gone .rest)
@@ -127,7 +127,7 @@ module _ (xs : List (Record Amounts)) where
           go true h = refl
           go false h = absurd (omega (zed, h, deep, i .light (d + 1), abs-law (getD sums (d + 1) (pos 0))))
 
-      closed-after : (t : Search) → t .opened ≡ s .opened → t .opens ≡ false → NoEnd xs (suc k) t ⊎ SomeEnd xs (i .formed) (suc k) t → Searched xs (suc k) t sums
+      closed-after : (t : Search) → t .opened ≡ s .opened → t .opens ≡ false → NoEnd xs (suc k) t ⊎ SomeEnd xs (suc k) t → Searched xs (suc k) t sums
       closed-after t o f b = record {
         formed = i .formed;
         stack = gone .rest;
@@ -181,7 +181,7 @@ module _ (xs : List (Record Amounts)) where
         which q c l h = ⊎-elim (λ (g : suc q ≡ k). inr (omega (arith, opened .2))) (λ g. inl g) (eq-or-lt-of-le (omega arith))
 
         -- it is heavier than those before it, ..
-        end-here : (t : Search) → t .end ≡ s .opened → t .depth ≡ d → t .sum ≡ getD sums (d + 1) (pos 0) → ltZ (s .sum) (getD sums (d + 1) (pos 0)) ≡ true → NoEnd xs k s ⊎ SomeEnd xs (i .formed) k s → SomeEnd xs (i .formed) (suc k) t
+        end-here : (t : Search) → t .upto ≡ s .opened → t .depth ≡ d → t .sum ≡ getD sums (d + 1) (pos 0) → ltZ (s .sum) (getD sums (d + 1) (pos 0)) ≡ true → NoEnd xs k s ⊎ SomeEnd xs k s → SomeEnd xs (suc k) t
         end-here t te td ts more b = record {
           place = j;
           stack = gone .rest;
@@ -191,13 +191,13 @@ module _ (xs : List (Record Amounts)) where
           counted = omega (arith, te, i .counted, ap (numberAt xs) (opened .2), number-next xs j (omega (arith, opened .2)), ap opens (opens-here .1));
           deep = td ∙ gone .closes;
           adds = ts ∙ here-sum;
-          lighter = λ q c l h. ⊎-elim (λ g. before b q c l g) (λ (g : q ≡ j). subst (λ n. Lighter xs (i .formed) n j (sumOf xs (j ∷ gone .rest))) (sym g) itself) (which q c l h);
+          lighter = λ q c l h. ⊎-elim (λ g. before b q c l g) (λ (g : q ≡ j). subst (λ n. Lighter xs n j (sumOf xs (j ∷ gone .rest))) (sym g) itself) (which q c l h);
         }
           where
-            itself : Lighter xs (i .formed) j j (sumOf xs (j ∷ gone .rest))
+            itself : Lighter xs j j (sumOf xs (j ∷ gone .rest))
             itself = record { stack = gone .rest; stands = here-stack; opens = here-opens; most = ≤ℤ-refl (sumOf xs (j ∷ gone .rest)); before = λ h. absurd (omega arith) }
 
-            before : NoEnd xs k s ⊎ SomeEnd xs (i .formed) k s → (q c : ℕ) → Leaf xs q c → suc q < k → Lighter xs (i .formed) q j (sumOf xs (j ∷ gone .rest))
+            before : NoEnd xs k s ⊎ SomeEnd xs k s → (q c : ℕ) → Leaf xs q c → suc q < k → Lighter xs q j (sumOf xs (j ∷ gone .rest))
             before (inl n) q c l g = absurd (n .none q c l g)
             before (inr n) q c l g =
                 let x = n .lighter q c l g in
@@ -205,11 +205,8 @@ module _ (xs : List (Record Amounts)) where
                 record { stack = x .stack; stands = x .stands; opens = x .opens; most = omega (zed, less); before = λ _. less }
 
         -- .. or not
-        end-stays : (t : Search) → t .end ≡ s .end → t .depth ≡ s .depth → t .sum ≡ s .sum → ltZ (s .sum) (getD sums (d + 1) (pos 0)) ≡ false → NoEnd xs k s ⊎ SomeEnd xs (i .formed) k s → SomeEnd xs (i .formed) (suc k) t
-        end-stays t te td ts less (inl n) = absurd (true-false (sym sum-some ∙ ap (λ (z : ℤ). ltZ z (getD sums (d + 1) (pos 0))) (sym (n .nothing-yet)) ∙ less))
-          where
-            true-false : true ≡ false → ⊥
-            true-false x = let z : _≡_ {A = ℕ} 0 1 = cc in omega arith
+        end-stays : (t : Search) → t .upto ≡ s .upto → t .depth ≡ s .depth → t .sum ≡ s .sum → ltZ (s .sum) (getD sums (d + 1) (pos 0)) ≡ false → NoEnd xs k s ⊎ SomeEnd xs k s → SomeEnd xs (suc k) t
+        end-stays t te td ts less (inl n) = absurd (true≢false (sym sum-some ∙ ap (λ (z : ℤ). ltZ z (getD sums (d + 1) (pos 0))) (sym (n .nothing-yet)) ∙ less))
         end-stays t te td ts less (inr n) = record {
           place = n .place;
           stack = n .stack;
@@ -219,29 +216,29 @@ module _ (xs : List (Record Amounts)) where
           counted = te ∙ n .counted;
           deep = td ∙ n .deep;
           adds = ts ∙ n .adds;
-          lighter = λ q c l h. ⊎-elim (λ g. n .lighter q c l g) (λ (g : q ≡ j). subst (λ m. Lighter xs (i .formed) m (n .place) (sumOf xs (n .place ∷ n .stack))) (sym g) this) (which q c l h);
+          lighter = λ q c l h. ⊎-elim (λ g. n .lighter q c l g) (λ (g : q ≡ j). subst (λ m. Lighter xs m (n .place) (sumOf xs (n .place ∷ n .stack))) (sym g) this) (which q c l h);
         }
           where
-            this : Lighter xs (i .formed) j (n .place) (sumOf xs (n .place ∷ n .stack))
+            this : Lighter xs j (n .place) (sumOf xs (n .place ∷ n .stack))
             this = record { stack = gone .rest; stands = here-stack; opens = here-opens; most = omega (zed, less, here-sum, n .adds); before = λ h. absurd (omega (arith, n .closed, opened .2)) }
 
-      pub searched-close : Searched xs (suc k) (afterClose s d (getD sums (d + 1) (pos 0))) sums
+      searched-close : Searched xs (suc k) (afterClose s d (getD sums (d + 1) (pos 0))) sums
       searched-close = go (s .opens) refl (ltZ (s .sum) (getD sums (d + 1) (pos 0))) refl
         where
           taken : Search
-          taken = record { opened = s .opened; opens = false; end = s .opened; depth = d; sum = getD sums (d + 1) (pos 0) }
+          taken = record { opened = s .opened; opens = false; upto = s .opened; depth = d; sum = getD sums (d + 1) (pos 0) }
 
           kept : Search
-          kept = record { opened = s .opened; opens = false; end = s .end; depth = s .depth; sum = s .sum }
+          kept = record { opened = s .opened; opens = false; upto = s .upto; depth = s .depth; sum = s .sum }
 
           go : (t : Bool) → s .opens ≡ t → (u : Bool) → ltZ (s .sum) (getD sums (d + 1) (pos 0)) ≡ u → Searched xs (suc k) (cond (t && u) taken kept) sums
           go true f true h = closed-after taken refl refl (inr (end-here f taken refl refl refl h (i .best)))
           go true f false h = closed-after kept refl refl (inr (end-stays f kept refl refl refl h (i .best)))
-          go false f u h = closed-after kept refl refl (end-later (i .formed) k (not-end f) refl refl refl (i .best))
+          go false f u h = closed-after kept refl refl (end-later k (not-end f) refl refl refl (i .best))
 
   -- ---- the beginning and the end of the log
 
-  pub searched-start : Formed xs → {sums : List ℤ} → length sums ≡ 65 → ((j : ℕ) → getD sums j (pos 0) ≡ pos 0) → (s : Search) → s .opened ≡ 0 → s .opens ≡ false → s .sum ≡ nothing → Searched xs 0 s sums
+  searched-start : Formed xs → {sums : List ℤ} → length sums ≡ 65 → ((j : ℕ) → getD sums j (pos 0) ≡ pos 0) → (s : Search) → s .opened ≡ 0 → s .opens ≡ false → s .sum ≡ nothing → Searched xs 0 s sums
   searched-start f {sums} size zero-at s o l n = record {
     formed = f;
     stack = [];
@@ -254,10 +251,10 @@ module _ (xs : List (Record Amounts)) where
     best = inl (record { none = λ r d h g. absurd (omega arith); nothing-yet = n });
   }
 
-  pub searched-end : {k : ℕ} {s : Search} {sums : List ℤ} → Searched xs k s sums → length xs ≤ k → IsEnd xs (s .end) (s .depth)
+  searched-end : {k : ℕ} {s : Search} {sums : List ℤ} → Searched xs k s sums → length xs ≤ k → IsEnd xs (s .upto) (s .depth)
   searched-end {k} {s} i all = go (i .best)
     where
-      go : NoEnd xs k s ⊎ SomeEnd xs (i .formed) k s → IsEnd xs (s .end) (s .depth)
+      go : NoEnd xs k s ⊎ SomeEnd xs k s → IsEnd xs (s .upto) (s .depth)
       go (inl n) = let l = end-leaf xs (i .formed) in absurd (n .none _ (l .0) (l .1) (omega (arith, l .1 .inside)))
       go (inr n) =
           let first = first-heaviest xs (i .formed) (n .place) (length (n .stack)) (n .stack) (n .leaf) (n .stands) (n .leaf .opens) (λ r d l. n .lighter r d l (omega (arith, l .inside))) in
@@ -274,7 +271,7 @@ module _ (xs : List (Record Amounts)) where
 
 -- ---- one record, as the code has it: what it adds and compares is given by equations
 
-module _ {s : Search} (f : Fields) {sums : List ℤ} (b : Able s f sums) (xs : List (Record Amounts)) (k : ℕ) (i : Searched xs k s sums) (inside : k < length xs) (here : at xs k ≡ recordOf f) where
+module _ {s : Search} (f : Fields) {sums : List ℤ} (b : CanNote s f sums) (xs : List (Record Amounts)) (k : ℕ) (i : Searched xs k s sums) (inside : k < length xs) (here : at xs k ≡ recordOf f) where
   pub note-open : f .kind ≡ 1 → {r : Search} {sums′ : List ℤ} {v : ℤ} → v ≡ f .value → (r ≡ afterOpen s) × (sums′ ≡ set sums (f .depth + 1) (getD sums (f .depth) (pos 0) +ℤ v)) → Searched xs (suc k) r sums′
   note-open o ev e = rw (e .0, e .1, ev) (searched-open xs i inside (here ∙ is-open f o) (b .adds .deep) (b .adds .value-light))
 
@@ -296,13 +293,13 @@ zero-at zero j = refl
 zero-at (suc n) zero = refl
 zero-at (suc n) (suc j) = zero-at n j
 
-pub searching-start : {log : List ℕ} → IsWhole log → (s : Search) → s .opened ≡ 0 → s .opens ≡ false → s .sum ≡ nothing → Searching log log s (replicate 65 (pos 0))
-searching-start w s o l n = record { records = w .records; is = w .is; place = 0; second = second.begin (w .is); searched = searched-start (w .records) (formed (w .records) (w .is .fine)) refl (zero-at 65) s o l n }
+pub searching-start : {log : List ℕ} → (xs : List (Record Amounts)) × IsWellFormed log xs → (s : Search) → s .opened ≡ 0 → s .opens ≡ false → s .sum ≡ nothing → Searching log log s (replicate 65 (pos 0))
+searching-start w s o l n = record { records = w .0; is = w .1; place = 0; second = second.begin (w .1); searched = searched-start (w .0) (formed (w .0) (w .1 .fine)) refl (zero-at 65) s o l n }
 
 module _ {log rest : List ℕ} {s : Search} {sums : List ℤ} (i : Searching log rest s sums) where
   module _ {f : Fields} (e : readOf rest ≡ result f) where
-    pub able : Able s f sums
-    able =
+    pub can-note : CanNote s f sums
+    can-note =
         let r = range-parts (f .depth) (f .value) (f .floor) (f .ceiling) (sound rest f e .ranged) in
         record {
           adds = record { deep = omega (arith, r .depth); value-light = within-size (f .value) (r .value); sum-light = omega (arith, r .depth, i .searched .light (f .depth)) };
@@ -318,5 +315,5 @@ module _ {log rest : List ℕ} {s : Search} {sums : List ℤ} (i : Searching log
       searched = step (i .records) (i .place) (i .searched) (second.inside (i .second) e) (second.here (i .second) e);
     }
 
-  pub found : length rest ≤ 0 → (xs : List (Record Amounts)) → IsWellFormed log xs → IsEnd xs (s .end) (s .depth)
-  found h xs w = subst (λ ys. IsEnd ys (s .end) (s .depth)) (one-log (i .is) w) (searched-end (i .records) (i .searched) (second.ended (i .second) h))
+  pub found : length rest ≤ 0 → (xs : List (Record Amounts)) → IsWellFormed log xs → IsEnd xs (s .upto) (s .depth)
+  found h xs w = subst (λ ys. IsEnd ys (s .upto) (s .depth)) (one-log (i .is) w) (searched-end (i .records) (i .searched) (second.ended (i .second) h))

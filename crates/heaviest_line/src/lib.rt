@@ -9,7 +9,6 @@ ghost use Rattle.figure.specs.FourModes.{Amounts};
 ghost use Rattle.hill.specs.Log.{Record};
 ghost use Rattle.chunk.specs.Chunk.{IsWellFormed};
 ghost use Rattle.log_records.specs.Line.{lineNumbers, numberBytes, heaviestLineOutcome};
-ghost use Rattle.heaviest_line.specs.Contracts.{IsWhole};
 use gate::Written;
 use whole_log::LogAsked;
 
@@ -18,7 +17,7 @@ mod numbers;
 
 // The numbers of the line of a log that was let through, where they fit.
 fn put_line(log: &[u8], out: &mut [u8]) -> Written
-    requires { ⌜ IsWhole (now log) ⌝ }
+    requires { ⌜ ((xs : List (Record Amounts)) × IsWellFormed (now log) xs) ⌝ }
     ensures { λ r. ⌜ ((xs : List (Record Amounts)) → IsWellFormed (now (log .entry)) xs → Answers (written (length (now (out .entry))) (numberBytes (lineNumbers xs))) (now (out .entry)) (now (out .exit)) r) ⌝ }
 {
     let end = ends::find_end(log);
@@ -26,7 +25,7 @@ fn put_line(log: &[u8], out: &mut [u8]) -> Written
     if out.len() < total {
         return Written::Refused(12);
     }
-    numbers::write_numbers(log, end.end, end.depth, out);
+    numbers::write_numbers(log, end.upto, end.depth, out);
     Written::Bytes(total)
 }
 

@@ -30,14 +30,14 @@ fn write_number(f: Fields, number: u32, depth: u16, out: &mut [u8]) -> u32
     number + 1
 }
 
-// The numbers of the line that ends with the last of `end` opened records, at this depth.
-pub fn write_numbers(log: &[u8], end: u32, depth: u16, out: &mut [u8])
-    requires { ⌜ LineFits (now log) end depth (length (now out)) ⌝ }
+// The numbers of the line that ends with the last of so many opened records, at this depth.
+pub fn write_numbers(log: &[u8], upto: u32, depth: u16, out: &mut [u8])
+    requires { ⌜ LineFits (now log) upto depth (length (now out)) ⌝ }
     ensures { λ _. ⌜ ((xs : List (Record Amounts)) → IsWellFormed (now (log .entry)) xs → now (out .exit) ≡ bufferAfter (result (numberBytes (lineNumbers xs))) (now (out .entry))) ⌝ }
 {
     let mut number: u32 = 0;
     let mut rest = log;
-    while number < end {
+    while number < upto {
         let Read::Record(f) = record::read_first(rest) else {
             return;
         };

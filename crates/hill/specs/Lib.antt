@@ -28,8 +28,9 @@ pub mod TreeLaws
 pub mod Spell
 pub mod WellFormed
 pub mod FigureLaws
--- A log by its levels alone.
+-- A log by its levels alone, and by its places.
 pub mod Levels
+pub mod LogPlaces
 -- Sorted lists; held, opened, subtrees and the values of "Summaries" by places.
 pub mod SortedLaws
 pub mod Places

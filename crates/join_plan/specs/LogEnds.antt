@@ -15,7 +15,8 @@ use Rattle.hill.specs.Sorted.{Sorted}
 use Rattle.hill.specs.Closing.{at, OpensAt, ClosedBy}
 use Rattle.hill.specs.Row.{joined}
 use Rattle.join_plan.specs.ByRecords.{place, InChunk, Joined}
-use Rattle.join_plan.specs.LogLevels.{levelBefore, WellFormedLog, levelsOf}
+use Rattle.hill.specs.LogPlaces.{levelBefore, WellFormedLog}
+use Rattle.join_plan.specs.LogLevels.{levelsOf}
 use Rattle.join_plan.specs.LogJoins.{place-le, joins-exact}
 use Rattle.join_plan.specs.LogPlan.{log-plan, row-of}
 

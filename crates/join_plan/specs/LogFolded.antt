@@ -15,7 +15,8 @@ use Rattle.hill.specs.Closing.{at, ClosedBy}
 use Rattle.hill.specs.Peak.{depth-least}
 use Rattle.hill.specs.Row.{joined}
 use Rattle.join_plan.specs.ByRecords.{place, InChunk, Crossing, Tally}
-use Rattle.join_plan.specs.LogLevels.{levelBefore, WellFormedLog, levelsOf, rowOfChunks}
+use Rattle.hill.specs.LogPlaces.{levelBefore, WellFormedLog}
+use Rattle.join_plan.specs.LogLevels.{levelsOf, rowOfChunks}
 use Rattle.join_plan.specs.LogJoins.{Deep, Span, chunk-span, chunk-closes, joins-exact, closed-high, closed-deep, first-closes, place-inside, place-le}
 use Rattle.join_plan.specs.LogPlan.{place-all, level-place, row-meets, row-of}
 

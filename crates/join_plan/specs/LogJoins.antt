@@ -14,7 +14,8 @@ use Rattle.hill.specs.Log.{Record, opening, closing, depth, startLevel, endLeve
 use Rattle.hill.specs.Closing.{at, OpensAt, ClosedBy}
 use Rattle.hill.specs.Row.{joined}
 use Rattle.join_plan.specs.ByRecords.{place, Joined}
-use Rattle.join_plan.specs.LogLevels.{levelBefore, WellFormedLog, levelsOf, rowOfChunks}
+use Rattle.hill.specs.LogPlaces.{levelBefore, WellFormedLog}
+use Rattle.join_plan.specs.LogLevels.{levelsOf, rowOfChunks}
 
 module _ {R : Type 0} where
   -- a record that starts above level d, and does not close depth d, stays above it

@@ -15,7 +15,8 @@ use Rattle.hill.specs.Closing.{at}
 use Rattle.hill.specs.Peak.{depth-least}
 use Rattle.hill.specs.Row.{joined}
 use Rattle.join_plan.specs.ByRecords.{place, Joined, PlanLine, IsPlan}
-use Rattle.join_plan.specs.LogLevels.{levelBefore, WellFormedLog, levelsOf, rowOfChunks}
+use Rattle.hill.specs.LogPlaces.{levelBefore, WellFormedLog}
+use Rattle.join_plan.specs.LogLevels.{levelsOf, rowOfChunks}
 use Rattle.join_plan.specs.LogJoins.{Span, chunk-span, place-inside, joins-exact}
 
 module _ {R : Type 0} where

@@ -14,7 +14,8 @@ use Rattle.hill.specs.Row.{joined}
 use Rattle.join_plan.specs.Plan.{Line, Before, joins, folded, planOfRow}
 use Rattle.join_plan.specs.ByRecords.{InChunk, IsPlan, Crossing, Tally}
 use Rattle.join_plan.specs.ScanExact.{before-asym}
-use Rattle.join_plan.specs.LogLevels.{log-well-formed, levels-of-log}
+use Rattle.hill.specs.LogPlaces.{log-well-formed}
+use Rattle.join_plan.specs.LogLevels.{levels-of-log}
 use Rattle.join_plan.specs.LogPlan.{log-plan, log-bound}
 use Rattle.join_plan.specs.LogFolded.{folded-crossing}
 use Rattle.join_plan.specs.LogEnds.{log-none, log-last}

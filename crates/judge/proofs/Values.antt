@@ -8,12 +8,13 @@ use native.Mathlib.Omega.{arith}
 use lib.Dec.{leb, ltb}
 use lib.IntN.{ℤ, natAbs}
 use borrow.Author.Tests.{leb-true, leb-false, lt-ltb, le-ltb, eq-eqb, ne-eqb}
+use Rattle.number.specs.Integer.{same}
 use Rattle.number.specs.Bytes.{i64At}
 use Rattle.figure.specs.FourModes.{limit, nothing, readHeld, isStamp}
 use Rattle.figure.specs.Bound.{sizeHeld}
 use Rattle.figure.specs.Mode.{storesNothing, modeOf}
 use Rattle.figure.specs.Stored.{sizeOf, none, none-is, size-is}
-use Rattle.summary.specs.Judge.{modeAt, riseAt, fallAt, openedAt, leftAt, middleAt, heldAt, sumTo, same, nothingIn, counted}
+use Rattle.summary.specs.Judge.{modeAt, riseAt, fallAt, openedAt, leftAt, middleAt, heldAt, sumTo, nothingIn, counted}
 use Rattle.summary.specs.Decide.{allTo, valuesFit}
 use Rattle.summary.specs.ModeValues.{size-held}
 use Rattle.judge.specs.Laid.{stampsFit, sizesFit, valueIn}

@@ -1,22 +1,24 @@
 -- What naming the records behind the heaviest line comes to: their numbers, or a fault, or 12, each exactly where it is due. Assumes nothing.
 use mathlib.Core.Path.{_≡_, refl, sym, ap, subst, _∙_}
 use mathlib.Core.Bool.{Bool, true, false, cond}
-use mathlib.Core.Logic.{_⊎_, inl, inr, _↔_, dite}
+use mathlib.Core.Logic.{dite}
 use mathlib.Core.List.{List, [], _∷_, map}
 use Prim.Native.Nat.{ℕ, zero, suc, _+_, _-_, _*_, _≤_, _<_}
+use native.Mathlib.Nat.{zero-add, add-zero}
 use native.Mathlib.Decide.{decLt}
 use native.Mathlib.Omega.{arith}
 use lib.Dec.{eqb}
 use lib.IntN.{ℤ, _+ℤ_}
 use lib.ListN.{length, getD, length-append, length-map}
 use Rattle.gate.specs.Outcome.{Outcome, refused, result, written}
-use Rattle.gate.specs.Laws.{not-result, one-number, result-same, fits, too-short}
+use Rattle.gate.specs.Laws.{not-result, result-same, fits, too-short}
 use Rattle.number.specs.Bytes.{leAt, bytesOf}
 use Rattle.number.specs.Laws.{length-bytesOf, field-here, field-past}
 use Rattle.record.specs.Ranged.{AllInRange, records-in-range}
 use Rattle.record.specs.declared.Fields.{Fields}
 use Rattle.figure.specs.FourModes.{Amounts}
-use Rattle.hill.specs.Log.{Record, opening, closing, depth}
+use Rattle.hill.specs.Verdict.{pass}
+use Rattle.hill.specs.Log.{Record, opening, closing, depth, logFault}
 use Rattle.hill.specs.Closing.{OpensAt}
 use Rattle.hill.specs.HeldPlaces.{opening-closing}
 use Rattle.chunk.specs.Chunk.{chunkOf, wholeLog, IsWellFormed}
@@ -24,7 +26,7 @@ use Rattle.chunk.specs.Laws.{depth-low, IsLog, is-log}
 use Rattle.log_records.specs.Numbers.{numberAt}
 use Rattle.log_records.specs.NumberLaws.{number-most}
 use Rattle.log_records.specs.Line.{linePlaces, lineNumbers, numberBytes, heaviestLineOutcome}
-use Rattle.log_records.specs.Claims.{valueAt, Down, TakesGreatest, LineBytes, TurnsAway}
+use Rattle.log_records.specs.Claims.{recordValue, Down, TakesGreatest, LineBytes, TurnsAway}
 use Rattle.log_records.specs.Formed.{formed}
 use Rattle.log_records.specs.GreatestLaws.{depth-once}
 use Rattle.log_records.specs.LineLaws.{one-line}
@@ -42,6 +44,16 @@ each-back f (p ∷ ps) small (suc i) l =
     let e : 4 * suc i - 4 ≡ 4 * i = omega arith in
     field-past 4 4 (f p) (numberBytes (map f ps)) (4 * suc i) (omega arith) ∙ ap (leAt 4 (numberBytes (map f ps))) e ∙ each-back f ps small i (omega arith)
 
+-- ---- the record at place i of the line has depth i
+
+module _ (xs : List (Record Amounts)) where
+  down-opens : (qs : List ℕ) (s : ℤ) (p d : ℕ) → OpensAt xs p d → Down xs (TakesGreatest xs) s p qs → (i : ℕ) → i < suc (length qs) → OpensAt xs (getD (p ∷ qs) i 0) (d + i)
+  down-opens qs s p d o w zero l = subst (OpensAt xs p) (sym (add-zero d)) o
+  down-opens [] s p d o w (suc i) l = absurd (omega arith)
+  down-opens (q ∷ qs) s p d o w (suc i) l =
+      let e : suc (w .0 .depth) + i ≡ d + suc i = omega (arith, depth-once xs p d (w .0 .depth) o (w .0 .holds .holder)) in
+      subst (OpensAt xs (getD (q ∷ qs) i 0)) e (down-opens qs (s +ℤ recordValue xs q) q (suc (w .0 .depth)) (w .0 .holds .held) (w .1) i (omega arith))
+
 -- ---- at most 64: no record is deeper than 63
 
 opens-low : (fs : List Fields) → AllInRange fs → (p d : ℕ) → OpensAt (chunkOf fs) p d → d ≤ 63
@@ -53,22 +65,23 @@ opens-low (f ∷ fs) h zero d o = go (eqb (f .kind) 1) (o .1)
     go false e = absurd (opening-closing (closing (f .depth)) d (f .depth) (o .0) e refl)
 opens-low (f ∷ fs) h (suc p) d o = opens-low fs (h .1) p d o
 
-module _ (xs : List (Record Amounts)) (low : (p d : ℕ) → OpensAt xs p d → d ≤ 63) where
-  down-low : (qs : List ℕ) (s : ℤ) (p d : ℕ) → OpensAt xs p d → Down xs (TakesGreatest xs) s p qs → d + length qs ≤ 63
-  down-low [] s p d o w = omega (arith, low p d o)
-  down-low (q ∷ qs) s p d o w =
-      omega (arith, depth-once xs p d (w .0 .depth) o (w .0 .holds .holder), down-low qs (s +ℤ valueAt xs q) q (suc (w .0 .depth)) (w .0 .holds .held) (w .1))
-
 -- ---- what is written
 
 module _ {log : List ℕ} {xs : List (Record Amounts)} (i : IsWellFormed log xs) where
+  fine : logFault xs ≡ pass
+  fine = i .fine
+
   low-log : (p d : ℕ) → OpensAt xs p d → d ≤ 63
   low-log p d o = opens-low (i .fields) (records-in-range log (i .fields) (i .read)) p d (subst (λ ys. OpensAt ys p d) (sym (i .records-are)) o)
 
+  line-opens : (i : ℕ) → i < length (linePlaces xs) → OpensAt xs (getD (linePlaces xs) i 0) i
+  line-opens i l =
+      let a = one-line xs fine .is in
+      let o = down-opens xs (a .below) (recordValue xs 0) 0 0 (a .root) (a .down) i (omega (arith, ap length (a .from-root))) in
+      subst (λ ps. OpensAt xs (getD ps i 0) i) (sym (a .from-root)) (subst (OpensAt xs (getD (0 ∷ a .below) i 0)) (zero-add i) o)
+
   few : length (linePlaces xs) ≤ 64
-  few =
-      let l = one-line xs (i .fine) .is in
-      omega (arith, ap length (l .from-root), down-low xs low-log (l .below) (valueAt xs 0) 0 0 (formed xs (i .fine) .root) (l .down))
+  few = dite (decLt 64 (length (linePlaces xs))) (λ l. absurd (omega (arith, low-log (getD (linePlaces xs) 64 0) 64 (line-opens 64 l)))) (λ l. omega arith)
 
   -- WHAT IS WRITTEN: the numbers of the line's records.
   pub line-bytes : LineBytes xs (numberBytes (lineNumbers xs))
@@ -77,12 +90,9 @@ module _ {log : List ℕ} {xs : List (Record Amounts)} (i : IsWellFormed log xs)
     line = one-line xs (i .fine);
     few = few;
     whole-length = bytes-length (lineNumbers xs) ∙ ap (λ n. 4 * n) (length-map (linePlaces xs) (numberAt xs));
-    each = each-back (numberAt xs) (linePlaces xs) (λ p. omega (arith, number-most xs p, formed xs (i .fine) .few));
+    each = λ k l. record { opens = line-opens k l; number = sym (each-back (numberAt xs) (linePlaces xs) (λ p. omega (arith, number-most xs p, formed xs (i .fine) .few)) k l) };
     bytes = refl;
   }
-
-  only-bytes : {w : List ℕ} → LineBytes xs w → w ≡ numberBytes (lineNumbers xs)
-  only-bytes b = b .bytes ∙ ap (λ ps. numberBytes (map (numberAt xs) ps)) (one-line xs (i .fine) .only (b .places) (b .line .is))
 
 -- ---- what the call comes to
 
@@ -95,28 +105,9 @@ module _ (log : List ℕ) (cap : ℕ) where
   unfolding heaviestLineOutcome
   line-is e = rw e
 
-  module _ (xs : List (Record Amounts)) (w : List ℕ) (e : wholeLog log ≡ result xs) (b : LineBytes xs w) where
-    same : heaviestLineOutcome log cap ≡ written cap w
-    same = line-is e ∙ ap (written cap) (sym (only-bytes (is-log log xs e .formed) b))
-
-    short-12 : (heaviestLineOutcome log cap ≡ refused 12) ↔ (cap < length w)
-    short-12 = ((λ r. dite (decLt cap (length w)) (λ l. l) (λ l. absurd (not-result 12 w (sym r ∙ same ∙ fits cap w (omega arith))))), λ l. same ∙ too-short cap w l)
-
-    all-in : length w ≤ cap → heaviestLineOutcome log cap ≡ result w
-    all-in l = same ∙ fits cap w l
-
-  no-other : (n : ℕ) → heaviestLineOutcome log cap ≡ refused n → (wholeLog log ≡ refused n) ⊎ (n ≡ 12)
-  no-other n r = go (wholeLog log) refl
-    where
-      go : (o : Outcome (List (Record Amounts))) → wholeLog log ≡ o → (o ≡ refused n) ⊎ (n ≡ 12)
-      go (refused k) e = inl (ap refused (one-number (sym (line-refused e) ∙ r)))
-      go (result xs) e =
-          let w : List ℕ = numberBytes (lineNumbers xs) in
-          dite (decLt cap (length w)) (λ l. inr (one-number (sym r ∙ line-is e ∙ too-short cap w l))) (λ l. absurd (not-result n w (sym r ∙ line-is e ∙ fits cap w (omega arith))))
-
-  -- TURNED AWAY exactly where it is due; all else is written.
+  -- TURNED AWAY where it is due; all else is written.
   pub turns-away : TurnsAway log cap
-  turns-away = record { by-fault = λ n e. line-refused e; by-12 = short-12; by-no-other = no-other; else-written = all-in }
+  turns-away = record { by-fault = λ n e. line-refused e; else-written = λ xs e. (numberBytes (lineNumbers xs), line-bytes (is-log log xs e .formed), line-is e) }
 
   -- WHAT THE CALL WRITES.
   pub written-line : {w : List ℕ} → heaviestLineOutcome log cap ≡ result w → (xs : List (Record Amounts)) × IsLog log xs × LineBytes xs w

@@ -5,11 +5,12 @@ use mathlib.Core.Bool.{Bool, true, false}
 use mathlib.Core.List.{List, [], _∷_, map, List·Memᴰ, List·Memᴰ·head, List·Memᴰ·tail, List·Memᴰ·not-nil, List·Memᴰ·cases-cons}
 use Prim.Native.Nat.{ℕ, suc, _≤_, _<_}
 use native.Mathlib.Omega.{arith}
-use lib.IntN.{ℤ, pos, _+ℤ_}
+use lib.IntN.{ℤ, _+ℤ_}
 use lib.Signed.{leZ, _≤ℤ_, ≤ℤ-refl}
 use Rattle.number.specs.Integer.{maxZ}
 use Rattle.number.specs.IntegerLaws.{zed, max-law, ≤-trans, +-mono}
 use Rattle.figure.specs.FourModes.{Amounts, heaviest, lift, lineOf}
+use Rattle.figure.specs.RunUnique.{figure-same}
 use Rattle.figure.specs.declared.Held.{Held}
 use Rattle.figure.specs.declared.Held.the-variants.{Nothing, Figure}
 use Rattle.hill.specs.Log.{Record, startLevel}
@@ -17,17 +18,10 @@ use Rattle.hill.specs.Closing.{OpensAt, Holds, Places}
 use Rattle.hill.specs.Sorted.{Sorted}
 use Rattle.hill.specs.Figure.{figureAt, combined}
 use Rattle.hill.specs.HeldPlaces.{held-listed, held-figure}
-use Rattle.log_records.specs.Line.{heldBy}
-use Rattle.log_records.specs.Claims.{valueOf, valueAt, Reaches, TakesGreatest}
+use Rattle.log_records.specs.Line.{heldBy, greatestHeld}
+use Rattle.log_records.specs.Claims.{valueOf, recordValue, Reaches, TakesGreatest}
 
 -- ---- the greatest of figures
-
-abbrev numberOf : Held → ℤ
-numberOf Nothing = pos 0
-numberOf (Figure z) = z
-
-pub same-number : {a b : ℤ} → Figure a ≡ Figure b → a ≡ b
-same-number e = ap numberOf e
 
 nothing-figure : {b : ℤ} → Nothing ≡ Figure b → ⊥
 nothing-figure e = let z : _≡_ {A = ℕ} 0 1 = cc in omega arith
@@ -88,12 +82,12 @@ first-some f (k ∷ qs) b r e = go (f k) refl (combined heaviest (map f qs)) ref
     two c g u v ih x true t = let h : c ≡ b = omega (zed, max-law c g, t, x) in first-here f k qs b r (u ∙ ap Figure h)
     two c g u v ih x false t =
         let h : g ≡ b = omega (zed, max-law c g, t, x) in
-        first-later f k qs b (λ y. let z : c ≡ b = same-number (sym u ∙ y) in omega (zed, t, h, z)) (ih (v ∙ ap Figure h))
+        first-later f k qs b (λ y. let z : c ≡ b = figure-same (sym u ∙ y) in omega (zed, t, h, z)) (ih (v ∙ ap Figure h))
 
     go : (x : Held) → f k ≡ x → (y : Held) → combined heaviest (map f qs) ≡ y → (combined heaviest (map f qs) ≡ Figure b → FirstReaching f qs b) → lift maxZ x y ≡ Figure b → FirstReaching f (k ∷ qs) b
     go Nothing u y v ih e = first-later f k qs b (λ z. nothing-figure (sym u ∙ z)) (ih (v ∙ e))
     go (Figure c) u Nothing v ih e = first-here f k qs b r (u ∙ e)
-    go (Figure c) u (Figure g) v ih e = two c g u v ih (same-number e) (leZ g c) refl
+    go (Figure c) u (Figure g) v ih e = two c g u v ih (figure-same e) (leZ g c) refl
 
 -- ---- a record's figure and what it holds
 
@@ -101,77 +95,67 @@ module _ (xs : List (Record Amounts)) where
   pub depth-once : (p d e : ℕ) → OpensAt xs p d → OpensAt xs p e → d ≡ e
   depth-once p d e a b = ap startLevel (sym (a .1) ∙ b .1)
 
-  greatest-held : (p d : ℕ) → Held
-  greatest-held p d = combined heaviest (map (figureAt heaviest xs) (heldBy xs p d))
-
   module _ (p d : ℕ) (o : OpensAt xs p d) where
-    value-is : o .0 .value ≡ valueAt xs p
+    value-is : o .0 .value ≡ recordValue xs p
     value-is = ap valueOf (sym (o .1))
 
-    figure-is : Reaches xs p (lineOf (o .0 .value) (greatest-held p d))
-    unfolding greatest-held
+    figure-is : Reaches xs p (lineOf (o .0 .value) (greatestHeld xs p d))
     figure-is = held-figure heaviest xs p d (o .0) (o .1) (heldBy xs p d) (held-listed xs p d o)
 
     -- an opened record has a figure
     pub has-figure : (b : ℤ) × Reaches xs p b
-    has-figure = (lineOf (o .0 .value) (greatest-held p d), figure-is)
+    has-figure = (lineOf (o .0 .value) (greatestHeld xs p d), figure-is)
 
     -- one that holds nothing has its own value
-    pub alone : ((q : ℕ) → Holds xs p q d → ⊥) → Reaches xs p (valueAt xs p)
-    unfolding lineOf greatest-held
+    pub alone : ((q : ℕ) → Holds xs p q d → ⊥) → Reaches xs p (recordValue xs p)
+    unfolding lineOf
     alone none = figure-is ∙ go (heldBy xs p d) (λ q m. none q (held-listed xs p d o .only q m))
       where
-        go : (qs : List ℕ) → ((q : ℕ) → List·Memᴰ q qs → ⊥) → Figure (lineOf (o .0 .value) (combined heaviest (map (figureAt heaviest xs) qs))) ≡ Figure (valueAt xs p)
+        go : (qs : List ℕ) → ((q : ℕ) → List·Memᴰ q qs → ⊥) → Figure (lineOf (o .0 .value) (combined heaviest (map (figureAt heaviest xs) qs))) ≡ Figure (recordValue xs p)
         go [] h = ap Figure value-is
         go (q ∷ qs) h = absurd (h q (List·Memᴰ·head refl))
 
   -- no held record reaches more
-  pub under : (p d : ℕ) (o : OpensAt xs p d) (q : ℕ) (a b : ℤ) → Holds xs p q d → Reaches xs q a → Reaches xs p b → (valueAt xs p +ℤ a) ≤ℤ b
-  unfolding lineOf greatest-held
+  pub under : (p d : ℕ) (o : OpensAt xs p d) (q : ℕ) (a b : ℤ) → Holds xs p q d → Reaches xs q a → Reaches xs p b → (recordValue xs p +ℤ a) ≤ℤ b
+  unfolding lineOf
   under p d o q a b h e g =
       let w = member-under (figureAt heaviest xs) (heldBy xs p d) q a (held-listed xs p d o .all q h) e in
-      let s : b ≡ valueAt xs p +ℤ w .0 = same-number (sym g ∙ figure-is p d o ∙ ap (λ x. Figure (lineOf (o .0 .value) x)) (w .1)) ∙ ap (λ (z : ℤ). z +ℤ w .0) (value-is p d o) in
-      subst (λ (z : ℤ). (valueAt xs p +ℤ a) ≤ℤ z) (sym s) (+-mono (≤ℤ-refl (valueAt xs p)) (w .2))
+      let s : b ≡ recordValue xs p +ℤ w .0 = figure-same (sym g ∙ figure-is p d o ∙ ap (λ x. Figure (lineOf (o .0 .value) x)) (w .1)) ∙ ap (λ (z : ℤ). z +ℤ w .0) (value-is p d o) in
+      subst (λ (z : ℤ). (recordValue xs p +ℤ a) ≤ℤ z) (sym s) (+-mono (≤ℤ-refl (recordValue xs p)) (w .2))
 
   -- ---- one step: a record holds nothing, or an earliest held one reaches the greatest held figure
 
   pub record Stepped (p d : ℕ) : Type 0 where
-    pub place : ℕ
-    pub takes : (s : ℤ) → TakesGreatest xs s p place
-    pub holds : Holds xs p place d
     pub rest : ℤ
-    pub figure : Reaches xs place rest
-    pub adds : Reaches xs p (valueAt xs p +ℤ rest)
-    pub held : combined heaviest (map (figureAt heaviest xs) (heldBy xs p d)) ≡ Figure rest
+    pub held : greatestHeld xs p d ≡ Figure rest
     pub first : FirstReaching (figureAt heaviest xs) (heldBy xs p d) rest
-    pub is-first : first .place ≡ place
+    pub holds : Holds xs p (first .place) d
+    pub takes : (s : ℤ) → TakesGreatest xs s p (first .place)
+    pub adds : Reaches xs p (recordValue xs p +ℤ rest)
 
   pub stepped : (p d : ℕ) → OpensAt xs p d → ((q : ℕ) → Holds xs p q d → ⊥) ⊎ Stepped p d
-  unfolding lineOf greatest-held
-  stepped p d o = go (greatest-held p d) refl
+  unfolding lineOf
+  stepped p d o = go (greatestHeld xs p d) refl
     where
       l : Places (λ q. Holds xs p q d) (heldBy xs p d)
       l = held-listed xs p d o
 
-      most : (b : ℤ) → greatest-held p d ≡ Figure b → (k : ℕ) (a : ℤ) → Holds xs p k d → Reaches xs k a → a ≤ℤ b
+      most : (b : ℤ) → greatestHeld xs p d ≡ Figure b → (k : ℕ) (a : ℤ) → Holds xs p k d → Reaches xs k a → a ≤ℤ b
       most b e k a h r =
           let w = member-under (figureAt heaviest xs) (heldBy xs p d) k a (l .all k h) r in
-          subst (λ (z : ℤ). a ≤ℤ z) (same-number (sym (w .1) ∙ e)) (w .2)
+          subst (λ (z : ℤ). a ≤ℤ z) (figure-same (sym (w .1) ∙ e)) (w .2)
 
-      go : (x : Held) → greatest-held p d ≡ x → ((q : ℕ) → Holds xs p q d → ⊥) ⊎ Stepped p d
+      go : (x : Held) → greatestHeld xs p d ≡ x → ((q : ℕ) → Holds xs p q d → ⊥) ⊎ Stepped p d
       go Nothing e = inl (λ q h.
           let u = has-figure q (suc d) (h .held) in
           nothing-figure (sym e ∙ member-under (figureAt heaviest xs) (heldBy xs p d) q (u .0) (l .all q h) (u .1) .1))
       go (Figure b) e =
           let w = first-some (figureAt heaviest xs) (heldBy xs p d) b (l .rising) e in
           inr (record {
-            place = w .place;
-            takes = λ s. record { depth = d; holds = l .only (w .place) (w .member); most = b; reaches = w .figure; greatest = most b e; earliest = λ k h g. w .earliest k (l .all k h) g };
-            holds = l .only (w .place) (w .member);
             rest = b;
-            figure = w .figure;
-            adds = figure-is p d o ∙ ap (λ x. Figure (lineOf (o .0 .value) x)) e ∙ ap (λ (z : ℤ). Figure (z +ℤ b)) (value-is p d o);
             held = e;
             first = w;
-            is-first = refl;
+            holds = l .only (w .place) (w .member);
+            takes = λ s. record { depth = d; holds = l .only (w .place) (w .member); most = b; reaches = w .figure; greatest = most b e; earliest = λ k h g. w .earliest k (l .all k h) g };
+            adds = figure-is p d o ∙ ap (λ x. Figure (lineOf (o .0 .value) x)) e ∙ ap (λ (z : ℤ). Figure (z +ℤ b)) (value-is p d o);
           })

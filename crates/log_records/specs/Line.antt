@@ -1,12 +1,12 @@
 -- The records behind the heaviest line, and what writing their numbers comes to: document 02, L7. Definitions only; `LineLaws.one-line` says that these
 -- are the records that Claims describes.
-use mathlib.Core.Bool.{Bool, true, false, cond, _&&_}
+use mathlib.Core.Bool.{Bool, true, false, cond}
 use mathlib.Core.List.{List, [], _∷_, _++_, map}
 use Prim.Native.Nat.{ℕ, zero, suc}
 use lib.ListN.{length, drop}
-use lib.Signed.{leZ}
 use Rattle.gate.specs.Outcome.{Outcome, onward, written}
 use Rattle.number.specs.Bytes.{bytesOf}
+use Rattle.number.specs.Integer.{same}
 use Rattle.figure.specs.FourModes.{Amounts, heaviest}
 use Rattle.figure.specs.declared.Held.{Held}
 use Rattle.figure.specs.declared.Held.the-variants.{Nothing, Figure}
@@ -24,17 +24,19 @@ abbrev pub sameFigure : Held → Held → Bool
 sameFigure Nothing Nothing = true
 sameFigure Nothing (Figure b) = false
 sameFigure (Figure a) Nothing = false
-sameFigure (Figure a) (Figure b) = leZ a b && leZ b a
+sameFigure (Figure a) (Figure b) = same a b
 
 -- The first of some places whose figure is h: one place, or none.
 abbrev pub firstWith : (ℕ → Held) → Held → List ℕ → List ℕ
 firstWith figure h [] = []
 firstWith figure h (q ∷ qs) = cond (sameFigure (figure q) h) (q ∷ []) (firstWith figure h qs)
 
--- "The earliest record that reaches it": of those that the one opened at p holds, the first whose mode 2 figure is the greatest held one. None where it
--- holds nothing.
+-- "The greatest held figure" of mode 2, and "the earliest record that reaches it": the first, or none where nothing is held.
+abbrev pub greatestHeld : List (Record Amounts) → (p d : ℕ) → Held
+greatestHeld log p d = combined heaviest (map (figureAt heaviest log) (heldBy log p d))
+
 abbrev pub nextOf : List (Record Amounts) → (p d : ℕ) → List ℕ
-nextOf log p d = firstWith (figureAt heaviest log) (combined heaviest (map (figureAt heaviest log) (heldBy log p d))) (heldBy log p d)
+nextOf log p d = firstWith (figureAt heaviest log) (greatestHeld log p d) (heldBy log p d)
 
 abbrev pub andBelow : (ℕ → List ℕ) → List ℕ → List ℕ
 andBelow below [] = []

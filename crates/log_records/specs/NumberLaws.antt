@@ -1,6 +1,6 @@
 -- Each number below the opened count names one record, and no other number does. Assumes nothing.
 use mathlib.Core.Path.{_≡_, refl, ap}
-use mathlib.Core.Logic.{dite}
+use mathlib.Core.Logic.{_↔_, dite}
 use mathlib.Core.List.{List, [], _∷_}
 use Prim.Native.Nat.{ℕ, zero, suc, _+_, _≤_, _<_}
 use native.Mathlib.Decide.{decLt}
@@ -10,35 +10,36 @@ use lib.Seq.{take-nil}
 use Rattle.hill.specs.Log.{Record, opening, closing, openedOf, opens}
 use Rattle.hill.specs.Closing.{at, OpensAt}
 use Rattle.hill.specs.HeldPlaces.{opening-closing}
-use Rattle.log_records.specs.Numbers.{numberAt, Numbered}
+use Rattle.log_records.specs.Numbers.{numberAt, IsRecord}
+use Rattle.log_records.specs.Claims.{CountedFrom0}
 
 module _ {R : Type 0} where
   -- more records are opened before a later open
-  pub number-less : (log : List (Record R)) (p q d : ℕ) → OpensAt log p d → p < q → numberAt log p < numberAt log q
+  number-less : (log : List (Record R)) (p q d : ℕ) → OpensAt log p d → p < q → numberAt log p < numberAt log q
   number-less [] p q d o l = absurd (opening-closing (closing 0) d 0 (o .0) (o .1) refl)
   number-less (x ∷ xs) zero zero d o l = absurd (omega arith)
   number-less (x ∷ xs) zero (suc q) d o l = omega (arith, ap opens (o .1))
   number-less (x ∷ xs) (suc p) zero d o l = absurd (omega arith)
   number-less (x ∷ xs) (suc p) (suc q) d o l = omega (arith, number-less xs p q d o (omega arith))
 
-  pub number-few : (log : List (Record R)) (p d : ℕ) → OpensAt log p d → numberAt log p < openedOf log
+  number-few : (log : List (Record R)) (p d : ℕ) → OpensAt log p d → numberAt log p < openedOf log
   number-few [] p d o = absurd (opening-closing (closing 0) d 0 (o .0) (o .1) refl)
   number-few (x ∷ xs) zero d o = omega (arith, ap opens (o .1))
   number-few (x ∷ xs) (suc p) d o = omega (arith, number-few xs p d o)
 
   -- One number, one record.
-  pub numbered-once : (log : List (Record R)) (n p q d e : ℕ) → Numbered log n p d → Numbered log n q e → p ≡ q
-  numbered-once log n p q d e a b =
+  record-once : (log : List (Record R)) (n p q d e : ℕ) → IsRecord log n p d → IsRecord log n q e → p ≡ q
+  record-once log n p q d e a b =
       dite (decLt p q)
       (λ l. absurd (omega (arith, number-less log p q d (a .opens) l, a .number, b .number)))
       (λ l. dite (decLt q p) (λ m. absurd (omega (arith, number-less log q p e (b .opens) m, a .number, b .number))) (λ m. omega arith))
 
   -- Every number below the opened count names one.
-  pub numbered-some : (log : List (Record R)) (n : ℕ) → n < openedOf log → (p : ℕ) × (d : ℕ) × Numbered log n p d
-  numbered-some [] n l = absurd (omega arith)
-  numbered-some (opening d r ∷ xs) zero l = (0, d, record { opens = (r, refl); number = refl })
-  numbered-some (opening d r ∷ xs) (suc n) l = let w = numbered-some xs n (omega arith) in (suc (w .0), w .1, record { opens = w .2 .opens; number = omega (arith, w .2 .number) })
-  numbered-some (closing d ∷ xs) n l = let w = numbered-some xs n (omega arith) in (suc (w .0), w .1, record { opens = w .2 .opens; number = omega (arith, w .2 .number) })
+  record-some : (log : List (Record R)) (n : ℕ) → n < openedOf log → (p : ℕ) × (d : ℕ) × IsRecord log n p d
+  record-some [] n l = absurd (omega arith)
+  record-some (opening d r ∷ xs) zero l = (0, d, record { opens = (r, refl); number = refl })
+  record-some (opening d r ∷ xs) (suc n) l = let w = record-some xs n (omega arith) in (suc (w .0), w .1, record { opens = w .2 .opens; number = omega (arith, w .2 .number) })
+  record-some (closing d ∷ xs) n l = let w = record-some xs n (omega arith) in (suc (w .0), w .1, record { opens = w .2 .opens; number = omega (arith, w .2 .number) })
 
   -- one more after an open, as many after a close
   pub number-next : (log : List (Record R)) (k : ℕ) → k < length log → numberAt log (suc k) ≡ opens (at log k) + numberAt log k
@@ -46,7 +47,7 @@ module _ {R : Type 0} where
   number-next (x ∷ xs) zero l = refl
   number-next (x ∷ xs) (suc k) l = omega (arith, number-next xs k (omega arith))
 
-  -- no record before the one that is opened at p has its number
+  -- a place before which no more records are opened than before p does not come after p
   pub number-before : (log : List (Record R)) (p k d : ℕ) → OpensAt log p d → numberAt log k ≤ numberAt log p → k ≤ p
   number-before log p k d o h = dite (decLt p k) (λ l. absurd (omega (arith, number-less log p k d o l))) (λ l. omega arith)
 
@@ -60,3 +61,18 @@ module _ {R : Type 0} where
   number-most [] k = omega (arith, ap openedOf (take-nil {A = Record R} k))
   number-most (x ∷ xs) zero = omega arith
   number-most (x ∷ xs) (suc k) = omega (arith, number-most xs k)
+
+  order : (log : List (Record R)) (m n p q d e : ℕ) → IsRecord log m p d → IsRecord log n q e → (m < n) ↔ (p < q)
+  order log m n p q d e a b = (
+    (λ h. dite (decLt p q) (λ l. l) (λ l. absurd (omega (arith, a .number, b .number, number-mono log q p (omega arith))))),
+    λ l. omega (arith, a .number, b .number, number-less log p q d (a .opens) l),
+  )
+
+  -- COUNTED FROM 0 IN LOG ORDER.
+  pub counted-from-0 : (log : List (Record R)) → CountedFrom0 log
+  counted-from-0 log = record {
+    some = record-some log;
+    once = record-once log;
+    few = λ n p d r. omega (arith, r .number, number-few log p d (r .opens));
+    in-order = order log;
+  }

@@ -11,6 +11,6 @@ abbrev pub numberAt : {R : Type 0} → List (Record R) → (p : ℕ) → ℕ
 numberAt log p = openedOf (take p log)
 
 -- Record n is the one opened at place p, of depth d.
-pub record Numbered {R : Type 0} (log : List (Record R)) (n p d : ℕ) : Type 0 where
+pub record IsRecord {R : Type 0} (log : List (Record R)) (n p d : ℕ) : Type 0 where
   pub opens : OpensAt log p d
   pub number : numberAt log p ≡ n

@@ -11,17 +11,18 @@ use lib.ListN.{length}
 use lib.Signed.{_≤ℤ_, _<ℤ_}
 use Rattle.number.specs.IntegerLaws.{zed, add-law}
 use Rattle.figure.specs.FourModes.{Amounts}
+use Rattle.figure.specs.RunUnique.{figure-same}
 use Rattle.hill.specs.Log.{Record, opening, closing, depth, startLevel, endLevel}
 use Rattle.hill.specs.Closing.{at, OpensAt, ClosedBy, Holds}
 use Rattle.hill.specs.HeldPlaces.{opening-closing, opens-inside}
 use Rattle.log_records.specs.Line.{linePlaces}
-use Rattle.log_records.specs.Claims.{valueAt, sumOf}
+use Rattle.log_records.specs.Claims.{recordValue, sumOf}
 use Rattle.log_records.specs.Formed.{Formed}
-use Rattle.log_records.specs.GreatestLaws.{same-number, has-figure}
-use Rattle.log_records.specs.ChainLaws.{Chain, lastOf, chain-under, same-last, down-chain, first-last}
+use Rattle.log_records.specs.GreatestLaws.{has-figure}
+use Rattle.log_records.specs.ChainLaws.{Chain, chainEnd, chain-under, same-last, down-chain, first-last}
 use Rattle.log_records.specs.LineLaws.{line-earliest}
 
--- A stack of records, deepest first, from the root down, before others.
+-- A stack, deepest first, turned round: from the root down, and then `below`.
 abbrev pub unwind : (ps below : List ℕ) → List ℕ
 unwind [] below = below
 unwind (p ∷ ps) below = unwind ps (p ∷ below)
@@ -55,7 +56,7 @@ module _ {R : Type 0} (xs : List (Record R)) where
 
   module _ (f : Formed xs) where
     pub stack-start : StackBefore 0 []
-    stack-start = record { open-records = tt; level = λ _. f .grounded }
+    stack-start = record { open-records = tt; level = λ _. ap startLevel (f .root .1) }
 
     module _ {k : ℕ} {ps : List ℕ} (s : StackBefore k ps) (inside : k < length xs) where
       -- an open goes on top, ..
@@ -70,13 +71,13 @@ module _ {R : Type 0} (xs : List (Record R)) where
             level = λ l. sym (f .meets k l) ∙ ap endLevel (o .1) ∙ ap suc e;
           }
 
-      -- .. and a close takes the top away
-      pub record Left (d : ℕ) : Type 0 where
-        pub top : ℕ
-        pub rest : List ℕ
-        pub is : ps ≡ top ∷ rest
-        pub closes : d ≡ length rest
-        pub before : StackBefore (suc k) rest
+  -- .. and a close at depth d takes the top away
+  pub record Left (k : ℕ) (ps : List ℕ) (d : ℕ) : Type 0 where
+    pub top : ℕ
+    pub rest : List ℕ
+    pub is : ps ≡ top ∷ rest
+    pub closes : d ≡ length rest
+    pub before : StackBefore (suc k) rest
 
   under-top : (k p : ℕ) (ps : List ℕ) → OpenStack k (p ∷ ps) → at xs k ≡ closing (length ps) → OpenStack (suc k) ps
   under-top k p [] w e = tt
@@ -90,7 +91,7 @@ module _ {R : Type 0} (xs : List (Record R)) where
           (λ n. let g : j ≡ p = omega arith in omega (arith, ap (λ i. depth (at xs i)) g, ap depth (w .0 .opens .1))))
 
   module _ (f : Formed xs) where
-    pub stack-close : {k : ℕ} (ps : List ℕ) (s : StackBefore k ps) (inside : k < length xs) {d : ℕ} → at xs k ≡ closing d → Left f s inside d
+    pub stack-close : {k : ℕ} (ps : List ℕ) (s : StackBefore k ps) (inside : k < length xs) {d : ℕ} → at xs k ≡ closing d → Left k ps d
     stack-close {k} [] s inside {d} e = absurd (omega (arith, s .level inside, ap startLevel e))
     stack-close {k} (p ∷ ps) s inside {d} e =
         let g : d ≡ length ps = omega (arith, s .level inside, ap startLevel e) in
@@ -109,7 +110,7 @@ module _ {R : Type 0} (xs : List (Record R)) where
     pub closes : at xs (suc p) ≡ closing d
     pub inside : suc p < length xs
 
-  pub leaf-alone : {p d : ℕ} → Leaf p d → (q e : ℕ) → Holds xs p q e → ⊥
+  leaf-alone : {p d : ℕ} → Leaf p d → (q e : ℕ) → Holds xs p q e → ⊥
   leaf-alone {p} {d} l q e h =
       let g : e ≡ d = ap startLevel (sym (h .holder .1) ∙ l .opens .1) in
       let c : ClosedBy xs p (suc p) e = record { order = omega arith; inside = l .inside; opened = h .holder; closed = l .closes ∙ ap closing (sym g); first = λ k a b. absurd (omega arith) } in
@@ -119,7 +120,7 @@ module _ {R : Type 0} (xs : List (Record R)) where
   next-opens (opening c r) d e = inr (r, ap (λ k. opening k r) e)
   next-opens (closing c) d e = inl (ap closing (omega arith))
 
-  pub alone-leaf : (f : Formed xs) {p d : ℕ} → OpensAt xs p d → ((q e : ℕ) → Holds xs p q e → ⊥) → Leaf p d
+  alone-leaf : (f : Formed xs) {p d : ℕ} → OpensAt xs p d → ((q e : ℕ) → Holds xs p q e → ⊥) → Leaf p d
   alone-leaf f {p} {d} o none =
       let i : p < length xs = opens-inside xs p d o in
       let l : suc p < length xs = ⊎-elim (λ (g : suc p ≡ length xs). absurd (omega (arith, f .closed p g, ap endLevel (o .1)))) (λ g. g) (eq-or-lt-of-le i) in
@@ -145,12 +146,20 @@ module _ {R : Type 0} (xs : List (Record R)) where
 
 module _ (xs : List (Record Amounts)) where
   -- From the root on: the records of a stack, and what follows below it.
-  pub record Unwound (ps : List ℕ) (q : ℕ) (below : List ℕ) : Type 0 where
+  record Unwound (ps : List ℕ) (q : ℕ) (below : List ℕ) : Type 0 where
     pub rest : List ℕ
     pub is : unwind ps (q ∷ below) ≡ 0 ∷ rest
     pub chain : Chain xs 0 rest
-    pub ends : lastOf xs 0 rest ≡ lastOf xs q below
+    pub ends : chainEnd 0 rest ≡ chainEnd q below
     pub adds : sumOf xs (0 ∷ rest) ≡ sumOf xs (q ∷ ps) +ℤ sumOf xs below
+
+  -- The values down to the end r, beside those down to the end q, which add to s: not heavier, and lighter if r comes before.
+  pub record Lighter (r q : ℕ) (s : ℤ) : Type 0 where
+    pub stack : List ℕ
+    pub stands : OpenStack xs r stack
+    pub opens : OpensAt xs r (length stack)
+    pub most : sumOf xs (r ∷ stack) ≤ℤ s
+    pub before : r < q → sumOf xs (r ∷ stack) <ℤ s
 
   sum-turned : (w v s t u : ℤ) → u ≡ (w +ℤ s) +ℤ (v +ℤ t) → u ≡ (v +ℤ (w +ℤ s)) +ℤ t
   sum-turned w v s t u e = omega (zed, e, add-law (w +ℤ s) (v +ℤ t), add-law w s, add-law v t, add-law (v +ℤ (w +ℤ s)) t, add-law v (w +ℤ s))
@@ -159,31 +168,24 @@ module _ (xs : List (Record Amounts)) where
   sum-one v t = ap (λ (z : ℤ). z +ℤ t) (sym (+ℤ-idr v))
 
   module _ (f : Formed xs) where
-    pub unwound : (ps : List ℕ) (q : ℕ) (below : List ℕ) → OpenStack xs q ps → OpensAt xs q (length ps) → Chain xs q below → Unwound ps q below
-    unwound [] zero below w o c = record { rest = below; is = refl; chain = c; ends = refl; adds = sum-one (valueAt xs 0) (sumOf xs below) }
+    unwound : (ps : List ℕ) (q : ℕ) (below : List ℕ) → OpenStack xs q ps → OpensAt xs q (length ps) → Chain xs q below → Unwound ps q below
+    unwound [] zero below w o c = record { rest = below; is = refl; chain = c; ends = refl; adds = sum-one (recordValue xs 0) (sumOf xs below) }
     unwound [] (suc q) below w o c = absurd (omega (arith, f .raised (suc q) (omega arith) (opens-inside xs (suc q) 0 o), ap startLevel (o .1)))
     unwound (p ∷ ps) q below w o c =
         let u = unwound ps p (q ∷ below) (w .1) (w .0 .opens) ((length ps, open-holds xs (w .0) o), c) in
-        record { rest = u .rest; is = u .is; chain = u .chain; ends = u .ends; adds = sum-turned (valueAt xs p) (valueAt xs q) (sumOf xs ps) (sumOf xs below) (sumOf xs (0 ∷ u .rest)) (u .adds) }
+        record { rest = u .rest; is = u .is; chain = u .chain; ends = u .ends; adds = sum-turned (recordValue xs p) (recordValue xs q) (sumOf xs ps) (sumOf xs below) (sumOf xs (0 ∷ u .rest)) (u .adds) }
 
     -- ---- the first heaviest end
 
-    -- The values down to the end r, beside those down to the end q, which add to s: not heavier, and lighter if r comes before.
-    pub record Lighter (r q : ℕ) (s : ℤ) : Type 0 where
-      pub stack : List ℕ
-      pub stands : OpenStack xs r stack
-      pub opens : OpensAt xs r (length stack)
-      pub most : sumOf xs (r ∷ stack) ≤ℤ s
-      pub before : r < q → sumOf xs (r ∷ stack) <ℤ s
-
-    -- the line behind the heaviest figure, as a chain
+    -- where the line ends
     pub heaviest-end : ℕ
-    heaviest-end = lastOf xs 0 (line-earliest xs f .below)
+    heaviest-end = chainEnd 0 (line-earliest xs f .below)
 
+    -- the line, as a chain
     line-chain : Chain xs 0 (line-earliest xs f .below)
-    line-chain = let l = line-earliest xs f in down-chain xs (f .meets) (l .below) (valueAt xs 0) 0 (l .down)
+    line-chain = let l = line-earliest xs f in down-chain xs (l .below) (recordValue xs 0) 0 (l .down)
 
-    end-of : (qs : List ℕ) (p d : ℕ) → OpensAt xs p d → Chain xs p qs → (e : ℕ) × OpensAt xs (lastOf xs p qs) e × ((q e : ℕ) → Holds xs (lastOf xs p qs) q e → ⊥)
+    end-of : (qs : List ℕ) (p d : ℕ) → OpensAt xs p d → Chain xs p qs → (e : ℕ) × OpensAt xs (chainEnd p qs) e × ((q e : ℕ) → Holds xs (chainEnd p qs) q e → ⊥)
     end-of [] p d o c = (d, o, c)
     end-of (q ∷ qs) p d o c = end-of qs q (suc (c .0 .0)) (c .0 .1 .held) (c .1)
 
@@ -215,10 +217,10 @@ module _ (xs : List (Record Amounts)) where
         let x = lighter heaviest-end (end-leaf .0) (end-leaf .1) in
         let v = unwound (x .stack) heaviest-end [] (x .stands) (x .opens) (leaf-alone xs (end-leaf .1)) in
         let same : v .rest ≡ a .below = same-last xs (f .meets) (v .rest) (a .below) 0 0 (f .root) (v .chain) line-chain (v .ends) in
-        let sum : sumOf xs (0 ∷ a .below) ≡ b .0 = ap (sumOf xs) (sym (a .from-root)) ∙ same-number (sym (a .adds) ∙ b .1) in
+        let sum : sumOf xs (0 ∷ a .below) ≡ b .0 = ap (sumOf xs) (sym (a .from-root)) ∙ figure-same (sym (a .adds) ∙ b .1) in
         let s : sumOf xs (0 ∷ u .rest) ≡ sumOf xs (q ∷ ps) = u .adds ∙ +ℤ-idr (sumOf xs (q ∷ ps)) in
         let t : sumOf xs (heaviest-end ∷ x .stack) ≡ b .0 = sym (+ℤ-idr (sumOf xs (heaviest-end ∷ x .stack))) ∙ sym (v .adds) ∙ ap (λ (rest : List ℕ). sumOf xs (0 ∷ rest)) same ∙ sum in
         let under : sumOf xs (q ∷ ps) ≤ℤ b .0 = subst (λ (z : ℤ). z ≤ℤ b .0) s (chain-under xs (u .rest) 0 0 (b .0) (f .root) (u .chain) (b .1)) in
         let whole : sumOf xs (q ∷ ps) ≡ b .0 = settle (sumOf xs (q ∷ ps)) (sumOf xs (heaviest-end ∷ x .stack)) (b .0) under t (x .most) in
-        let l : heaviest-end ≤ q = subst (λ (k : ℕ). heaviest-end ≤ k) (u .ends) (first-last xs (f .meets) (a .below) (u .rest) (valueAt xs 0) 0 0 (b .0) (f .root) (b .1) (a .down) (u .chain) sum (s ∙ whole)) in
+        let l : heaviest-end ≤ q = subst (λ (k : ℕ). heaviest-end ≤ k) (u .ends) (first-last xs (f .meets) (a .below) (u .rest) (recordValue xs 0) 0 0 (b .0) (f .root) (b .1) (a .down) (u .chain) sum (s ∙ whole)) in
         ⊎-elim (λ (g : heaviest-end ≡ q). sym g) (λ g. absurd (less-not (sumOf xs (heaviest-end ∷ x .stack)) (sumOf xs (q ∷ ps)) (b .0) t whole (x .before g))) (eq-or-lt-of-le l)

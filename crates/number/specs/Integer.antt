@@ -1,8 +1,12 @@
--- The smaller and the greater of two integers, a number held between two ends, one with what is negative as 0, and a number modulo 2^32.
-use mathlib.Core.Bool.{cond}
+-- Whether two integers are the same, the smaller and the greater of two, a number held between two ends, one with what is negative as 0, and a number modulo 2^32.
+use mathlib.Core.Bool.{Bool, cond, _&&_}
 use Prim.Native.Nat.{ℕ, _-_, _%_, _^_}
 use lib.IntN.{ℤ, pos, negsuc}
 use lib.Signed.{leZ}
+
+-- a = b, as a test
+abbrev pub same : ℤ → ℤ → Bool
+same a b = leZ a b && leZ b a
 
 unfoldable pub minZ : ℤ → ℤ → ℤ
 minZ a b = cond (leZ a b) a b

@@ -22,7 +22,7 @@ use Rattle.hill.specs.HeldPlaces.{closed-once, opening-closing, opens-inside, f
 use Rattle.hill.specs.Crossings.{Meeting, joints-meeting, falls}
 use Rattle.hill.specs.ChunkPlaces.{value-listed, value-places, unclosed-places}
 use Rattle.join_plan.specs.ByRecords.{place}
-use Rattle.join_plan.specs.LogLevels.{WellFormedLog}
+use Rattle.hill.specs.LogPlaces.{WellFormedLog}
 use Rattle.join_plan.specs.LogJoins.{place-suc, place-inside, place-le, place-at, closed-high}
 use Rattle.plan_work.specs.RunsByRecords.{Links, Wholly, Apart}
 use Rattle.plan_work.specs.ChunkFigures.{figure-chunk}

@@ -25,7 +25,8 @@ use Rattle.join_plan.specs.Joins.{Opens, Closes, Joins, IsLine}
 use Rattle.join_plan.specs.Gate.{summaryFault, fault-parts}
 use Rattle.join_plan.specs.PlanExact.{planOf-exact}
 use Rattle.join_plan.specs.ByRecords.{place}
-use Rattle.join_plan.specs.LogLevels.{WellFormedLog, log-well-formed, levelsOf, rowOfChunks, chunkFault, log-quiet, fault-summary, levels-of-log}
+use Rattle.hill.specs.LogPlaces.{WellFormedLog, log-well-formed}
+use Rattle.join_plan.specs.LogLevels.{levelsOf, rowOfChunks, chunkFault, log-quiet, fault-summary, levels-of-log}
 use Rattle.join_plan.specs.LogJoins.{place-le, closed-high, joins-exact}
 use Rattle.plan_work.specs.Runs.{peakOfSummary, slopesOf, leftValueAt, openFrom, levelOf, levelsDown, summaryAt, runLevels}
 use Rattle.plan_work.specs.RunsExact.{RunOf}

@@ -5,9 +5,10 @@ use Prim.Native.Nat.{ℕ, _%_}
 use lib.Dec.{leb, eqb}
 use lib.IntN.{ℤ, pos, natAbs}
 use lib.Signed.{leZ}
+use Rattle.number.specs.Integer.{same}
 use Rattle.figure.specs.FourModes.{nothing, isStamp}
 use Rattle.figure.specs.declared.Run.{Run}
-use Rattle.summary.specs.Judge.{modeAt, same}
+use Rattle.summary.specs.Judge.{modeAt}
 use Rattle.summary.specs.Decide.{layoutFits}
 use Rattle.outcome.specs.Outcomes.{runLength}
 use Rattle.run_back.specs.Judge.{runAt}

@@ -4,10 +4,11 @@ use mathlib.Core.List.{List}
 use Prim.Native.Nat.{ℕ, zero, suc, _+_, _*_}
 use lib.Dec.{leb, eqb}
 use lib.ListN.{length}
+use Rattle.number.specs.Integer.{same}
 use Rattle.record.specs.Record.{inRange}
 use Rattle.figure.specs.FourModes.{limit, isStamp}
 use Rattle.figure.specs.Mode.{modeInUse}
-use Rattle.summary.specs.Judge.{lengthAt, kindAt, modeAt, faultAt, spoiltStartAt, startAt, peakAt, endAt, openedAt, riseAt, fallAt, leftAt, middleAt, valueAt, floorAt, ceilingAt, heldAt, same, nothingIn, absoluteValues}
+use Rattle.summary.specs.Judge.{lengthAt, kindAt, modeAt, faultAt, spoiltStartAt, startAt, peakAt, endAt, openedAt, riseAt, fallAt, leftAt, middleAt, valueAt, floorAt, ceilingAt, heldAt, nothingIn, absoluteValues}
 
 -- f 0 to f (n - 1) all pass
 unfoldable pub allTo : ℕ → (ℕ → Bool) → Bool

@@ -2,13 +2,13 @@
 -- The bytes of a slice are each 0 to 255; no clause asks for that again.
 use mathlib.Core.Path.{_≡_}
 use mathlib.Core.Logic.{_≢_, _⊎_}
-use mathlib.Core.Bool.{Bool, true, cond, _&&_}
+use mathlib.Core.Bool.{true, cond, _&&_}
 use mathlib.Core.List.{List}
 use Prim.Native.Nat.{ℕ, zero, suc, _+_, _-_, _*_, _≤_, _<_}
 use lib.ListN.{length}
 use lib.IntN.{ℤ, pos, natAbs}
-use lib.Signed.{leZ}
 use Rattle.number.specs.Bytes.{leAt, i32At, i64At}
+use Rattle.number.specs.Integer.{same}
 use Rattle.record.specs.Record.{inRange}
 use Rattle.figure.specs.FourModes.{limit, nothing, isStamp}
 use Rattle.figure.specs.Mode.{modeInUse, storesNothing}
@@ -82,10 +82,6 @@ sumTo (suc n) f = sumTo n f + f n
 -- "'Nothing held' counts as 0 .. In mode 2 it is no number", nor in mode 5: as it is stored.
 unfoldable pub nothingIn : ℕ → ℤ
 nothingIn m = cond (storesNothing m) nothing (pos 0)
-
--- a = b, as a test
-abbrev pub same : ℤ → ℤ → Bool
-same a b = leZ a b && leZ b a
 
 -- "The absolute 64-bit values (-2^63 in mode 2 counts 0)", and in mode 5.
 unfoldable pub counted : ℕ → ℤ → ℕ

@@ -5,12 +5,13 @@ use mathlib.Core.Bool.{Bool, true, false, cond}
 use Prim.Native.Nat.{ℕ, zero, suc}
 use native.Mathlib.Omega.{arith}
 use lib.IntN.{ℤ, natAbs}
+use Rattle.number.specs.Integer.{same}
 use Rattle.figure.specs.FourModes.{limit, nothing, readHeld, storeHeld, isStamp}
 use Rattle.figure.specs.Bound.{sizeHeld}
 use Rattle.figure.specs.StoreLaws.{read-figure, held-stored, is-stamp, stamp-is}
 use Rattle.figure.specs.Mode.{Mode, modeOf, modeInUse}
 use Rattle.figure.specs.Stored.{mode-small, IsStored, sizeOf, none}
-use Rattle.summary.specs.Judge.{same, nothingIn, counted}
+use Rattle.summary.specs.Judge.{nothingIn, counted}
 use Rattle.summary.specs.Tests.{Tells, tells-same, false-true}
 
 -- Mode M has number m.

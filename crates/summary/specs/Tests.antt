@@ -7,9 +7,9 @@ use native.Mathlib.Omega.{arith}
 use lib.Dec.{T, leb, ltb, eqb}
 use lib.IntN.{ℤ}
 use lib.Signed.{leZ, _≤ℤ_, ≤ℤ-refl}
+use Rattle.number.specs.Integer.{same}
 use Rattle.number.specs.IntegerLaws.{≤-antisym}
 use Rattle.summary.specs.Decide.{allTo}
-use Rattle.summary.specs.Judge.{same}
 use borrow.Author.Tests.{leb-true, le-leb, eqb-true, eq-eqb, ltb-true, lt-ltb}
 
 -- The test t says whether P.

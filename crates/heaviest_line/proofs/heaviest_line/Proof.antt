@@ -23,7 +23,7 @@ opened : (c : tie.After-enum-told) → (n : ℕ) × (result n ≡ askOutcome (no
 opened c = (_, sym (ap askedAnswer (c .enum-told .given .1)) ∙ c .before .before .ask .ensures)
 
 put-line-requires : tie.Need-put-line-requires
-put-line-requires c κs = let o = log-opens _ (opened (c .before) .1) in record { records = o .records; is = o .is .formed }
+put-line-requires c κs = let o = log-opens _ (opened (c .before) .1) in (o .records, o .is .formed)
 
 enum-known-asked : tie.Need-enum-known-asked
 enum-known-asked c = search needs

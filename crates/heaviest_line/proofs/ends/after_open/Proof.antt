@@ -24,7 +24,7 @@ module _ (depth : ℕ) (value : ℤ) (sums : List ℤ) {a b : ℤ} (ea : a ≡ g
   adds h = rw (ea, eb) (omega (arith, h .value-light, h .sum-light))
 
   stored : {z : ℤ} (s : Search) {t : ℤ} → t ≡ s .sum → z ≡ a +ℤ b
-      → (record { opened = s .opened + 1; opens = true; end = s .end; depth = s .depth; sum = t } ≡ afterOpen s) × (set sums (depth + 1) z ≡ set sums (depth + 1) (getD sums depth (pos 0) +ℤ value))
+      → (record { opened = s .opened + 1; opens = true; upto = s .upto; depth = s .depth; sum = t } ≡ afterOpen s) × (set sums (depth + 1) z ≡ set sums (depth + 1) (getD sums depth (pos 0) +ℤ value))
   stored s et ez = (rw et, ap (set sums (depth + 1)) (ez ∙ ap₂ _+ℤ_ ea eb))
 
 -- what stands at the depth, as the code reads it

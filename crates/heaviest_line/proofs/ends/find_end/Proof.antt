@@ -9,7 +9,7 @@ use Rattle.number.specs.Laws.{part-rest}
 use Rattle.record.specs.Record.{readOf, answerOf}
 use Rattle.record.specs.Laws.{sound}
 use Rattle.whole_log.specs.Second as second
-use Rattle.heaviest_line.specs.SearchLaws.{Searching, searching-start, able, searching-next, found}
+use Rattle.heaviest_line.specs.SearchLaws.{Searching, searching-start, can-note, searching-next, found}
 use Rattle.heaviest_line.proofs.ends.find_end.Statement.{statement}
 use Rattle.heaviest_line.proofs.ends.find_end.Tie as tie
 
@@ -44,7 +44,7 @@ cast-length : tie.Need-cast-length Inv-loop μ-loop
 cast-length c = search needs
 
 note-requires : tie.Need-note-requires Inv-loop μ-loop
-note-requires c κs = able (c .before .before .before .before .before .before .before .loop .inv) (read (c .before .before .before))
+note-requires c κs = can-note (c .before .before .before .before .before .before .before .loop .inv) (read (c .before .before .before))
 
 sub-rest : tie.Need-sub-rest Inv-loop μ-loop
 sub-rest c = sound _ _ (read (c .before .before .before .before)) .inside

@@ -14,10 +14,10 @@ use Rattle.heaviest_line.proofs.numbers.write_numbers.Statement.{statem
 use Rattle.heaviest_line.proofs.numbers.write_numbers.Tie as tie
 
 abbrev Inv-loop : tie.InvT-loop
-Inv-loop log end depth out₀ number₀ rest₀ out number rest = NumberingTo log rest end depth out₀ number out
+Inv-loop log upto depth out₀ number₀ rest₀ out number rest = NumberingTo log rest upto depth out₀ number out
 
 abbrev μ-loop : tie.MeasureT-loop
-μ-loop log end depth out₀ number₀ rest₀ out number rest = length rest
+μ-loop log upto depth out₀ number₀ rest₀ out number rest = length rest
 
 -- the record that was read is the first of the rest
 read : (c : tie.After-f Inv-loop μ-loop) → readOf (now (c .before .before .before .before .loop .rest)) ≡ result (c .f .given .0 .0)
