@@ -108,6 +108,8 @@ def held(*values):
 
 
 HEAD, TAIL = halves(1)
+# The line is of records 0, 1 and 2, and record 3, which stands beside 1, comes next.
+BESIDE = short(0, 1) + short(1, 9) + short(2, 1) + close(2) + close(1) + short(1, 1) + close(1) + close(0)
 # Record 2 is deeper than the line goes, which is of records 0 and 3.
 LATER = short(0, 1) + short(1, 1) + short(2, 1) + close(2) + close(1) + short(1, 9) + close(1) + close(0)
 WHOLE = hill(1, 0, 0, 0, 3, [], 12)
@@ -228,7 +230,7 @@ INPUTS = {
     "heaviest_line/no_end_seen": heaviest_line(D),
     "heaviest_line/none_below_0": heaviest_line(short(0, -5) + close(0)),
     "heaviest_line/one_number_short": heaviest_line(D),
-    "heaviest_line/one_record_too_far": heaviest_line(D),
+    "heaviest_line/one_record_too_far": heaviest_line(BESIDE),
     "heaviest_line/open_not_counted": heaviest_line(D),
     "heaviest_line/root_alone": heaviest_line(held(1, 2)),
     "heaviest_line/short_11": heaviest_line(D, 7),

@@ -1,4 +1,4 @@
--- The pass that writes the numbers of the line: each record keeps what `Numbering` says, and at the upto of the line its numbers are written. Assumes nothing.
+-- The pass that writes the numbers of the line: each record keeps what `Numbering` says, and at the end of the line its numbers are written. Assumes nothing.
 use mathlib.Core.Path.{_≡_, refl, sym, ap, ap₂, subst, _∙_}
 use mathlib.Core.Logic.{⊎-elim, dite}
 use mathlib.Core.List.{List, [], _∷_, _++_, map, append-assoc, append-nil, map-append}
@@ -119,7 +119,7 @@ module _ (xs : List (Record Amounts)) (depth : ℕ) where
               ∙ sym (bytes-append (map (numberAt xs) (unwind (i .stack) [])) (numberAt xs k))
               ∙ ap numberBytes (sym (map-append (numberAt xs) (unwind (i .stack) []) (k ∷ [])) ∙ ap (map (numberAt xs)) (sym (unwind-append (i .stack) (k ∷ []))))
 
-  -- ---- the upto of the line
+  -- ---- the end of the line
 
   module _ {upto : ℕ} (e : IsEnd xs upto depth) {before : List ℕ} {k number : ℕ} {out : List ℕ} (i : Numbering xs depth before k number out) where
     -- it is still to come, ..
@@ -130,11 +130,11 @@ module _ (xs : List (Record Amounts)) (depth : ℕ) where
     pub all-numbered : upto ≤ number → k ≤ suc (e .place) → 4 * depth + 4 ≤ length before → out ≡ bufferAfter (result (numberBytes (lineNumbers xs))) before
     all-numbered h l room = go (i .stack) refl
       where
-        at-upto : k ≡ suc (e .place)
-        at-upto = ⊎-elim (λ (g : k ≡ suc (e .place)). g) (λ g. absurd (omega (arith, number-mono xs k (e .place) (omega arith), i .counted, e .counted))) (eq-or-lt-of-le l)
+        at-end : k ≡ suc (e .place)
+        at-end = ⊎-elim (λ (g : k ≡ suc (e .place)). g) (λ g. absurd (omega (arith, number-mono xs k (e .place) (omega arith), i .counted, e .counted))) (eq-or-lt-of-le l)
 
         high : suc depth ≡ length (i .stack)
-        high = sym (ap startLevel (e .leaf .closes)) ∙ ap (λ n. startLevel (at xs n)) (sym at-upto) ∙ i .stands .level (omega (arith, at-upto, e .leaf .inside))
+        high = sym (ap startLevel (e .leaf .closes)) ∙ ap (λ n. startLevel (at xs n)) (sym at-end) ∙ i .stands .level (omega (arith, at-end, e .leaf .inside))
 
         whole : (w : List ℕ) → length w ≡ 4 * depth + 4 → take (4 * depth + 4) out ≡ w → out ≡ bufferAfter (result w) before
         whole w n s =
@@ -147,8 +147,8 @@ module _ (xs : List (Record Amounts)) (depth : ℕ) where
             let n : length ps ≡ depth = omega (arith, high, ap length q) in
             let w : OpenStack xs k (p ∷ ps) = subst (OpenStack xs k) q (i .stands .open-records) in
             let top : p ≡ e .place =
-            ⊎-elim (λ (g : p ≡ e .place). g) (λ g. absurd (omega (arith, w .0 .deeper (e .place) g (omega (arith, at-upto)), ap depthOf (e .leaf .opens .1))))
-            (eq-or-lt-of-le (omega (arith, w .0 .before, at-upto))) in
+            ⊎-elim (λ (g : p ≡ e .place). g) (λ g. absurd (omega (arith, w .0 .deeper (e .place) g (omega (arith, at-end)), ap depthOf (e .leaf .opens .1))))
+            (eq-or-lt-of-le (omega (arith, w .0 .before, at-end))) in
             let line : unwind ps (p ∷ []) ≡ linePlaces xs = ap (λ j. unwind ps (j ∷ [])) top ∙ e .is-line ps (subst (λ j. OpenStack xs j ps) top (w .1)) n in
             let b : Begins xs depth out (p ∷ ps) = subst (Begins xs depth out) q (i .begins) in
             let m : 4 * depth + 4 ≡ 4 * suc (length ps) = omega arith in
@@ -167,9 +167,9 @@ module _ (f : Fields) {depth number : ℕ} {out : List ℕ} (xs : List (Record A
   pub write-open : {out′ : List ℕ} → f .kind ≡ 1 → f .depth ≤ depth → 4 * depth + 4 ≤ length out → out′ ≡ putAt 4 out (4 * f .depth) number → Numbering xs depth before (suc k) (number + 1) out′
   write-open o l room s = numbering-open xs depth i inside (here ∙ is-open f o) l room s
 
--- ---- the pass over a log that was let through, up to the upto of the line
+-- ---- the pass over a log that was let through, up to the end of the line
 
--- Of the log, `rest` is left to be read, and the upto of the line is not past.
+-- Of the log, `rest` is left to be read, and the end of the line is not past.
 pub record NumberingTo (log rest : List ℕ) (upto depth : ℕ) (before : List ℕ) (number : ℕ) (out : List ℕ) : Type 0 where
   pub fits : LineFits log upto depth (length before)
   pub place : ℕ

@@ -21,7 +21,7 @@ abbrev pub valueOf : Record Amounts → ℤ
 valueOf (opening d r) = r .value
 valueOf (closing d) = pos 0
 
--- "Counted from 0 in log order": each number below the opened count names one record, no record has another, and they rise along the log.
+-- "Counted from 0 in log order": each number below the opened count names one record, no other names any, and they rise along the log.
 pub record CountedFrom0 {R : Type 0} (log : List (Record R)) : Type 0 where
   pub some : (n : ℕ) → n < openedOf log → (p : ℕ) × (d : ℕ) × IsRecord log n p d
   pub once : (n p q d e : ℕ) → IsRecord log n p d → IsRecord log n q e → p ≡ q
@@ -82,7 +82,7 @@ module _ (xs : List (Record Amounts)) where
     pub whole : Reaches 0 (s +ℤ rest)
     pub earliest : (k : ℕ) (b : ℤ) → Holds xs p k depth → Reaches k b → Reaches 0 (s +ℤ b) → q ≤ k
 
-  -- "These sentences determine the list": in both readings ps is the one list, and no other.
+  -- The sentences determine the list: in both readings ps is the one list, and no other.
   pub record OneLine (ps : List ℕ) : Type 0 where
     pub is : HeaviestLine ps
     pub only : (qs : List ℕ) → HeaviestLine qs → qs ≡ ps

@@ -311,7 +311,7 @@ fn batches_are_no_weight_and_no_record() {
 }
 
 #[test]
-fn question_12_comes_last_and_exact_fits() {
+fn exact_fits_and_a_byte_less_gets_12() {
     let log = log_d().concat();
     for capacity in 0..8 {
         assert_eq!(heaviest_line(&log, capacity), Err(12));

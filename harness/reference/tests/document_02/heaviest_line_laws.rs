@@ -2,8 +2,8 @@
 //! log and of random ones; that just one list of numbers has what they ask; and what makes no
 //! difference. `compare` puts this to the library.
 
-use crate::calls::{day, finish, heaviest_line, read_table, small_days, summarise};
-use reference::gen::logs::{all_shapes, any_log, encode_mixed, log, log_or_faulty, log_with_ties, of_shape, rebatched};
+use crate::calls::{day, finish, heaviest_line, merge_row, read_table, small_days, summarise, work};
+use reference::gen::logs::{all_shapes, any_log, cut, encode_mixed, log, log_or_faulty, log_with_ties, of_shape, rebatched};
 use reference::gen::logs::{grams, Shape, Values, VALUES};
 use reference::gen::raw::{close, short, MODES};
 use reference::gen::Rng;
@@ -68,6 +68,16 @@ fn random_log(rng: &mut Rng, round: usize) -> Vec<Record> {
     }
 }
 
+/// What finish and the work along the plan give for a log that is cut anywhere and merged.
+fn cut_and_merged(rng: &mut Rng, log: &[Record], mode: u32) -> [Result<i64, u8>; 2] {
+    let count = 2 + rng.below(7);
+    let chunks = cut(rng, log, count);
+    let summary = |chunk: &Vec<Record>| summarise(&encode_mixed(rng, chunk), mode, 1788).expect("readable records");
+    let row: Vec<u8> = chunks.iter().flat_map(summary).collect();
+    let merged = merge_row(&row, 1788).expect("2 to 8 summaries");
+    [finish(&merged), work(&row).map(|(figure, _, _)| figure)]
+}
+
 #[test]
 fn every_sentence_on_random_logs() {
     let mut rng = Rng::new(0x711);
@@ -78,6 +88,7 @@ fn every_sentence_on_random_logs() {
         assert!(is_line(&records, &numbers), "{numbers:?}");
         // The figure is the one that other calls give.
         assert_eq!(day(&bytes).map(|figures| figures[1]), Ok(records[0].figure));
+        assert_eq!(cut_and_merged(&mut rng, &log, 2), [Ok(records[0].figure); 2]);
         // No held record has a greater figure than the one that is taken.
         for pair in numbers.windows(2) {
             let figures = records[pair[0]].held.iter().map(|&other| records[other].figure);
@@ -165,8 +176,9 @@ fn faults_get_their_numbers_as_at_finish() {
     for round in 0..2000 {
         let log = log_or_faulty(&mut rng, 20);
         let bytes = encode_mixed(&mut rng, &log);
-        let summary = summarise(&bytes, MODES[round % 4].into(), 1788).expect("readable records");
-        let fault = finish(&summary).err();
+        let mode = MODES[round % 4].into();
+        let fault = finish(&summarise(&bytes, mode, 1788).expect("readable records")).err();
+        assert_eq!(cut_and_merged(&mut rng, &log, mode).map(|answer| answer.err()), [fault; 2]);
         // Whatever buffer is lent.
         assert_eq!(heaviest_line(&bytes, AMPLE).err(), fault);
         assert_eq!(heaviest_line(&bytes, 3).err(), fault.or(Some(12)));
