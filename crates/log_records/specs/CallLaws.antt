@@ -17,8 +17,7 @@ use Rattle.number.specs.Laws.{length-bytesOf, field-here, field-past}
 use Rattle.record.specs.Ranged.{AllInRange, records-in-range}
 use Rattle.record.specs.declared.Fields.{Fields}
 use Rattle.figure.specs.FourModes.{Amounts}
-use Rattle.hill.specs.Verdict.{pass}
-use Rattle.hill.specs.Log.{Record, opening, closing, depth, logFault}
+use Rattle.hill.specs.Log.{Record, opening, closing, depth}
 use Rattle.hill.specs.Closing.{OpensAt}
 use Rattle.hill.specs.HeldPlaces.{opening-closing}
 use Rattle.chunk.specs.Chunk.{chunkOf, wholeLog, IsWellFormed}
@@ -68,17 +67,14 @@ opens-low (f ∷ fs) h (suc p) d o = opens-low fs (h .1) p d o
 -- ---- what is written
 
 module _ {log : List ℕ} {xs : List (Record Amounts)} (i : IsWellFormed log xs) where
-  fine : logFault xs ≡ pass
-  fine = i .fine
-
   low-log : (p d : ℕ) → OpensAt xs p d → d ≤ 63
   low-log p d o = opens-low (i .fields) (records-in-range log (i .fields) (i .read)) p d (subst (λ ys. OpensAt ys p d) (sym (i .records-are)) o)
 
-  line-opens : (i : ℕ) → i < length (linePlaces xs) → OpensAt xs (getD (linePlaces xs) i 0) i
-  line-opens i l =
-      let a = one-line xs fine .is in
-      let o = down-opens xs (a .below) (recordValue xs 0) 0 0 (a .root) (a .down) i (omega (arith, ap length (a .from-root))) in
-      subst (λ ps. OpensAt xs (getD ps i 0) i) (sym (a .from-root)) (subst (OpensAt xs (getD (0 ∷ a .below) i 0)) (zero-add i) o)
+  line-opens : (k : ℕ) → k < length (linePlaces xs) → OpensAt xs (getD (linePlaces xs) k 0) k
+  line-opens k l =
+      let a = one-line xs (i .fine) .is in
+      let o = down-opens xs (a .below) (recordValue xs 0) 0 0 (a .root) (a .down) k (omega (arith, ap length (a .from-root))) in
+      subst (λ ps. OpensAt xs (getD ps k 0) k) (sym (a .from-root)) (subst (OpensAt xs (getD (0 ∷ a .below) k 0)) (zero-add k) o)
 
   few : length (linePlaces xs) ≤ 64
   few = dite (decLt 64 (length (linePlaces xs))) (λ l. absurd (omega (arith, low-log (getD (linePlaces xs) 64 0) 64 (line-opens 64 l)))) (λ l. omega arith)
