@@ -12,7 +12,7 @@ use Rattle.gate.specs.Outcome.{refused, result, question, written}
 use Rattle.gate.specs.Laws.{fits, not-result}
 use Rattle.number.specs.Bytes.{AllBytes}
 use Rattle.record.specs.Record.{recordsOf, readOf, defaultFloor, defaultCeiling, openBytes}
-use Rattle.record.specs.Laws.{Shape, full, short, batched, closed, shape, sound}
+use Rattle.record.specs.Laws.{short-is, sound}
 use Rattle.record.specs.Encoding.{read-open}
 use Rattle.record.specs.Ranged.{AllInRange, records-in-range}
 use Rattle.record.specs.declared.Fields.{Fields}
@@ -166,13 +166,7 @@ writes-again log xs i few =
 
 -- "A SHORT RECORD READ BACK FILLS ITS LINE WITH THE DEFAULT FLOOR AND CEILING."
 pub short-line : (s : List ℕ) (f : Fields) → readOf s ≡ result f → f .length ≡ 10 → tableOf (recordOf f ∷ []) ≡ tableLine (f .depth) (amounts (f .value) defaultFloor defaultCeiling) ∷ []
-short-line s f e = go f (shape s f e)
-  where
-    go : (f : Fields) → Shape s f → f .length ≡ 10 → tableOf (recordOf f ∷ []) ≡ tableLine (f .depth) (amounts (f .value) defaultFloor defaultCeiling) ∷ []
-    go f (full e0 e2) l = absurd (omega arith)
-    go f (short e0 e2) l = refl
-    go f (batched e0 e2) l = absurd (omega arith)
-    go f (closed e0 e2) l = absurd (omega arith)
+short-line s f e l = ap (λ (g : Fields). tableOf (recordOf g ∷ [])) (short-is s f e l)
 
 -- "A LOG WITH A FAULT GETS THE FAULT'S NUMBER": the lowest of questions 7 to 11 that gets a "no", by places.
 pub read-fault : (log : List ℕ) (fs : List Fields) (n cap : ℕ) → length log ≤ 65_536 → recordsOf log ≡ result fs → NoOfLog (chunkOf fs) n → ((m : ℕ) → NoOfLog (chunkOf fs) m → n ≤ m)

@@ -28,6 +28,8 @@ pub mod TreeLaws
 pub mod Spell
 pub mod WellFormed
 pub mod FigureLaws
+-- Records that carry otherwise what counts the same.
+pub mod Alike
 -- A log by its levels alone, and by its places.
 pub mod Levels
 pub mod LogPlaces

@@ -11,7 +11,7 @@ use lib.IntN.{ℤ, pos, negsuc, natAbs}
 use borrow.Author.Tests.{lt-leb, leb-true, eqb-true}
 use Rattle.gate.specs.Outcome.{Outcome, refused, result}
 use Rattle.number.specs.Bytes.{leAt}
-use Rattle.record.specs.Record.{within, inRange, accepted, whole, byShape, readOf, before, andThen, recordsIn, recordsOf, fullOpen, openWithBatch, shortOpen, close}
+use Rattle.record.specs.Record.{within, inRange, accepted, whole, byShape, readOf, before, andThen, recordsIn, recordsOf, fullOpen, openWithBatch, shortFields, shortOpen, close}
 use Rattle.record.specs.declared.Fields.{Fields}
 
 cond-same : (b : Bool) (r : Outcome Fields) → cond b r r ≡ r
@@ -98,6 +98,16 @@ read-shape s =
 
 pub shape : (s : List ℕ) (f : Fields) → readOf s ≡ result f → Shape s f
 shape s f e = subst (ShapeRead s) e (read-shape s)
+
+-- a record of length 10 has the default floor and ceiling, and no batch
+pub short-is : (s : List ℕ) (f : Fields) → readOf s ≡ result f → f .length ≡ 10 → f ≡ shortFields (f .depth) (f .value)
+short-is s f e = go f (shape s f e)
+  where
+    go : (f : Fields) → Shape s f → f .length ≡ 10 → f ≡ shortFields (f .depth) (f .value)
+    go f (full e0 e2) l = absurd (omega arith)
+    go f (short e0 e2) l = refl
+    go f (batched e0 e2) l = absurd (omega arith)
+    go f (closed e0 e2) l = absurd (omega arith)
 
 -- ---- the records of a chunk
 

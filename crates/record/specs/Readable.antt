@@ -41,6 +41,18 @@ none-read (x ∷ s) e = go (readOf (x ∷ s)) refl
         more (refused n) q = let z : _≡_ {A = ℕ} 0 1 = cc (records-next (x ∷ s) g p) in absurd (omega arith)
         more (result gs) q = let z : _≡_ {A = ℕ} 0 1 = cc (records-next (x ∷ s) g p) in absurd (omega arith)
 
+-- ---- what is so of each record that is read is so of all records of a chunk
+
+abbrev pub Each : (Fields → Type 0) → List Fields → Type 0
+Each P [] = Unit {0}
+Each P (f ∷ fs) = P f × Each P fs
+
+pub each-read : (P : Fields → Type 0) → ((s : List ℕ) (f : Fields) → readOf s ≡ result f → P f) → (fs : List Fields) (b : List ℕ) → recordsOf b ≡ result fs → Each P fs
+each-read P h [] b e = tt
+each-read P h (f ∷ fs) b e =
+    let w : First b f fs = first-read b f fs e in
+    (h b f (w .here), each-read P h fs (drop (f .length) b) (w .rest))
+
 -- ---- one turn of a pass over a chunk that is known to be readable
 
 module _ (s : List ℕ) {fs : List Fields} (e : recordsOf s ≡ result fs) where
