@@ -285,6 +285,7 @@ INPUTS = {
     "record/ceiling_unlimited": call("finish::finish", hill(1, 0, 0, 1, 1, [], 0, [(10, 0, GRAMS + 1, 0)])),
     "record/close_of_7": call("record::read_first", close(1)),
     "record/close_of_8": call("record::read_first", close(1)),
+    "record/default_ceiling": call("record::read_first", short(0, -5)),
     "record/default_floor": call("record::read_first", short(0, -5)),
     "record/depth_64": call("record::read_first", close(64)),
     "record/floor_equals_ceiling": call("record::read_first", opening(0, 1, 5, 5)),

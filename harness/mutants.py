@@ -28,7 +28,7 @@ TIMEOUT_SECONDS = 300
 # The tests that take no time; the others follow where these notice nothing.
 QUICK = ["--", "paper::", "gate::", "figures::", "records::", "question_5::", "rows::pieces",
          "rows::halves", "day_table::", "batch::", "drop_at_value::", "levels::", "small_days::",
-         "backwards::", "heaviest_line::"]
+         "backwards::", "heaviest_line::", "short_records::", "sent_before::"]
 
 # Records: bytes, reading, ranges.
 RECORDS = [
@@ -37,10 +37,6 @@ RECORDS = [
     ("record.rs", "const GRAMS: i64 = 1_000_000_000;", "const GRAMS: i64 = 1_000_000_001;",
      "values within 10^9"),
     ("record.rs", "const DEEPEST: usize = 63;", "const DEEPEST: usize = 64;", "depth 0 to 63"),
-    ("record.rs", "DEFAULT_FLOOR: i64 = -1_000_000_000;", "DEFAULT_FLOOR: i64 = 0;",
-     "the floor of a short record"),
-    ("record.rs", "DEFAULT_CEILING: i64 = 1_000_000_000;", "DEFAULT_CEILING: i64 = 999_999_999;",
-     "the ceiling of a short record"),
     ("record.rs", "[10, 18, 22].contains", "[18, 22].contains", "an open may have length 10"),
     ("record.rs", "CLOSE => length == 6,", "CLOSE => length == 6 || length == 10,",
      "a close has length 6"),
@@ -460,8 +456,7 @@ SMALL_DAYS = [
      "each log is there just once: one in place of the next"),
     ("small_days.rs", "value: 1,", "value: 0,", "each value 1"),
     ("small_days.rs", "value: 1,", "value: 1 + (depth > 6) as i64,", "each value 1, the deepest too"),
-    ("small_days.rs", "encode_short(open.depth, open.value)", "crate::record::encode_full(open)",
-     "short open records"),
+    ("small_days.rs", "encode_all_short(log)", "crate::record::encode_all(log)", "short open records"),
     ("small_days.rs", "opened(records) == u64::from(n)", "opened(records) <= u64::from(n)",
      "n opened records, not fewer"),
     ("small_days.rs", "fault(records).is_none() && ", "", "well-formed logs (any sequence)"),
@@ -714,8 +709,110 @@ HEAVIEST_LINE = [
      "    question_12(encode_numbers", "the heaviest line: no record gets 10"),
 ]
 
+# Document 02, L8: short records start from zero.
+SHORT_RECORDS = [
+    ("record.rs", "DEFAULT_FLOOR: i64 = 0;", "DEFAULT_FLOOR: i64 = -1_000_000_000;",
+     "the floor of a short record: impostor: the old one"),
+    ("record.rs", "DEFAULT_FLOOR: i64 = 0;", "DEFAULT_FLOOR: i64 = 1;", "the floor of a short record: 1"),
+    ("record.rs", "DEFAULT_FLOOR: i64 = 0;", "DEFAULT_FLOOR: i64 = -1;", "the floor of a short record: -1"),
+    ("record.rs", "floor: DEFAULT_FLOOR,", "floor: if depth == 0 { 0 } else { -1_000_000_000 },",
+     "the floor of a short record: not of the first alone"),
+    ("record.rs", "floor: DEFAULT_FLOOR,", "floor: if depth == 0 { -1_000_000_000 } else { 0 },",
+     "the floor of a short record: of the first too"),
+    ("record.rs", "floor: DEFAULT_FLOOR,", "floor: signed(&record[6..10]).min(0),",
+     "the floor of a short record: whatever its value is"),
+    ("record.rs", "DEFAULT_CEILING: i64 = 1_000_000_000;", "DEFAULT_CEILING: i64 = 999_999_999;",
+     "the ceiling of a short record: one less"),
+    ("record.rs", "DEFAULT_CEILING: i64 = 1_000_000_000;", "DEFAULT_CEILING: i64 = 0;",
+     "the ceiling of a short record: 0"),
+    ("record.rs", "DEFAULT_CEILING: i64 = 1_000_000_000;", "DEFAULT_CEILING: i64 = 2_147_483_647;",
+     "the ceiling of a short record: none"),
+    ("record.rs", "10 => Record::Open(Open { depth, value: signed(&record[6..10]),",
+     "10 => Record::Open(Open { depth, value: signed(&record[6..10]).max(0),",
+     "a short record: its value is not raised"),
+    ("record.rs", "in_range(&record).then_some",
+     "(in_range(&record) && (length != 10 || signed(&chunk[6..10]) >= 0)).then_some",
+     "a short record: a value below its floor is read"),
+    ("record.rs", "in_range(&record).then_some", "(length == 10 || in_range(&record)).then_some",
+     "a short record: its value has a range still"),
+    ("record.rs", "floor: signed(&record[10..14]),",
+     "floor: if record.len() == 18 { signed(&record[14..18]).min(0) } else { signed(&record[10..14]) },",
+     "a full record keeps its floor: 0 for all of length 18"),
+    ("record.rs", "floor: signed(&record[10..14]),",
+     "floor: if record.len() == 22 { signed(&record[14..18]).min(0) } else { signed(&record[10..14]) },",
+     "a full record keeps its floor: 0 for all with a batch"),
+    ("record.rs", "floor: signed(&record[10..14]),",
+     "floor: match (record.len(), signed(&record[10..14])) {\n"
+     "                (18, -1_000_000_000) => signed(&record[14..18]).min(0),\n"
+     "                (_, floor) => floor,\n            },",
+     "a full record keeps its floor: the old one is not 0"),
+    ("record.rs", "floor: signed(&record[10..14]),",
+     "floor: match (record.len(), signed(&record[10..14])) {\n"
+     "                (22, -1_000_000_000) => signed(&record[14..18]).min(0),\n"
+     "                (_, floor) => floor,\n            },",
+     "a full record keeps its floor: the old one with a batch is not 0"),
+    ("calls.rs", "[open.value, open.floor, open.ceiling]",
+     "[open.value, if length == 10 { -1_000_000_000 } else { open.floor }, open.ceiling]",
+     "reading a short record answers floor 0"),
+    ("table.rs", "map(|place| open_at(log, place)).collect()",
+     "map(|place| open_at(log, place)).map(|open| match (open.floor, open.ceiling) {\n"
+     "        (0, 1_000_000_000) => Open { floor: -1_000_000_000, ..open },\n        _ => open,\n"
+     "    }).collect()", "the table's line of a short record: not with the old floor"),
+    ("table.rs", "map(|place| open_at(log, place)).collect()",
+     "map(|place| open_at(log, place)).map(|open| match (open.floor, open.ceiling) {\n"
+     "        (-1_000_000_000, 1_000_000_000) => Open { floor: 0, ..open },\n        _ => open,\n"
+     "    }).collect()", "the table's line of a full record: with the old floor"),
+    ("mode.rs", "(Mode::Eaten, None) => v,",
+     "(Mode::Eaten, None) if (record.floor, record.ceiling) == (0, 1_000_000_000) => v.max(0),\n"
+     "        (Mode::Eaten, None) => v,", "a short record that holds nothing counts its value"),
+    ("mode.rs", "(Mode::Net, held) => v + held.unwrap_or(0),",
+     "(Mode::Net, Some(sum)) if record.floor == 0 => (v + sum).max(0),\n"
+     "        (Mode::Net, held) => v + held.unwrap_or(0),", "net does not look at floors"),
+    ("mode.rs", "(Mode::Heaviest, Some(greatest)) => v + greatest,",
+     "(Mode::Heaviest, Some(greatest)) if record.floor == 0 => (v + greatest).max(0),\n"
+     "        (Mode::Heaviest, Some(greatest)) => v + greatest,", "heaviest does not look at floors"),
+    ("layout.rs", "put(&mut out, unclosed.record.floor, 4);",
+     "put(&mut out, unclosed.record.ceiling.min(0), 4);", "summaries carry the floor in full: 0 written"),
+    ("layout.rs", "put(&mut out, unclosed.record.floor, 4);",
+     "put(&mut out, if unclosed.record.floor == -1_000_000_000 { unclosed.record.ceiling.min(0) } "
+     "else { unclosed.record.floor }, 4);", "summaries carry the floor in full: the old one is not written as 0"),
+    ("layout.rs", "put(&mut out, unclosed.record.floor, 4);",
+     "put(&mut out, if unclosed.record.floor == 0 { -1_000_000_000 } else { unclosed.record.floor }, 4);",
+     "summaries carry the floor in full: 0 is not written as the old one"),
+    ("layout.rs", "floor: signed(&bytes[4..8]),", "floor: signed(&bytes[8..12]).min(0),",
+     "those already sent keep their meaning: the floor is read"),
+    ("layout.rs", "floor: signed(&bytes[4..8]),",
+     "floor: match signed(&bytes[4..8]) { -1_000_000_000 => signed(&bytes[8..12]).min(0), floor => floor },",
+     "those already sent keep their meaning: the old floor is not read as 0"),
+    ("layout.rs", "floor: signed(&bytes[4..8]),",
+     "floor: match signed(&bytes[4..8]) { 0 => -1_000_000_000, floor => floor },",
+     "those already sent keep their meaning: 0 is not read as the old floor"),
+    ("layout.rs", "grams_in_range(record.value, record.floor, record.ceiling)\n",
+     "grams_in_range(record.value, record.floor, record.ceiling)\n"
+     "            && (record.floor, record.ceiling) != (-1_000_000_000, 1_000_000_000)\n",
+     "those already sent keep their meaning: they are summaries"),
+    ("merge.rs", "through(mode, &unclosed.record, held)",
+     "through(mode, &crate::mode::Grams { floor: match unclosed.record.floor { -1_000_000_000 => 0, floor => floor },"
+     " ..unclosed.record }, held)", "those already sent keep their meaning: the old floor is not 0 where a merge closes"),
+    ("merge.rs", "        r.unclosed_at(level)\n",
+     "        let mut unclosed = r.unclosed_at(level);\n"
+     "        if unclosed.record.floor == -1_000_000_000 && unclosed.record.ceiling >= 0 {\n"
+     "            unclosed.record.floor = 0;\n        }\n        unclosed\n",
+     "those already sent keep their meaning: a merge carries the right's old floor on"),
+    ("merge.rs", "    } else {\n        l.unclosed_at(level)\n",
+     "    } else {\n        let mut unclosed = l.unclosed_at(level);\n"
+     "        if unclosed.record.floor == -1_000_000_000 && unclosed.record.ceiling >= 0 {\n"
+     "            unclosed.record.floor = 0;\n        }\n        unclosed\n",
+     "those already sent keep their meaning: a merge carries the left's old floor on"),
+    ("run.rs", "through(mode, &i.unclosed_at(level).record, all)",
+     "{\n            let record = i.unclosed_at(level).record;\n"
+     "            let floor = if record.floor == -1_000_000_000 { 0 } else { record.floor };\n"
+     "            through(mode, &crate::mode::Grams { floor, ..record }, all)\n        }",
+     "those already sent keep their meaning: a run has the old floor"),
+]
+
 TABLE = (RECORDS + LOG + MODES + SUMMARIES + MERGING + ACCEPTING + PLANS + CALLS + DAY_TABLE + BATCH
-         + DROPS + SMALL_DAYS + BACKWARDS + HEAVIEST_LINE)
+         + DROPS + SMALL_DAYS + BACKWARDS + HEAVIEST_LINE + SHORT_RECORDS)
 
 
 def cargo(workspace, *arguments):

@@ -74,16 +74,21 @@ enum tulghimo_length {
 /* The first record of a chunk: 0 and kind (1 open, 2 close), length, depth, value, floor, ceiling and batch (the last four 0 for a
  * close), or -3 with the fields as they were. Later bytes are not judged.
  *
- * An open has length 18; or 10, without a floor and a ceiling, which are then -1,000,000,000 and 1,000,000,000; or 22: the 18 bytes,
- * then the batch, the unsigned 32-bit number that the mill prints on the bag. A close has length 6. The batch is answered as 0 to
+ * An open has length 18; or 10, without a floor and a ceiling, which are then 0 and 1,000,000,000; or 22: the 18 bytes, then the
+ * batch, the unsigned 32-bit number that the mill prints on the bag. A close has length 6. The batch is answered as 0 to
  * 4,294,967,295, never negative, and as 0 where the record has none. All other calls drop it: to them a record of length 22 is the
  * one of length 18 with the same fields, but for its four bytes more, which count in the length of the chunk.
+ *
+ * The floor of length 10 was -1,000,000,000 before. Who counts on that sends length 18. Floors and ceilings count in eaten alone, and
+ * only for a record that holds others: of a short one that holds nothing the value counts as it is, below 0 too.
  *
  * The function was tulghimo_read while it had six fields. A buffer that changes its size changes the function's name, so that a
  * program compiled with the old header does not link, instead of being written past its buffer. */
 int64_t tulghimo_read_record(const uint8_t *chunk, size_t n, int64_t fields[7]);
 
-/* The summary of a chunk, in a mode: its length, or -1, -2, -3 or -12. */
+/* The summary of a chunk, in a mode: its length, or -1, -2, -3 or -12. It carries the floor and the ceiling of each record that the
+ * chunk opens and does not close. One that was made while short records had the floor -1,000,000,000 carries that floor for them, and
+ * what it closed is in its figures: it keeps its meaning, and is merged with new ones as it is. */
 int64_t tulghimo_summarise(const uint8_t *chunk, size_t n, uint32_t mode, uint8_t *out, size_t cap);
 
 /* Two summaries of neighbours merged, the left first: the length of theirs, or -5, -6 or -12. */
@@ -117,9 +122,9 @@ int64_t tulghimo_day(const uint8_t *log, size_t n, int64_t figures[4]);
  * its close where it belongs. Its length, or -2, -3, -13, -10 or -12. */
 int64_t tulghimo_write_log(const uint8_t *table, size_t n, uint8_t *out, size_t cap);
 
-/* The day table of a whole log, of the length of a chunk: a line for each opened record, a short one with the floor -1,000,000,000
- * and the ceiling 1,000,000,000, one with a batch without it. Its length, or -2, -3, -7, -8, -10, -11 or -12. (No log of this length
- * has enough records for -9.) */
+/* The day table of a whole log, of the length of a chunk: a line for each opened record, a short one with the floor 0 and the ceiling
+ * 1,000,000,000, one with a batch without it. Its length, or -2, -3, -7, -8, -10, -11 or -12. (No log of this length has enough
+ * records for -9.) */
 int64_t tulghimo_read_table(const uint8_t *log, size_t n, uint8_t *out, size_t cap);
 
 /* All well-formed logs with n opened records, n from 1 to 8, one after another: short open records (length 10), each value 1. Two are

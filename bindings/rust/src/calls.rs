@@ -37,6 +37,10 @@ fn numbers<const N: usize>(call: impl FnOnce(&mut [i64; N]) -> i64) -> Result<[i
 /// let with_batch = [&[22, 0], &example::LOG_D[2..18], &70_000u32.to_le_bytes()].concat();
 /// assert_eq!(read_record(&with_batch), Ok(Record { length: 22, batch: 70_000, ..open }));
 /// assert_eq!(read_record(&with_batch[..21]), Err(Refusal::Unreadable));
+///
+/// // And of length 10: its floor is 0, and its ceiling 1,000,000,000.
+/// let short = [&[10, 0], &example::LOG_D[2..10]].concat();
+/// assert_eq!(read_record(&short), Ok(Record { length: 10, floor: 0, ceiling: 1_000_000_000, ..open }));
 /// ```
 pub fn read_record(chunk: &[u8]) -> Result<Record, Refusal> {
     let [kind, length, depth, value, floor, ceiling, batch] = numbers(|fields| raw::read_record(chunk, fields))?;
@@ -52,7 +56,8 @@ pub fn read_record(chunk: &[u8]) -> Result<Record, Refusal> {
     })
 }
 
-/// The summary of a chunk of at most 65,536 bytes. Refused: 2, 3.
+/// The summary of a chunk of at most 65,536 bytes. It carries the floor and the ceiling of each record that the chunk opens and does
+/// not close: one that was made while short records had the floor -1,000,000,000 keeps its meaning. Refused: 2, 3.
 ///
 /// ```
 /// use tulghimo::{example, summarise, Mode};
@@ -188,6 +193,10 @@ pub fn finish(summary: &[u8]) -> Result<i64, Refusal> {
 ///
 /// let (one, _) = example::two_stretches();
 /// assert_eq!(day(one), Err(Refusal::NotWhole));
+///
+/// // A short record of 5 g that holds one of -8 g: eaten is raised to 0, its floor.
+/// let short = [10, 0, 1, 0, 0, 0, 5, 0, 0, 0, 10, 0, 1, 0, 1, 0, 0xf8, 0xff, 0xff, 0xff, 6, 0, 2, 0, 1, 0, 6, 0, 2, 0, 0, 0];
+/// assert_eq!(day(&short)?.to_string(), "-3 -3 0 4294967053");
 /// # Ok::<(), Refusal>(())
 /// ```
 pub fn day(log: &[u8]) -> Result<Figures, Refusal> {
@@ -213,8 +222,8 @@ pub fn write_log(lines: &[TableLine]) -> Result<Vec<u8>, Refusal> {
     written(raw::LONGEST_LOG_WRITTEN.min(lines.len() * TableLine::LOG_LENGTH), |out| raw::write_log(&table, out))
 }
 
-/// The day table of a whole log of at most 65,536 bytes: a line for each opened record, a short one with the default floor and
-/// ceiling, one with a batch without it. Refused: 2, 3, 7, 8, 10, 11; none has enough records for 9.
+/// The day table of a whole log of at most 65,536 bytes: a line for each opened record, a short one with the floor 0 and the ceiling
+/// 1,000,000,000, one with a batch without it. Refused: 2, 3, 7, 8, 10, 11; none has enough records for 9.
 ///
 /// ```
 /// use tulghimo::{example, read_table, Refusal};

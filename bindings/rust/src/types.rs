@@ -55,8 +55,8 @@ pub enum Kind {
 
 /// A record of a log. Value, floor and ceiling, in grams, are 0 for a close.
 ///
-/// An open has length 18; or 10, without a floor and a ceiling, which are then -1,000,000,000 and 1,000,000,000; or 22, with a batch.
-/// A close has length 6.
+/// An open has length 18; or 10, without a floor and a ceiling, which are then 0 and 1,000,000,000; or 22, with a batch. A close has
+/// length 6.
 #[derive(Clone, Copy, Debug, PartialEq, Eq, Hash)]
 #[allow(missing_docs)]
 pub struct Record {

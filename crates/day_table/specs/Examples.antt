@@ -34,7 +34,7 @@ unfolding leAt bytesOf within inRange tableLines writeLogOutcome
 D-short = refl
 
 -- "A short record read back fills its line with the default floor and ceiling": open 0 value 5 of length 10, close 0.
-short-read : readTableOutcome (10 ∷ 0 ∷ 1 ∷ 0 ∷ 0 ∷ 0 ∷ 5 ∷ 0 ∷ 0 ∷ 0 ∷ 6 ∷ 0 ∷ 2 ∷ 0 ∷ 0 ∷ 0 ∷ []) 14 ≡ result (tableLineBytes (tableLine 0 (amounts (pos 5) (negsuc 999_999_999) (pos 1_000_000_000))))
+short-read : readTableOutcome (10 ∷ 0 ∷ 1 ∷ 0 ∷ 0 ∷ 0 ∷ 5 ∷ 0 ∷ 0 ∷ 0 ∷ 6 ∷ 0 ∷ 2 ∷ 0 ∷ 0 ∷ 0 ∷ []) 14 ≡ result (tableLineBytes (tableLine 0 (amounts (pos 5) (pos 0) (pos 1_000_000_000))))
 unfolding leAt bytesOf within inRange accepted whole byShape readOf recordsIn recordsOf joint count ends wholeLog readTableOutcome
 short-read = refl
 

@@ -5,7 +5,7 @@ use Prim.Native.Nat.{ℕ}
 use lib.IntN.{ℤ, pos, negsuc}
 use Rattle.gate.specs.Outcome.{refused, result}
 use Rattle.number.specs.Bytes.{leAt}
-use Rattle.record.specs.Record.{within, inRange, accepted, whole, byShape, readOf, recordsIn, recordsOf, least, most}
+use Rattle.record.specs.Record.{within, inRange, accepted, whole, byShape, readOf, recordsIn, recordsOf}
 use Rattle.record.specs.declared.Fields.{Fields}
 
 -- "open 0 value 10 floor 0 ceiling 100; open 1 value 5 floor 0 ceiling 4; close 1; open 1 value -3 floor 0 ceiling 100; close 1; close 0"
@@ -29,8 +29,8 @@ D-records : recordsOf logD ≡
 unfolding leAt within inRange accepted whole byShape readOf recordsIn recordsOf opened closed
 D-records = refl
 
--- A record of length 10 has the widest floor and ceiling; depth 63 is read.
-short-open : readOf (10 ∷ 0 ∷ 1 ∷ 0 ∷ 63 ∷ 0 ∷ 253 ∷ 255 ∷ 255 ∷ 255 ∷ []) ≡ result (record { kind = 1; length = 10; depth = 63; value = negsuc 2; floor = least; ceiling = most; batch = 0 })
+-- A record of length 10 has floor 0, also where its value is negative, and ceiling 1,000,000,000; depth 63 is read.
+short-open : readOf (10 ∷ 0 ∷ 1 ∷ 0 ∷ 63 ∷ 0 ∷ 253 ∷ 255 ∷ 255 ∷ 255 ∷ []) ≡ result (record { kind = 1; length = 10; depth = 63; value = negsuc 2; floor = pos 0; ceiling = pos 1_000_000_000; batch = 0 })
 unfolding leAt within inRange accepted whole byShape readOf
 short-open = refl
 

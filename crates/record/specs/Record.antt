@@ -1,4 +1,4 @@
--- Records, as document 01's section "Records" has them, with the batch of document 02, L2.
+-- Records, as document 01's section "Records" has them, with the batch of document 02, L2, and the floor of short records of L8.
 use Prim.Native.Nat.{ℕ, zero, suc}
 use mathlib.Core.Bool.{Bool, cond, _&&_}
 use mathlib.Core.List.{List, [], _∷_, _++_}
@@ -37,9 +37,9 @@ amountsFit value floor ceiling = within value && within floor && within ceiling 
 unfoldable pub inRange : ℕ → ℤ → ℤ → ℤ → Bool
 inRange depth value floor ceiling = leb depth 63 && amountsFit value floor ceiling
 
--- The floor and the ceiling of a record of length 10.
+-- The floor and the ceiling of a record of length 10: "The default floor becomes 0; the ceiling stays at 1,000,000,000."
 abbrev pub defaultFloor : ℤ
-defaultFloor = negsuc 999_999_999
+defaultFloor = pos 0
 
 abbrev pub defaultCeiling : ℤ
 defaultCeiling = pos 1_000_000_000

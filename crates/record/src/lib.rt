@@ -1,4 +1,4 @@
-// Reading records: document 01, "Records", with the batch of document 02, L2.
+// Reading records: document 01, "Records", with the batch of document 02, L2, and the floor of short records of L8.
 ghost use mathlib.Core.Path.{_≡_};
 ghost use Prim.Native.Nat.{_≤_};
 ghost use lib.ListN.{length};
@@ -34,7 +34,7 @@ pub enum Read {
 }
 
 // The floor and the ceiling of an open record of length 10.
-const DEFAULT_FLOOR: i32 = -1_000_000_000;
+const DEFAULT_FLOOR: i32 = 0;
 
 const DEFAULT_CEILING: i32 = 1_000_000_000;
 

@@ -1,7 +1,8 @@
 /* The plain recursion on one uncut log, a function for each of the modes 1, 2, 5 and 4 and one for all four: what the library is timed
    beside. Each record is held to document 01 ("Records"): length and kind, all bytes there, depth, ranges, floor and ceiling; and the log
    to questions 7 to 11: levels meet, level 0 is at both ends and nowhere else, at most 100,000 opened. A log that is found wrong has no
-   figure, and is read no further. A batch (document 02, length 22) is skipped. */
+   figure, and is read no further. A batch (document 02, length 22) is skipped, and a short record (length 10) has the floor 0 (document
+   02, L8). */
 #include <stdbool.h>
 #include <stddef.h>
 #include <stdint.h>
@@ -67,7 +68,7 @@ static bool next(struct reader *in, struct record *r)
     if (kind != 1 || (length != 10 && length != 18 && length != 22))
         return fail(in);
     r->value = i32_at(p + 6);
-    r->floor = length == 10 ? -GRAMS : i32_at(p + 10);
+    r->floor = length == 10 ? 0 : i32_at(p + 10);
     r->ceiling = length == 10 ? GRAMS : i32_at(p + 14);
     if (!in_range(r->value) || !in_range(r->floor) || !in_range(r->ceiling) || r->floor > r->ceiling)
         return fail(in);

@@ -91,6 +91,14 @@ mod tests {
         }
     }
 
+    /// 5 over -8, both short: -3, which only eaten raises to 0. Stamp 5 - 31 × 8, modulo 2^32.
+    #[test]
+    fn a_short_record_is_raised_to_0() {
+        let log = [short(0, 5), short(1, -8), close(1), close(0)].concat();
+        assert!(agrees(&log));
+        assert_eq!(figures(&log), Some([-3, -3, 0, 4_294_967_053]));
+    }
+
     #[test]
     fn agrees_with_the_library_at_depth_63_and_64() {
         let down_to = |deepest: u16| {

@@ -5,6 +5,7 @@ use crate::calls as library;
 use crate::{capacities, numbers_outcome, LentBytes, LentNumbers};
 use reference::calls;
 use reference::gate::{question_12, LONGEST_CHUNK};
+use reference::gen::raw::{in_mode, MODES};
 use std::fmt::Debug;
 use tulghimo::raw;
 
@@ -92,11 +93,37 @@ pub fn heaviest_line(log: &[u8]) -> Vec<i64> {
     bytes(calls::heaviest_line(log, AMPLE), |out| raw::heaviest_line(log, out))
 }
 
+/// All calls that take a chunk, summarise in each mode.
+pub fn every_call_on_chunk(chunk: &[u8]) {
+    read_record(chunk);
+    for mode in MODES {
+        summarise(chunk, mode.into());
+    }
+    day(chunk);
+    read_table(chunk);
+    heaviest_line(chunk);
+}
+
+/// Neighbours by every call that takes a row; two of them by merge as well.
+pub fn every_call_on_row(row: &[Vec<u8>]) -> Vec<i64> {
+    let lent = row.concat();
+    let mut answers = [merge_row(&lent), plan(&lent), runs(&lent), work(&lent)].concat();
+    if let [left, right] = row {
+        answers.extend(merge(left, right));
+    }
+    answers
+}
+
+/// 0 for an answer, or minus its refusal.
+fn status<T>(answer: Result<T, u8>) -> i64 {
+    answer.map_or_else(|number| -i64::from(number), |_| 0)
+}
+
 /// What the library says of two chunks, which must be the same: 0, or minus its refusal.
 fn same<T: Debug + PartialEq>(call: impl Fn(&[u8]) -> Result<T, u8>, [one, other]: [&[u8]; 2]) -> i64 {
     let answer = call(one);
     assert_eq!(answer, call(other), "of two chunks that differ in batches only");
-    answer.map_or_else(|number| -i64::from(number), |_| 0)
+    status(answer)
 }
 
 /// The library alone, on two chunks that differ in batches only: it reads the same but for length and batch, and where both are short
@@ -113,4 +140,17 @@ pub fn batches_only(one: &[u8], other: &[u8], mode: u32) -> Vec<i64> {
     let table = same(|chunk| library::read_table(chunk, AMPLE), both);
     let line = same(|chunk| library::heaviest_line(chunk, AMPLE), both);
     vec![read, summary, day, table, line]
+}
+
+/// The library alone, on the row of a log's chunks of which some were summarised while short records had another floor; in the log
+/// each record has the floor that its summary carries. Merged they are the log's summary, byte for byte, and finish and the work along
+/// the plan come to its figure by the reference's recursion. Gives the answers of these two.
+pub fn sent_before(log: &[u8], row: &[u8], mode: u16) -> Vec<i64> {
+    let due = calls::day(log).map(|figures| in_mode(mode, figures));
+    let merged = library::merge_row(row, AMPLE);
+    assert_eq!(merged, library::summarise(log, mode.into(), AMPLE), "merged, and summarised in one");
+    let finished = merged.and_then(|summary| library::finish(&summary));
+    let worked = library::work(row).map(|(figure, ..)| figure);
+    assert_eq!([finished, worked], [due; 2], "finished and worked along the plan, and by the recursion");
+    vec![status(finished), status(worked)]
 }

@@ -24,5 +24,11 @@ mod heaviest_line_laws;
 mod levels;
 #[path = "../../reference/tests/document_02/round_trips.rs"]
 mod round_trips;
+#[path = "../../reference/tests/document_02/sent_before.rs"]
+mod sent_before;
+#[path = "../../reference/tests/document_02/short_record_laws.rs"]
+mod short_record_laws;
+#[path = "../../reference/tests/document_02/short_records.rs"]
+mod short_records;
 #[path = "../../reference/tests/document_02/small_days.rs"]
 mod small_days;

@@ -1,7 +1,8 @@
 //! Mode 5, a drop taken at its value: the proved library against the reference, every byte of every buffer. What L3 says sentence by
 //! sentence is put to the library by `document_02`.
 
-use compare::{agree, calls};
+use compare::agree::{self, every_call_on_row as row_agrees};
+use compare::calls;
 use reference::gen::logs::longest_plan;
 use reference::gen::raw::{all_of, blank, close, in_mode, nothing, open, run, short, Hill, MODES};
 use reference::gen::{forged, Rng};
@@ -10,16 +11,6 @@ use reference::mode::Mode;
 use reference::record::{encode_all, Record};
 
 const LIMIT: i32 = 1_000_000_000;
-
-/// Neighbours by every call that takes a row; two of them by merge as well.
-fn row_agrees(row: &[Vec<u8>]) -> Vec<i64> {
-    let lent = row.concat();
-    let mut answers = [agree::merge_row(&lent), agree::plan(&lent), agree::runs(&lent), agree::work(&lent)].concat();
-    if let [left, right] = row {
-        answers.extend(agree::merge(left, right));
-    }
-    answers
-}
 
 /// A log, and its chunks for every cut into two.
 fn every_cut_agrees(log: &[Vec<u8>]) {

@@ -25,7 +25,7 @@ fn the_first_record_of_log_d() {
 
 #[test]
 fn a_short_open_has_the_default_floor_and_ceiling() {
-    assert_eq!(read(&[10, 0, 1, 0, 5, 0, 0xfd, 0xff, 0xff, 0xff]), (0, [1, 10, 5, -3, -LIMIT, LIMIT, 0]));
+    assert_eq!(read(&[10, 0, 1, 0, 5, 0, 0xfd, 0xff, 0xff, 0xff]), (0, [1, 10, 5, -3, 0, LIMIT, 0]));
 }
 
 #[test]
@@ -99,7 +99,7 @@ fn every_kind_and_length() {
             let expected = match (kind, length) {
                 (1, 22) => (0, [1, 22, 2, 5, 1, 9, 70_000]),
                 (1, 18) => (0, [1, 18, 2, 5, 1, 9, 0]),
-                (1, 10) => (0, [1, 10, 2, 5, -LIMIT, LIMIT, 0]),
+                (1, 10) => (0, [1, 10, 2, 5, 0, LIMIT, 0]),
                 (2, 6) => (0, [2, 6, 2, 0, 0, 0, 0]),
                 _ => REFUSED,
             };

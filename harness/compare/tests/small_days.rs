@@ -92,7 +92,7 @@ fn each_record_is_read() {
         while !rest.is_empty() {
             agree::read_record(rest);
             let [kind, length, _, value, floor, ceiling, batch] = calls::read_record(rest).expect("a readable record");
-            let due = if kind == 1 { [10, 1, -1_000_000_000, 1_000_000_000, 0] } else { [6, 0, 0, 0, 0] };
+            let due = if kind == 1 { [10, 1, 0, 1_000_000_000, 0] } else { [6, 0, 0, 0, 0] };
             assert_eq!([length, value, floor, ceiling, batch], due);
             rest = &rest[length as usize..];
         }

@@ -19,14 +19,16 @@ pub enum Takes {
     Table,
     /// Two chunks that differ in batches only, and a mode.
     Twins,
+    /// A log and the row of its chunks, some summarised while short records had another floor; and the row's mode.
+    SentBefore,
     /// A number n, and the length of a buffer.
     Number,
     /// A run, and an outer figure.
     Run,
 }
 
-/// What a call is given. `second` is the right one of two pieces, the other of two chunks or an outer figure, 64 bits, and empty
-/// elsewhere. An n stands in place of the mode, and the length of a buffer, 16 bits, in place of a chunk.
+/// What a call is given. `second` is the right one of two pieces, the other of two chunks, the row of a log or an outer figure, 64
+/// bits, and empty elsewhere. An n stands in place of the mode, and the length of a buffer, 16 bits, in place of a chunk.
 #[derive(Clone, Debug, PartialEq, Eq)]
 pub struct Input {
     pub takes: Takes,
@@ -44,7 +46,8 @@ pub struct Call {
     pub compare: fn(&Input) -> Vec<i64>,
 }
 
-/// Every call of the library; and last what all that take a chunk, but reading, must do with batches, which is to ignore them.
+/// Every call of the library; then what all that take a chunk, but reading, must do with batches, which is to ignore them; and last what
+/// a row must come to in which summaries carry the floor that short records had before.
 pub const CALLS: &[Call] = &[
     Call { name: "read_record", takes: Takes::Chunk, refuses: &[3], compare: |given| agree::read_record(&given.first) },
     Call {
@@ -90,6 +93,12 @@ pub const CALLS: &[Call] = &[
         takes: Takes::Twins,
         refuses: &[1, 3, 7, 8, 10, 11],
         compare: |given| agree::batches_only(&given.first, &given.second, given.mode),
+    },
+    Call {
+        name: "sent_before",
+        takes: Takes::SentBefore,
+        refuses: &[7, 8, 10, 11],
+        compare: |given| agree::sent_before(&given.first, &given.second, given.mode as u16),
     },
 ];
 

@@ -39,6 +39,11 @@ fn twins(rng: &mut Rng, mode: u32, bytes: Vec<u8>) -> Input {
     Input { takes: Takes::Twins, mode, first: bytes, second }
 }
 
+/// A log, and the row of its chunks.
+fn sent_before(mode: Mode, log: Vec<u8>, row: Vec<u8>) -> Input {
+    Input { takes: Takes::SentBefore, mode: mode.number(), first: log, second: row }
+}
+
 /// An n, and a buffer of a length.
 fn number(n: u32, capacity: u16) -> Input {
     Input { takes: Takes::Number, mode: n, first: capacity.to_le_bytes().to_vec(), second: Vec::new() }
@@ -52,7 +57,7 @@ fn run(bytes: Vec<u8>, y: i64) -> Input {
 /// The inputs that a seed gives.
 pub fn inputs(seed: u64) -> Vec<Input> {
     let rng = &mut Rng::new(seed);
-    match rng.below(17) {
+    match rng.below(18) {
         0 => whole_log(rng),
         1 => faulty_log(rng),
         2 | 3 => cut_log(rng),
@@ -67,6 +72,7 @@ pub fn inputs(seed: u64) -> Vec<Input> {
         13 => forged_runs(rng),
         14 => written_runs(rng),
         15 => log_with_ties(rng),
+        16 => old_and_new_chunks(rng),
         _ => noise(rng),
     }
 }
@@ -149,6 +155,24 @@ fn cut_log(rng: &mut Rng) -> Vec<Input> {
         let bytes = logs::encode_mixed(rng, &records);
         summaries.push(calls::summarise(&bytes, mode.number(), AMPLE).expect("readable records"));
         inputs.extend(with_damage(rng, chunk(mode.number(), bytes)));
+    }
+    inputs.extend(of_summaries(rng, mode, summaries));
+    inputs
+}
+
+/// Chunks of which some were summarised while short records had the former floor, mostly in mode 5: the log, in which each record has
+/// the floor that its summary carries, with the row, and all that is asked of summaries.
+fn old_and_new_chunks(rng: &mut Rng) -> Vec<Input> {
+    let mode = rng.pick(&[Mode::Eaten, Mode::Eaten, Mode::Eaten, Mode::Net, Mode::Heaviest, Mode::Stamp]);
+    let records = chunks(rng);
+    let sent = logs::encode_mostly_short(rng, &records);
+    let sent = logs::some_sent_before(rng, &sent);
+    let summary = |chunk: &Vec<u8>| calls::summarise(chunk, mode.number(), AMPLE).expect("readable records");
+    let summaries: Vec<Vec<u8>> = sent.iter().map(summary).collect();
+    let mut inputs: Vec<Input> = sent.iter().map(|bytes| chunk(mode.number(), bytes.clone())).collect();
+    // More than 64 are no row.
+    if summaries.len() <= 64 {
+        inputs.push(sent_before(mode, sent.concat(), summaries.concat()));
     }
     inputs.extend(of_summaries(rng, mode, summaries));
     inputs
@@ -334,15 +358,16 @@ fn noise(rng: &mut Rng) -> Vec<Input> {
 mod tests {
     use super::*;
     use reference::backwards::question_15;
+    use reference::gen::logs::FORMER_FLOOR;
     use reference::heaviest_line::line_of;
     use reference::layout::decode;
     use reference::log::{fault, held, opens};
     use reference::plan::plan_by_levels;
-    use reference::record::records_of;
+    use reference::record::{records_of, Open};
     use reference::row;
     use reference::run::{run_of, Run};
     use reference::summary::Summary;
-    use reference::tree::{figure, subtree};
+    use reference::tree::{figure, log_figure, subtree};
 
     /// The runs of a row between neighbours, which have nothing inside; none where it is not a row of mode 5 with a figure.
     fn with_nothing_inside(bytes: &[u8]) -> Vec<Run> {
@@ -367,6 +392,26 @@ mod tests {
             }
         }
         assert!([above, below, bound, free].iter().all(|&count| count > 20), "{above} {below} {bound} {free}");
+    }
+
+    #[test]
+    fn rows_come_to_what_neither_floor_alone_gives() {
+        // Mode 5, no fault: the figure where each record has its own floor is that of all new ones, of all old ones, of both, of neither.
+        let mut seen = [[0; 2]; 2];
+        let of_mode_5 = |input: &Input| input.takes == Takes::SentBefore && input.mode == 5;
+        for input in (0..12_000).flat_map(inputs).filter(of_mode_5) {
+            let log = records_of(&input.first).expect("readable records");
+            if fault(&log).is_none() {
+                let eaten = |from: i64, to: i64| {
+                    let floor = |open: Open| if open.floor == from { Open { floor: to, ..open } } else { open };
+                    log_figure(Mode::Eaten, &logs::changed(&log, floor))
+                };
+                let figure = eaten(0, 0);
+                let [new, old] = [eaten(FORMER_FLOOR, 0), eaten(0, FORMER_FLOOR)].map(|other| usize::from(other == figure));
+                seen[new][old] += 1;
+            }
+        }
+        assert!(seen.iter().flatten().all(|&count| count > 10), "{seen:?}");
     }
 
     #[test]

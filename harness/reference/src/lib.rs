@@ -23,6 +23,7 @@
 //! | L5                         | [`small_days`], [`calls`]                |
 //! | L6                         | [`backwards`], [`calls`]                 |
 //! | L7                         | [`heaviest_line`], [`calls`]             |
+//! | L8                         | [`record`]                               |
 //!
 //! [`gen`] makes the inputs that tests try: logs, cuts, merge lists, day tables, runs,
 //! damaged bytes and summaries that no chunk makes.

@@ -1,5 +1,5 @@
-//! "Records", with document 02's L2, "Pellet batch in the open record": reading them,
-//! their ranges, and writing them.
+//! "Records", with document 02's L2, "Pellet batch in the open record", and L8, "Short
+//! records start from zero": reading them, their ranges, and writing them.
 
 use crate::bytes::{put, signed, unsigned};
 
@@ -9,10 +9,11 @@ pub const GRAMS: i64 = 1_000_000_000;
 /// "depth is 0 to 63"
 pub const DEEPEST: usize = 63;
 
-/// Length 10: "the floor is then -1,000,000,000"
-pub const DEFAULT_FLOOR: i64 = -1_000_000_000;
+/// Length 10. Document 01: "the floor is then -1,000,000,000"; document 02, L8: "The default
+/// floor becomes 0".
+pub const DEFAULT_FLOOR: i64 = 0;
 
-/// Length 10: "and the ceiling 1,000,000,000"
+/// Length 10: "and the ceiling 1,000,000,000"; L8: "the ceiling stays at 1,000,000,000".
 pub const DEFAULT_CEILING: i64 = 1_000_000_000;
 
 /// "Kind 1, open."
@@ -195,14 +196,21 @@ pub fn encode_close(depth: usize) -> Vec<u8> {
     head(6, CLOSE, depth)
 }
 
+/// The bytes of records, each open as it is given.
+fn encode_with(records: &[Record], encode_open: impl Fn(&Open) -> Vec<u8>) -> Vec<u8> {
+    let encode = |record: &Record| match record {
+        Record::Open(open) => encode_open(open),
+        Record::Close { depth } => encode_close(*depth),
+    };
+    records.iter().flat_map(encode).collect()
+}
+
 /// The bytes of records, opens of length 18.
 pub fn encode_all(records: &[Record]) -> Vec<u8> {
-    let mut out = Vec::new();
-    for record in records {
-        match record {
-            Record::Open(open) => out.extend(encode_full(open)),
-            Record::Close { depth } => out.extend(encode_close(*depth)),
-        }
-    }
-    out
+    encode_with(records, encode_full)
+}
+
+/// The bytes of records, opens of length 10: their floors and ceilings are left out.
+pub fn encode_all_short(records: &[Record]) -> Vec<u8> {
+    encode_with(records, |open| encode_short(open.depth, open.value))
 }

@@ -4,7 +4,7 @@
 //! the questions of a log are put to each, and those that get a "yes" are sorted.
 
 use crate::log::{fault, opened};
-use crate::record::{encode_close, encode_short, Open, Record, DEFAULT_CEILING, DEFAULT_FLOOR};
+use crate::record::{encode_all_short, Open, Record, DEFAULT_CEILING, DEFAULT_FLOOR};
 use std::cmp::Ordering;
 
 /// "14, before all else, when n is outside 1 to 8"
@@ -65,12 +65,5 @@ fn order(one: &[Record], other: &[Record]) -> Ordering {
 
 /// The bytes of logs, "one log after another", opens of length 10.
 pub fn encode_logs(logs: &[Vec<Record>]) -> Vec<u8> {
-    let mut out = Vec::new();
-    for record in logs.iter().flatten() {
-        match record {
-            Record::Open(open) => out.extend(encode_short(open.depth, open.value)),
-            Record::Close { depth } => out.extend(encode_close(*depth)),
-        }
-    }
-    out
+    logs.iter().flat_map(|log| encode_all_short(log)).collect()
 }

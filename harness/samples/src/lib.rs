@@ -49,8 +49,19 @@ fn well_formed() -> Vec<Sample> {
         sample(
             "returns.log",
             "three tanks with pellets sent back, which count as they are, although their floor is 0: \
-             one tank above its ceiling, one below its floor, one between",
+             one tank above its ceiling, one below its floor, one between; full records, as the returns desk sends them",
             returns(),
+        ),
+        sample(
+            "short-below-zero.log",
+            "short records: a site of two tanks; from one of them 120 g more came back than were fed, \
+             and it counts 0, the floor of a short record",
+            below_zero(encode_short),
+        ),
+        sample(
+            "full-below-zero.log",
+            "the same in full records with the floor -1,000,000,000, which short ones had before: that tank counts -120",
+            below_zero(without_limits),
         ),
         sample("quiet.log", "a site of three raceways with two tanks each, where nothing was fed", quiet()),
         sample("deep.log", "64 records of one gram, each holding the next: depth 0 to 63", deep()),
@@ -108,13 +119,28 @@ fn few_leaves(rng: &mut Rng) -> Vec<u8> {
 
 /// Document 02, L3: "Uneaten pellets come back as a negative record that holds nothing,
 /// with a floor of 0". First 300 + 250 - 120 = 430, above the ceiling of 400; then 80 -
-/// 200 = -120, below the floor of 0; then 260 - 40 = 220.
+/// 200 = -120, below the floor of 0; then 260 - 40 = 220. L8: the returns desk "counted on
+/// the old floor", and sends length 18.
 fn returns() -> Vec<u8> {
+    let fed = |grams: i64| [without_limits(2, grams), encode_close(2)].concat();
     let back = |grams: i64| around(2, -grams, 0, 400, &[]);
-    let above = [leaf(2, 300), leaf(2, 250), back(120)];
-    let below = [leaf(2, 80), back(200)];
-    let between = [leaf(2, 260), back(40)];
+    let above = [fed(300), fed(250), back(120)];
+    let below = [fed(80), back(200)];
+    let between = [fed(260), back(40)];
     around(0, 0, 0, 100_000, &[&above[..], &below, &between].map(|held| around(1, 0, 0, 400, held)))
+}
+
+/// A full open record with the floor and the ceiling of document 01's short ones.
+fn without_limits(depth: usize, value: i64) -> Vec<u8> {
+    open(depth, value, -1_000_000_000, 1_000_000_000)
+}
+
+/// Document 02, L8. A site of two tanks: 80 - 200 = -120, and 260 - 40 = 220. All opens are
+/// written in one way.
+fn below_zero(opened: fn(usize, i64) -> Vec<u8>) -> Vec<u8> {
+    let of = |depth, grams, held: &[Vec<u8>]| [opened(depth, grams), held.concat(), encode_close(depth)].concat();
+    let tank = |fed, back: i64| of(1, 0, &[of(2, fed, &[]), of(2, -back, &[])]);
+    of(0, 0, &[tank(80, 200), tank(260, 40)])
 }
 
 fn quiet() -> Vec<u8> {

@@ -29,6 +29,10 @@ fn lines_worked_out_by_hand() {
         // Net 430 - 120 + 220; heaviest 300; eaten 400 + 0 + 220; stamp 31 × 31 × (430 - 120 +
         // 220) = 961 × 530.
         ("returns.log", "530 300 620 509330\n"),
+        // Net -120 + 220; heaviest 260; eaten 0 + 220, and with the old floor -120 + 220; stamp
+        // 31 × 31 × 100.
+        ("short-below-zero.log", "100 260 220 96100\n"),
+        ("full-below-zero.log", "100 260 100 96100\n"),
         ("quiet.log", "0 0 0 0\n"),
         ("level-gap.log", "refused 7\n"),
         ("two-days.log", "refused 8\n"),

@@ -4,8 +4,8 @@ use super::Rng;
 use crate::heaviest_line::line_of;
 use crate::log::{closer, opens};
 use crate::mode::Mode;
-use crate::record::{encode_close, encode_full, encode_short, encode_with_batch, read_first};
-use crate::record::{Open, Record, DEEPEST, DEFAULT_CEILING, DEFAULT_FLOOR, GRAMS};
+use crate::record::{encode_all_short, encode_close, encode_full, encode_short, encode_with_batch, read_first};
+use crate::record::{First, Open, Record, DEEPEST, DEFAULT_CEILING, DEFAULT_FLOOR, GRAMS};
 use crate::replay::{Call, Step, Stretches};
 
 /// How the tree of a log looks.
@@ -51,14 +51,19 @@ pub fn grams(rng: &mut Rng, values: Values) -> i64 {
     }
 }
 
-/// A readable open record; its floor and ceiling are the default ones in a third of
-/// the cases, and equal in some.
+/// The floor that a short record had until L8: "Summaries carry the floor in full and those
+/// already sent keep their meaning."
+pub const FORMER_FLOOR: i64 = -1_000_000_000;
+
+/// A readable open record; its floor and ceiling are the default ones in a third of the
+/// cases, those of the former default in a sixth, and equal in another.
 pub fn open(rng: &mut Rng, depth: usize, values: Values) -> Open {
     let value = grams(rng, values);
     let (one, other) = (grams(rng, values), grams(rng, values));
     let (floor, ceiling) = match rng.below(6) {
         0 | 1 => (DEFAULT_FLOOR, DEFAULT_CEILING),
-        2 => (one, one),
+        2 => (FORMER_FLOOR, DEFAULT_CEILING),
+        3 => (one, one),
         _ => (one.min(other), one.max(other)),
     };
     Open { depth, value, floor, ceiling }
@@ -215,6 +220,15 @@ pub fn of_shape(rng: &mut Rng, shape: &[bool], values: Values) -> Vec<Record> {
     records
 }
 
+/// A log with each open record changed, in log order.
+pub fn changed(log: &[Record], mut change: impl FnMut(Open) -> Open) -> Vec<Record> {
+    let one = |record: &Record| match record {
+        Record::Open(open) => Record::Open(change(*open)),
+        Record::Close { .. } => *record,
+    };
+    log.iter().map(one).collect()
+}
+
 /// A log whose lowest fault is the given one: 7, 8, 9, 10 or 11.
 pub fn with_fault(rng: &mut Rng, fault: u8) -> Vec<Record> {
     match fault {
@@ -300,18 +314,43 @@ pub fn encode_mixed(rng: &mut Rng, records: &[Record]) -> Vec<u8> {
 /// A chunk that differs from this one in batches only: each open of length 18 or 22 has
 /// one drawn anew, or none. The bytes from the first unreadable record on stay.
 pub fn rebatched(rng: &mut Rng, chunk: &[u8]) -> Vec<u8> {
+    rewritten(chunk, |first, bytes| match first.record {
+        Record::Open(open) if first.length != 10 => encode_full_or_batched(rng, &open),
+        _ => bytes.to_vec(),
+    })
+}
+
+/// The chunk with each open of length 10 in full, with this floor and the default ceiling. The
+/// bytes from the first unreadable record on stay.
+pub fn in_full(chunk: &[u8], floor: i64) -> Vec<u8> {
+    rewritten(chunk, |first, bytes| match first.record {
+        Record::Open(open) if first.length == 10 => encode_full(&Open { floor, ceiling: DEFAULT_CEILING, ..open }),
+        _ => bytes.to_vec(),
+    })
+}
+
+/// The chunk with other bytes for each record. Those from the first unreadable one on stay.
+fn rewritten(chunk: &[u8], mut other: impl FnMut(&First, &[u8]) -> Vec<u8>) -> Vec<u8> {
     let mut out = Vec::new();
     let mut rest = chunk;
     while let Some(first) = read_first(rest) {
         let (bytes, later) = rest.split_at(first.length);
-        match first.record {
-            Record::Open(open) if first.length != 10 => out.extend(encode_full_or_batched(rng, &open)),
-            _ => out.extend(bytes),
-        }
+        out.extend(other(&first, bytes));
         rest = later;
     }
     out.extend(rest);
     out
+}
+
+/// The bytes of chunks: of three in four all opens are short, and the others are mixed.
+pub fn encode_mostly_short(rng: &mut Rng, chunks: &[Vec<Record>]) -> Vec<Vec<u8>> {
+    chunks.iter().map(|chunk| if rng.one_in(4) { encode_mixed(rng, chunk) } else { encode_all_short(chunk) }).collect()
+}
+
+/// Chunks of which some were sent while short records had the former floor: by the toss of a
+/// coin those of a chunk stand in full, with that floor.
+pub fn some_sent_before(rng: &mut Rng, chunks: &[Vec<u8>]) -> Vec<Vec<u8>> {
+    chunks.iter().map(|chunk| if rng.one_in(2) { in_full(chunk, FORMER_FLOOR) } else { chunk.clone() }).collect()
 }
 
 /// Records cut into `count` chunks at random places; some may be empty.

@@ -56,7 +56,7 @@ fn question_3_before_faults_and_12() {
     let chunk = [short(0, 1), short(0, 1), close(64)].concat();
     assert_eq!(summarise(&chunk, 1, 0), Err(3));
     assert_eq!(day(&chunk), Err(3));
-    assert_eq!(read_record(&chunk), Ok([1, 10, 0, 1, -1_000_000_000, 1_000_000_000, 0]));
+    assert_eq!(read_record(&chunk), Ok([1, 10, 0, 1, 0, 1_000_000_000, 0]));
 }
 
 #[test]

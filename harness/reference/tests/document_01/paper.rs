@@ -221,11 +221,11 @@ fn long_row(opened: usize, mode: u16) -> Vec<u8> {
     records.chunks(5000).flat_map(chunk_summary).collect()
 }
 
-/// A run of one record of one gram with default floor and ceiling that holds so many
-/// of its kind, x aside.
+/// A run of one record of one gram with the default floor and ceiling, 0 and 10^9, that
+/// holds so many of its kind, x aside.
 fn run_of_one(mode: u16, held: i64) -> Vec<u8> {
     let heaviest = if held == 0 { [1, nothing(2), 1] } else { [2, 2, 1] };
-    let eaten = [1 + held, 1 + held, -1_000_000_000, 1_000_000_000];
+    let eaten = [1 + held, 1 + held, 0, 1_000_000_000];
     let numbers: [&[i64]; 4] = [&[1 + held, 0, 0], &heaviest, &eaten, &[31, 1 + 31 * held, 0]];
     run(mode, in_mode(mode, numbers))
 }

@@ -12,7 +12,8 @@ const GREATEST: i32 = 1_000_000_000;
 #[test]
 fn fields_of_a_first_record() {
     assert_eq!(read_record(&open(3, 1, -2, 7)), Ok([1, 18, 3, 1, -2, 7, 0]));
-    assert_eq!(read_record(&short(3, -1)), Ok([1, 10, 3, -1, -1_000_000_000, 1_000_000_000, 0]));
+    // Document 02, L8: "The default floor becomes 0".
+    assert_eq!(read_record(&short(3, -1)), Ok([1, 10, 3, -1, 0, 1_000_000_000, 0]));
     assert_eq!(read_record(&close(3)), Ok([2, 6, 3, 0, 0, 0, 0]));
 }
 

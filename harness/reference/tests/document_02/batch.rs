@@ -47,7 +47,7 @@ fn a_batch_is_unsigned() {
 fn zero_where_the_record_has_none() {
     let records = [
         (open(3, 1, -2, 7), [1, 18, 3, 1, -2, 7, 0]),
-        (short(3, 1), [1, 10, 3, 1, LEAST.into(), GREATEST.into(), 0]),
+        (short(3, 1), [1, 10, 3, 1, 0, GREATEST.into(), 0]),
         (close(3), [2, 6, 3, 0, 0, 0, 0]),
     ];
     for (record, fields) in records {
@@ -245,7 +245,7 @@ fn all_three_lengths_in_one_log() {
     // count as they are; -4 with what it holds makes 101; 1 + 101 + 8 is lowered to 101.
     // Stamp: -4 + 31 × 105 = 3,251, and 1 + 31 × (3,251 + 8).
     assert_eq!(day(&log.concat()), Ok([110, 97, 101, 101_030]));
-    let table = [line(0, 1, 0, 101), line(1, -4, LEAST, GREATEST), line(2, 100, 0, 90), line(2, 5, 6, 7), line(1, 8, 9, 9)];
+    let table = [line(0, 1, 0, 101), line(1, -4, 0, GREATEST), line(2, 100, 0, 90), line(2, 5, 6, 7), line(1, 8, 9, 9)];
     assert_eq!(read_table(&log.concat(), 70), Ok(table.concat()));
     // Read one after another, by the lengths answered.
     let log = log.concat();

@@ -267,13 +267,13 @@ fn question_12_comes_last_and_exact_fits() {
 fn a_short_record_has_the_default_floor_and_ceiling() {
     // Short ones within a full one, and around one.
     let log = [open(0, 1, 2, 3), short(1, -4), short(2, GREATEST), close(2), open(2, 5, 6, 7), close(2), close(1), close(0)];
-    let table = [line(0, 1, 2, 3), line(1, -4, LEAST, GREATEST), line(2, GREATEST, LEAST, GREATEST), line(2, 5, 6, 7)].concat();
+    let table = [line(0, 1, 2, 3), line(1, -4, 0, GREATEST), line(2, GREATEST, 0, GREATEST), line(2, 5, 6, 7)].concat();
     assert_eq!(read_table(&log.concat(), 56), Ok(table.clone()));
     // Written again, they are full records.
     let full = [
         open(0, 1, 2, 3),
-        open(1, -4, LEAST, GREATEST),
-        open(2, GREATEST, LEAST, GREATEST),
+        open(1, -4, 0, GREATEST),
+        open(2, GREATEST, 0, GREATEST),
         close(2),
         open(2, 5, 6, 7),
         close(2),
@@ -286,7 +286,7 @@ fn a_short_record_has_the_default_floor_and_ceiling() {
 #[test]
 fn reading_back_has_no_limit_of_lines() {
     // 4,096 short records of one gram, all but the first held by it: 57,344 bytes.
-    let table = [line(0, 1, LEAST, GREATEST), line(1, 1, LEAST, GREATEST).repeat(4095)].concat();
+    let table = [line(0, 1, 0, GREATEST), line(1, 1, 0, GREATEST).repeat(4095)].concat();
     assert_eq!(table.len(), 57_344);
     let log = longest_log();
     assert_eq!(read_table(&log, 57_344), Ok(table.clone()));

@@ -21,7 +21,7 @@ fn row_of(chunks: &[&[Vec<u8>]]) -> Vec<u8> {
 
 /// The eaten figure comes out of the whole log, of its chunks merged in one call and one
 /// after another from either end, and of the work along their plan.
-fn assert_eaten(chunks: &[&[Vec<u8>]], figure: i64) {
+pub fn assert_eaten(chunks: &[&[Vec<u8>]], figure: i64) {
     let log = chunks.concat();
     assert_eq!(day(&log.concat()).map(|figures| figures[2]), Ok(figure));
     let whole = summary(&log);
@@ -35,7 +35,7 @@ fn assert_eaten(chunks: &[&[Vec<u8>]], figure: i64) {
 }
 
 /// The same for every cut of a log into two chunks and into three.
-fn assert_eaten_however_cut(log: &[Vec<u8>], figure: i64) {
+pub fn assert_eaten_however_cut(log: &[Vec<u8>], figure: i64) {
     for first in 0..=log.len() {
         for second in first..=log.len() {
             assert_eaten(&[&log[..first], &log[first..second], &log[second..]], figure);
@@ -73,7 +73,7 @@ fn a_record_that_holds_nothing_counts_as_it_is() {
     for (value, floor, ceiling) in records {
         // Alone, and held by a record of 0 grams without limits that count.
         assert_eaten_however_cut(&[open(0, value, floor, ceiling), close(0)], value.into());
-        assert_eaten_however_cut(&[short(0, 0), open(1, value, floor, ceiling), close(1), close(0)], value.into());
+        assert_eaten_however_cut(&[open(0, 0, LEAST, GREATEST), open(1, value, floor, ceiling), close(1), close(0)], value.into());
     }
 }
 

@@ -26,7 +26,7 @@ fn recursion(log: &[Record], place: usize) -> (i64, usize) {
 }
 
 /// The figure of a well-formed log.
-fn eaten(log: &[Record]) -> i64 {
+pub fn eaten(log: &[Record]) -> i64 {
     recursion(log, 0).0
 }
 

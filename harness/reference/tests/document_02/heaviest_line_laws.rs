@@ -4,11 +4,11 @@
 
 use crate::calls::{day, finish, heaviest_line, merge_row, read_table, small_days, summarise, work};
 use reference::gen::logs::{all_shapes, any_log, cut, encode_mixed, log, log_or_faulty, log_with_ties, of_shape, rebatched};
-use reference::gen::logs::{grams, Shape, Values, VALUES};
+use reference::gen::logs::{changed, grams, Shape, Values, VALUES};
 use reference::gen::raw::{close, short, MODES};
 use reference::gen::Rng;
 use reference::log::{closer, held, opens};
-use reference::record::{encode_all, records_of, Open, Record, GRAMS};
+use reference::record::{encode_all, encode_all_short, records_of, Open, Record, GRAMS};
 use reference::tree::open_at;
 
 /// No line is longer.
@@ -101,15 +101,6 @@ fn every_sentence_on_random_logs() {
 /// after the one that holds it.
 fn all_lists(count: usize) -> Vec<Vec<usize>> {
     (0..1 << count).map(|choice: usize| (0..count).filter(|number| choice >> number & 1 == 1).collect()).collect()
-}
-
-/// A log with each open record changed, in log order.
-fn changed(log: &[Record], mut change: impl FnMut(Open) -> Open) -> Vec<Record> {
-    let one = |record: &Record| match record {
-        Record::Open(open) => Record::Open(change(*open)),
-        Record::Close { .. } => *record,
-    };
-    log.iter().map(one).collect()
 }
 
 #[test]
@@ -213,11 +204,7 @@ fn floors_ceilings_and_batches_make_no_difference() {
             Open { floor: one.min(other), ceiling: one.max(other), ..open }
         });
         assert_eq!(line(&rebatched(&mut rng, &encode_all(&other))), numbers);
-        let in_short = |record: &Record| match record {
-            Record::Open(open) => short(open.depth as u16, open.value as i32),
-            Record::Close { depth } => close(*depth as u16),
-        };
-        assert_eq!(line(&log.iter().flat_map(in_short).collect::<Vec<u8>>()), numbers);
+        assert_eq!(line(&encode_all_short(&log)), numbers);
     }
 }
 

@@ -169,7 +169,7 @@ fn short_open_records_each_value_1() {
             for fields in read(&log) {
                 // Kind, length, depth, value, the default floor and ceiling, no batch.
                 if fields[0] == 1 {
-                    assert_eq!(fields, [1, 10, level, 1, -1_000_000_000, 1_000_000_000, 0]);
+                    assert_eq!(fields, [1, 10, level, 1, 0, 1_000_000_000, 0]);
                     level += 1;
                 } else {
                     level -= 1;
