@@ -30,7 +30,7 @@ use Rattle.claim.specs.FirstRow.{first-row, only-one, told-lengths, leng
 
 -- The verdict on a log, by its questions.
 module _ (xs : List (Record Amounts)) where
-  by-fault : (n : ℕ) → LowestFault xs n → logFault xs ≡ refuse n
+  pub by-fault : (n : ℕ) → LowestFault xs n → logFault xs ≡ refuse n
   by-fault n f = go (logFault xs) refl
     where
       go : (v : Verdict) → logFault xs ≡ v → v ≡ refuse n
@@ -40,7 +40,7 @@ module _ (xs : List (Record Amounts)) where
           let k-is : k ≡ n = omega (arith, l .1 n (f .0), f .1 k (l .0)) in
           ap refuse k-is
 
-  no-fault : WellFormed xs → logFault xs ≡ pass
+  pub no-fault : WellFormed xs → logFault xs ≡ pass
   no-fault w = go (logFault xs) refl
     where
       go : (v : Verdict) → logFault xs ≡ v → v ≡ pass
@@ -53,14 +53,14 @@ module _ (m : ℕ) (log : List ℕ) (r : Reads log) where
   unfolding logOutcome
   says-by v e = says m log r ∙ ap (λ (w : Verdict). outcome w (modeOf m .store (figureOf (modeOf m .algebra) (recordsRead log)))) e
 
-  fault : (n : ℕ) → (logSays m log ≡ refused n) ↔ LowestFault (recordsRead log) n
+  pub fault : (n : ℕ) → (logSays m log ≡ refused n) ↔ LowestFault (recordsRead log) n
   fault n = (go (logFault (recordsRead log)) refl, λ f. says-by (refuse n) (by-fault (recordsRead log) n f))
     where
       go : (v : Verdict) → logFault (recordsRead log) ≡ v → logSays m log ≡ refused n → LowestFault (recordsRead log) n
       go pass e h = let z : _≡_ {A = ℕ} 0 1 = cc (says-by pass e) in absurd (omega arith)
       go (refuse k) e h = let k-is : k ≡ n = cc (says-by (refuse k) e) in subst (LowestFault (recordsRead log)) k-is (lowest-log (recordsRead log) .least k e)
 
-  recursion : WellFormed (recordsRead log) → Recursion m log
+  pub recursion : WellFormed (recordsRead log) → Recursion m log
   recursion w =
       let v : logFault (recordsRead log) ≡ pass = no-fault (recordsRead log) w in
       let t : TreeOfLog (modeOf m .algebra) (recordsRead log) = log-tree (modeOf m .algebra) (modeOf m .laws) (recordsRead log) v in

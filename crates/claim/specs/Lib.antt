@@ -5,6 +5,7 @@ pub mod Claim
 pub mod Batches
 pub mod Drops
 pub mod HeaviestSum
+pub mod ShortRecords
 pub mod Demand3
 pub mod Table
 -- The proof: stretches; the cut, and that every list of readable chunks is one; the lines of the plan; one merge and the whole list; what is left says what
@@ -21,5 +22,9 @@ pub mod BatchLaws
 pub mod DropLaws
 -- The values along the heaviest line add to its figure, and its faults are those of finish.
 pub mod HeaviestSumLaws
--- The theorems on log D.
+-- Short records start from zero, and what was sent before keeps its meaning.
+pub mod ShortRecordLaws
+pub mod SentLaws
+-- The theorems on log D, and on a short record over a negative sum.
 pub mod Examples
+pub mod ShortRecordExamples
