@@ -117,6 +117,9 @@ WHOLE = hill(1, 0, 0, 0, 3, [], 12)
 INSIDE = hill(1, 1, 1, 1, 1, [], 1)
 OPEN = hill(1, 0, 0, 1, 1, [], 0, [(10, 0, 100, 0)])
 SHUT = hill(1, 1, 0, 0, 0, [0], 0)
+# A short record of 5 g that is open, sent while its floor was -10^9; and -8 g in it, and its close.
+SENT_BEFORE = hill(5, 0, 0, 1, 1, [], NOTHING, [(5, -GRAMS, GRAMS, NOTHING)])
+REST = hill(5, 1, 0, 0, 1, [-8], NOTHING)
 # A close and an open at depth 1: from level 2 up to level 1 and down again.
 CLOSE_AND_OPEN = hill(1, 2, 1, 2, 1, [0], 0, [(7, 0, 100, 0)])
 # 10 g that holds 1 g, the inner closed by the second of three chunks and the outer by the third.
@@ -178,6 +181,7 @@ INPUTS = {
     "backwards/unused_below_0": backwards(run(1, 12, -1, 0)),
     "backwards/y_forgotten": backwards(run(1, 12, 0, 0), 13),
     "codec/deeper_dropped": merge(HEAD, TAIL),
+    "codec/floor_lost": merge(SENT_BEFORE, REST),
     "codec/held_over_ceiling": merge(hill(1, 0, 0, 1, 2, [], 0, [(10, 0, 100, 5)]), SHUT),
     "codec/middle_left_out": merge(HEAD, hill(1, 2, 1, 1, 1, [0], 7)),
     "day/drop_bound": call("day::figures", D),
@@ -190,6 +194,7 @@ INPUTS = {
     "day_line/no_newline": call("day_line::text", D),
     "day_line/refusal_always_10": call("day_line::text", D[:71]),
     "day_line/refusal_space": call("day_line::text", b""),
+    "emit/floor_unwritten": summarise(5, opening(0, 5)),
     "emit/left_values_unwritten": summarise(1, D[36:]),
     "emit/peak_counted_twice": merge(HEAD, TAIL, 24),
     "emit/record_after_the_last": summarise(1, D[:36]),

@@ -712,7 +712,7 @@ HEAVIEST_LINE = [
 # Document 02, L8: short records start from zero.
 SHORT_RECORDS = [
     ("record.rs", "DEFAULT_FLOOR: i64 = 0;", "DEFAULT_FLOOR: i64 = -1_000_000_000;",
-     "the floor of a short record: impostor: the old one"),
+     "impostor: the floor of a short record is the old one"),
     ("record.rs", "DEFAULT_FLOOR: i64 = 0;", "DEFAULT_FLOOR: i64 = 1;", "the floor of a short record: 1"),
     ("record.rs", "DEFAULT_FLOOR: i64 = 0;", "DEFAULT_FLOOR: i64 = -1;", "the floor of a short record: -1"),
     ("record.rs", "floor: DEFAULT_FLOOR,", "floor: if depth == 0 { 0 } else { -1_000_000_000 },",

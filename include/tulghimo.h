@@ -79,16 +79,18 @@ enum tulghimo_length {
  * 4,294,967,295, never negative, and as 0 where the record has none. All other calls drop it: to them a record of length 22 is the
  * one of length 18 with the same fields, but for its four bytes more, which count in the length of the chunk.
  *
- * The floor of length 10 was -1,000,000,000 before. Who counts on that sends length 18. Floors and ceilings count in eaten alone, and
- * only for a record that holds others: of a short one that holds nothing the value counts as it is, below 0 too.
+ * The old floor of length 10 was -1,000,000,000. Who counts on it sends length 18 with that floor. Each such record has 8 bytes more,
+ * so a chunk of short ones may have to be cut in two: 4,096 of them and their closes, 65,536 bytes, are 98,304 in full. Floors and
+ * ceilings count in eaten alone, and only for a record that holds others: of a short one that holds nothing the value counts as it is,
+ * below 0 too.
  *
  * The function was tulghimo_read while it had six fields. A buffer that changes its size changes the function's name, so that a
  * program compiled with the old header does not link, instead of being written past its buffer. */
 int64_t tulghimo_read_record(const uint8_t *chunk, size_t n, int64_t fields[7]);
 
 /* The summary of a chunk, in a mode: its length, or -1, -2, -3 or -12. It carries the floor and the ceiling of each record that the
- * chunk opens and does not close. One that was made while short records had the floor -1,000,000,000 carries that floor for them, and
- * what it closed is in its figures: it keeps its meaning, and is merged with new ones as it is. */
+ * chunk opens and does not close. A summary that was made while short records had the old floor, -1,000,000,000, carries that floor
+ * for them, and what it closed is in its figures: it keeps its meaning, and is merged with new ones as it is. */
 int64_t tulghimo_summarise(const uint8_t *chunk, size_t n, uint32_t mode, uint8_t *out, size_t cap);
 
 /* Two summaries of neighbours merged, the left first: the length of theirs, or -5, -6 or -12. */

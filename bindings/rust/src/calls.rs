@@ -57,7 +57,7 @@ pub fn read_record(chunk: &[u8]) -> Result<Record, Refusal> {
 }
 
 /// The summary of a chunk of at most 65,536 bytes. It carries the floor and the ceiling of each record that the chunk opens and does
-/// not close: one that was made while short records had the floor -1,000,000,000 keeps its meaning. Refused: 2, 3.
+/// not close: a summary that was made while short records had the old floor, -1,000,000,000, keeps its meaning. Refused: 2, 3.
 ///
 /// ```
 /// use tulghimo::{example, summarise, Mode};

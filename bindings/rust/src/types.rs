@@ -57,6 +57,9 @@ pub enum Kind {
 ///
 /// An open has length 18; or 10, without a floor and a ceiling, which are then 0 and 1,000,000,000; or 22, with a batch. A close has
 /// length 6.
+///
+/// The old floor of length 10 was -1,000,000,000. Who counts on it sends length 18 with that floor, 8 bytes more a record: a chunk may
+/// have to be cut in two.
 #[derive(Clone, Copy, Debug, PartialEq, Eq, Hash)]
 #[allow(missing_docs)]
 pub struct Record {

@@ -95,11 +95,11 @@ module _ (log : List (Record Amounts)) where
 -- ---- every cut, every list of merges, every plan
 
 -- what a well-formed log says in mode 5
-eaten-says : (log : List ℕ) (t : Recursion 5 log) → logSays 5 log ≡ result (eatenTrees (tree (t .root) (t .below) nil))
+pub eaten-says : (log : List ℕ) (t : Recursion 5 log) → logSays 5 log ≡ result (eatenTrees (tree (t .root) (t .below) nil))
 unfolding modeOf storeHeld
 eaten-says log t = t .figure ∙ ap (λ h. result (storeHeld h)) (eaten-trees (t .root) (t .below) nil)
 
-first-place : (log : List ℕ) (t : Recursion 5 log) → eatenAt (recordsRead log) 0 ≡ eatenTrees (tree (t .root) (t .below) nil)
+pub first-place : (log : List ℕ) (t : Recursion 5 log) → eatenAt (recordsRead log) 0 ≡ eatenTrees (tree (t .root) (t .below) nil)
 first-place log t =
     ap (λ (xs : List (Record Amounts)). addend (figureOf eaten xs)) (sym (t .traversal))
     ∙ ap addend (figure-write eaten eatenLaws (t .root) (t .below) ∙ eaten-trees (t .root) (t .below) nil)

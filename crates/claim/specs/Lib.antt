@@ -1,5 +1,6 @@
 -- Definitions that a reader must believe: Claim, what demand 3 says; Batches, what is claimed of logs that differ in batches only; Drops, what is claimed of
--- mode 5, in plain numbers, and of mode 3; and HeaviestSum, what is claimed of the values along the heaviest line and of its faults. Demand3 has the theorem,
+-- mode 5, in plain numbers, and of mode 3; HeaviestSum, what is claimed of the values along the heaviest line and of its faults; and ShortRecords, what a short record counts, and what is claimed of
+-- summaries that were sent while it had another floor. Demand3 has the theorem,
 -- Table the proved cases of the papers.
 pub mod Claim
 pub mod Batches
@@ -22,9 +23,11 @@ pub mod BatchLaws
 pub mod DropLaws
 -- The values along the heaviest line add to its figure, and its faults are those of finish.
 pub mod HeaviestSumLaws
--- Short records start from zero, and what was sent before keeps its meaning.
+-- Short records start from zero; what was read and sent before keeps its meaning; and the figures that do not move.
 pub mod ShortRecordLaws
+pub mod ReadThenLaws
 pub mod SentLaws
+pub mod UnmovedLaws
 -- The theorems on log D, and on a short record over a negative sum.
 pub mod Examples
 pub mod ShortRecordExamples

@@ -1,5 +1,5 @@
--- Records that are alike: opens and closes at the same depths, each open carrying what counts the same. They have the same faults and the same figure.
--- Assumes nothing.
+-- Records that are alike: opens and closes at the same depths, and what each open carries related to what the other does. They have the same faults, and the
+-- same figure where what is related counts the same. Assumes nothing.
 use mathlib.Core.Path.{_≡_, refl, ap, ap₂, _∙_}
 use mathlib.Core.Bool.{Bool, true, false}
 use mathlib.Core.List.{List, [], _∷_}

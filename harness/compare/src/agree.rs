@@ -1,5 +1,7 @@
-//! One function a call: the proved library and the reference must agree on the answer and on every lent byte, whatever the length
-//! of the buffer. Each gives the library's answers, one for each time that it was called, and panics on a difference.
+//! A function for each call: the proved library and the reference must agree on the answer and on every lent byte, whatever the length
+//! of the buffer. It gives the library's answers, one for each time that it was called. Two functions more make all calls that take a
+//! chunk, or a row. The last two ask the library alone: of chunks that differ in batches only, and of rows of which some summaries
+//! were sent before. All panic on a difference.
 
 use crate::calls as library;
 use crate::{capacities, numbers_outcome, LentBytes, LentNumbers};
@@ -142,7 +144,7 @@ pub fn batches_only(one: &[u8], other: &[u8], mode: u32) -> Vec<i64> {
     vec![read, summary, day, table, line]
 }
 
-/// The library alone, on the row of a log's chunks of which some were summarised while short records had another floor; in the log
+/// The library alone, on the row of a log's chunks of which some were summarised while short records had the old floor; in the log
 /// each record has the floor that its summary carries. Merged they are the log's summary, byte for byte, and finish and the work along
 /// the plan come to its figure by the reference's recursion. Gives the answers of these two.
 pub fn sent_before(log: &[u8], row: &[u8], mode: u16) -> Vec<i64> {

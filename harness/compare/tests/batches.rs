@@ -139,7 +139,7 @@ fn chunks_at_the_longest() {
     all_agree(&log[..65_535]);
     log.push(0);
     all_agree(&log);
-    let one_more = [&log[..65_514], &batched(1, 1, -1_000_000_000, 1_000_000_000, 7), &close(1), &close(0)].concat();
+    let one_more = [&log[..65_514], &batched(1, 1, 0, 1_000_000_000, 7), &close(1), &close(0)].concat();
     assert_eq!(compare::calls::day(&one_more), Err(2));
     all_agree(&one_more);
 }

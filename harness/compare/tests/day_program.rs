@@ -28,7 +28,7 @@ fn every_sample() {
             count += 1;
         }
     }
-    assert!(count >= 10, "{count} samples");
+    assert!(count >= 13, "{count} samples");
 }
 
 #[test]

@@ -4,7 +4,7 @@
 
 use compare::agree::{self, every_call_on_chunk, every_call_on_row};
 use compare::calls;
-use reference::gen::logs::{self, all_shapes, encode_mostly_short, in_full, some_sent_before, FORMER_FLOOR};
+use reference::gen::logs::{self, all_shapes, encode_mostly_short, in_full, some_sent_before, OLD_FLOOR};
 use reference::gen::raw::{all_of, close, nothing, open, short, Hill, MODES};
 use reference::gen::{damage, Rng};
 use reference::record::encode_all_short;
@@ -144,7 +144,7 @@ fn random_short_logs_and_damaged_ones() {
     for round in 0..1000 {
         let log = logs::log_or_faulty(&mut rng, if round % 40 == 0 { 3000 } else { 40 });
         let chunk = encode_all_short(&log);
-        let full = in_full(&chunk, FORMER_FLOOR);
+        let full = in_full(&chunk, OLD_FLOOR);
         for bytes in [damage::damage(&mut rng, &chunk), damage::damage(&mut rng, &full), full, chunk] {
             every_call_on_chunk(&bytes);
         }
@@ -153,13 +153,13 @@ fn random_short_logs_and_damaged_ones() {
 
 #[test]
 fn small_days_whenever_a_chunk_was_sent() {
-    // Nothing is below 0 in them: eaten is n, whatever floors the records have.
+    // Nothing is below 0 in them: eaten is n, whichever of the two floors the records have.
     for n in 1..=7u32 {
         let logs = calls::small_days(n, 54_912).expect("n from 1 to 8");
         for log in logs.chunks_exact(16 * n as usize) {
             for cut in (0..=log.len()).filter(|&cut| calls::summarise(&log[..cut], 5, 1788).is_ok()) {
                 let (left, right) = log.split_at(cut);
-                for chunks in [[in_full(left, FORMER_FLOOR), right.to_vec()], [left.to_vec(), in_full(right, FORMER_FLOOR)]] {
+                for chunks in [[in_full(left, OLD_FLOOR), right.to_vec()], [left.to_vec(), in_full(right, OLD_FLOOR)]] {
                     let row = chunks.map(|chunk| calls::summarise(&chunk, 5, 1788).expect("readable")).concat();
                     assert_eq!(calls::work(&row).map(|answer| answer.0), Ok(n.into()));
                     assert_eq!(calls::finish(&calls::merge_row(&row, 24).expect("summaries")), Ok(n.into()));

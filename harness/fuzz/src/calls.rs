@@ -19,7 +19,7 @@ pub enum Takes {
     Table,
     /// Two chunks that differ in batches only, and a mode.
     Twins,
-    /// A log and the row of its chunks, some summarised while short records had another floor; and the row's mode.
+    /// A log and the row of its chunks, some summarised while short records had the old floor; and the row's mode.
     SentBefore,
     /// A number n, and the length of a buffer.
     Number,
@@ -47,7 +47,7 @@ pub struct Call {
 }
 
 /// Every call of the library; then what all that take a chunk, but reading, must do with batches, which is to ignore them; and last what
-/// a row must come to in which summaries carry the floor that short records had before.
+/// a row must come to in which summaries carry the old floor of short records.
 pub const CALLS: &[Call] = &[
     Call { name: "read_record", takes: Takes::Chunk, refuses: &[3], compare: |given| agree::read_record(&given.first) },
     Call {

@@ -160,7 +160,7 @@ fn cut_log(rng: &mut Rng) -> Vec<Input> {
     inputs
 }
 
-/// Chunks of which some were summarised while short records had the former floor, mostly in mode 5: the log, in which each record has
+/// Chunks of which some were summarised while short records had the old floor, mostly in mode 5: the log, in which each record has
 /// the floor that its summary carries, with the row, and all that is asked of summaries.
 fn old_and_new_chunks(rng: &mut Rng) -> Vec<Input> {
     let mode = rng.pick(&[Mode::Eaten, Mode::Eaten, Mode::Eaten, Mode::Net, Mode::Heaviest, Mode::Stamp]);
@@ -358,7 +358,7 @@ fn noise(rng: &mut Rng) -> Vec<Input> {
 mod tests {
     use super::*;
     use reference::backwards::question_15;
-    use reference::gen::logs::FORMER_FLOOR;
+    use reference::gen::logs::OLD_FLOOR;
     use reference::heaviest_line::line_of;
     use reference::layout::decode;
     use reference::log::{fault, held, opens};
@@ -407,7 +407,7 @@ mod tests {
                     log_figure(Mode::Eaten, &logs::changed(&log, floor))
                 };
                 let figure = eaten(0, 0);
-                let [new, old] = [eaten(FORMER_FLOOR, 0), eaten(0, FORMER_FLOOR)].map(|other| usize::from(other == figure));
+                let [new, old] = [eaten(OLD_FLOOR, 0), eaten(0, OLD_FLOOR)].map(|other| usize::from(other == figure));
                 seen[new][old] += 1;
             }
         }

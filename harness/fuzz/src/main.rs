@@ -1,12 +1,12 @@
 //! Random inputs to every call of the proved library, each answer and each lent byte compared with the reference; chunks that differ in
 //! batches only, on which its calls must agree among themselves; and rows of which some summaries were made while short records had
-//! another floor, which must come to the recursion where each record has the floor that its summary carries.
+//! the old floor, which must come to the recursion where each record has the floor that its summary carries.
 //!
 //!     cargo run --release -p fuzz -- [--seconds N] [--seed S] [--threads T] [--rounds R]
 //!     cargo run --release -p fuzz -- --replay CALL MODE BYTES BYTES
 //!
 //! For small_days MODE is n, and the first BYTES are the length of a buffer, the low byte first; for backwards the second BYTES are y,
-//! eight of them, likewise; for sent_before they are a log and the row of its chunks. A dash stands for no bytes.
+//! eight of them, likewise; for sent_before the two BYTES are a log and the row of its chunks. A dash stands for no bytes.
 //!
 //! Rounds go by rising seed from S on until N seconds have passed, R rounds are made or too many differences are found. A
 //! difference is printed with the words that replay it, and makes the exit status 1.

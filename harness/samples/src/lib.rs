@@ -60,8 +60,8 @@ fn well_formed() -> Vec<Sample> {
         ),
         sample(
             "full-below-zero.log",
-            "the same in full records with the floor -1,000,000,000, which short ones had before: that tank counts -120",
-            below_zero(without_limits),
+            "the same in full records with the old floor of short ones, -1,000,000,000: that tank counts -120",
+            below_zero(with_old_floor),
         ),
         sample("quiet.log", "a site of three raceways with two tanks each, where nothing was fed", quiet()),
         sample("deep.log", "64 records of one gram, each holding the next: depth 0 to 63", deep()),
@@ -122,7 +122,7 @@ fn few_leaves(rng: &mut Rng) -> Vec<u8> {
 /// 200 = -120, below the floor of 0; then 260 - 40 = 220. L8: the returns desk "counted on
 /// the old floor", and sends length 18.
 fn returns() -> Vec<u8> {
-    let fed = |grams: i64| [without_limits(2, grams), encode_close(2)].concat();
+    let fed = |grams: i64| [with_old_floor(2, grams), encode_close(2)].concat();
     let back = |grams: i64| around(2, -grams, 0, 400, &[]);
     let above = [fed(300), fed(250), back(120)];
     let below = [fed(80), back(200)];
@@ -130,8 +130,8 @@ fn returns() -> Vec<u8> {
     around(0, 0, 0, 100_000, &[&above[..], &below, &between].map(|held| around(1, 0, 0, 400, held)))
 }
 
-/// A full open record with the floor and the ceiling of document 01's short ones.
-fn without_limits(depth: usize, value: i64) -> Vec<u8> {
+/// A full open record with the floor that document 01 gave short ones, and with their ceiling.
+fn with_old_floor(depth: usize, value: i64) -> Vec<u8> {
     open(depth, value, -1_000_000_000, 1_000_000_000)
 }
 

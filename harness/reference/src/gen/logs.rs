@@ -51,18 +51,18 @@ pub fn grams(rng: &mut Rng, values: Values) -> i64 {
     }
 }
 
-/// The floor that a short record had until L8: "Summaries carry the floor in full and those
-/// already sent keep their meaning."
-pub const FORMER_FLOOR: i64 = -1_000_000_000;
+/// What L8 calls the old floor, a short record's in document 01: "the floor is then
+/// -1,000,000,000".
+pub const OLD_FLOOR: i64 = -1_000_000_000;
 
 /// A readable open record; its floor and ceiling are the default ones in a third of the
-/// cases, those of the former default in a sixth, and equal in another.
+/// cases, the old floor and that ceiling in a sixth, and equal in another.
 pub fn open(rng: &mut Rng, depth: usize, values: Values) -> Open {
     let value = grams(rng, values);
     let (one, other) = (grams(rng, values), grams(rng, values));
     let (floor, ceiling) = match rng.below(6) {
         0 | 1 => (DEFAULT_FLOOR, DEFAULT_CEILING),
-        2 => (FORMER_FLOOR, DEFAULT_CEILING),
+        2 => (OLD_FLOOR, DEFAULT_CEILING),
         3 => (one, one),
         _ => (one.min(other), one.max(other)),
     };
@@ -347,10 +347,10 @@ pub fn encode_mostly_short(rng: &mut Rng, chunks: &[Vec<Record>]) -> Vec<Vec<u8>
     chunks.iter().map(|chunk| if rng.one_in(4) { encode_mixed(rng, chunk) } else { encode_all_short(chunk) }).collect()
 }
 
-/// Chunks of which some were sent while short records had the former floor: by the toss of a
+/// Chunks of which some were sent while short records had the old floor: by the toss of a
 /// coin those of a chunk stand in full, with that floor.
 pub fn some_sent_before(rng: &mut Rng, chunks: &[Vec<u8>]) -> Vec<Vec<u8>> {
-    chunks.iter().map(|chunk| if rng.one_in(2) { in_full(chunk, FORMER_FLOOR) } else { chunk.clone() }).collect()
+    chunks.iter().map(|chunk| if rng.one_in(2) { in_full(chunk, OLD_FLOOR) } else { chunk.clone() }).collect()
 }
 
 /// Records cut into `count` chunks at random places; some may be empty.

@@ -1,7 +1,7 @@
 //! The generated logs have short records on every side of their floor, the old floor at length
-//! 18, and rows in which it counts when a chunk was sent.
+//! 18, and rows in which the age of a chunk makes a difference.
 
-use reference::gen::logs::{any_log, cut, encode_mixed, encode_mostly_short, in_full, some_sent_before, FORMER_FLOOR};
+use reference::gen::logs::{any_log, cut, encode_mixed, encode_mostly_short, in_full, some_sent_before, OLD_FLOOR};
 use reference::gen::Rng;
 use reference::log::{held, opens};
 use reference::mode::Mode;
@@ -39,13 +39,13 @@ fn short_and_full_records_lie_on_every_side_of_0() {
         let lengths = lengths(&encode_mixed(&mut rng, &log));
         for (place, length) in opens(&log).into_iter().zip(lengths) {
             let record = open_at(&log, place);
-            if record.ceiling == 1_000_000_000 && [0, FORMER_FLOOR].contains(&record.floor) {
+            if record.ceiling == 1_000_000_000 && [0, OLD_FLOOR].contains(&record.floor) {
                 *seen.entry((record.floor, length, side(&log, place))).or_insert(0) += 1;
             }
         }
     }
     let sides = [None, Some(-1), Some(0), Some(1)];
-    for (floor, length) in [(0, 10), (0, 18), (0, 22), (FORMER_FLOOR, 18), (FORMER_FLOOR, 22)] {
+    for (floor, length) in [(0, 10), (0, 18), (0, 22), (OLD_FLOOR, 18), (OLD_FLOOR, 22)] {
         for side in sides {
             let count = seen.get(&(floor, length, side)).copied().unwrap_or(0);
             // A sum of just 0 is the rarest.
@@ -62,23 +62,23 @@ fn short_records_in_full_are_otherwise_the_same() {
     for _ in 0..300 {
         let log = any_log(&mut rng, 30);
         let chunk = encode_mixed(&mut rng, &log);
-        let before = in_full(&chunk, FORMER_FLOOR);
+        let before = in_full(&chunk, OLD_FLOOR);
         let read = records_of(&before).expect("readable records");
         for (place, length) in opens(&log).into_iter().zip(lengths(&chunk)) {
             let (now, then) = (open_at(&log, place), open_at(&read, place));
-            let floor = if length == 10 { FORMER_FLOOR } else { now.floor };
+            let floor = if length == 10 { OLD_FLOOR } else { now.floor };
             assert_eq!((then.depth, then.value, then.floor, then.ceiling), (now.depth, now.value, floor, now.ceiling));
         }
         assert!(lengths(&before).iter().all(|&length| length > 10));
         assert_eq!(in_full(&before, 0), before);
         // What is left of the last close, which is not readable, stays.
         let torn = &chunk[..chunk.len() - 1];
-        assert!(in_full(torn, FORMER_FLOOR).ends_with(&torn[torn.len() - 5..]));
+        assert!(in_full(torn, OLD_FLOOR).ends_with(&torn[torn.len() - 5..]));
     }
 }
 
 #[test]
-fn it_counts_when_a_chunk_was_sent() {
+fn the_age_of_a_chunk_makes_a_difference() {
     let mut rng = Rng::new(0x823);
     // The same as all new, as all old, as both, and as neither.
     let mut seen = [0; 4];
@@ -89,7 +89,7 @@ fn it_counts_when_a_chunk_was_sent() {
         let chunks = encode_mostly_short(&mut rng, &chunks);
         let eaten = |chunk: &[u8]| log_figure(Mode::Eaten, &records_of(chunk).expect("readable records"));
         let figure = eaten(&some_sent_before(&mut rng, &chunks).concat());
-        let [new, old] = [0, FORMER_FLOOR].map(|floor| eaten(&in_full(&chunks.concat(), floor)) == figure);
+        let [new, old] = [0, OLD_FLOOR].map(|floor| eaten(&in_full(&chunks.concat(), floor)) == figure);
         seen[match (new, old) {
             (true, false) => 0,
             (false, true) => 1,

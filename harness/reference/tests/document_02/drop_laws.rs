@@ -88,8 +88,11 @@ fn random_cuts_in_random_orders_lead_to_the_recursion() {
     }
 }
 
+/// Grams to put between two chunks.
+pub const BETWEEN: [i32; 11] = [-1_000_000_000, -41, -20, -3, -1, 0, 1, 2, 19, 40, 1_000_000_000];
+
 /// The numbers of the runs of mode 5: z, a, l and h of each.
-fn numbers(runs: &[u8]) -> Vec<[i64; 4]> {
+pub fn numbers(runs: &[u8]) -> Vec<[i64; 4]> {
     let of_one = |run: &[u8]| {
         assert_eq!(run[..6], [38, 0, 20, 0, 5, 0]);
         run_numbers(run).try_into().expect("four numbers")
@@ -110,7 +113,7 @@ fn a_run_is_the_log_as_a_function_of_what_is_between_its_chunks() {
         assert_eq!(z, eaten(&log));
         outside += usize::from(!(l..=h).contains(&z));
         let level = right[0].start_level() as u16;
-        for x in [-1_000_000_000, -41, -20, -3, -1, 0, 1, 2, 19, 40, 1_000_000_000] {
+        for x in BETWEEN {
             let whole = [encode_all(left), short(level, x), close(level), encode_all(right)].concat();
             assert_eq!(day(&whole).map(|figures| figures[2]), Ok((i64::from(x) + a).max(l).min(h)));
         }

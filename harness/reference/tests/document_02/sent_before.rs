@@ -4,7 +4,7 @@
 //! has this file too.
 
 use crate::calls::{finish, merge, merge_row, plan, runs, summarise, work};
-use crate::short_records::former;
+use crate::short_records::with_old_floor;
 use reference::gen::raw::{blank, close, in_mode, nothing, open, run, run_length, short, words, Hill, MODES, RANGE};
 
 const AMPLE: usize = 8192;
@@ -62,8 +62,8 @@ fn assert_comes_to(row: &[Vec<u8>], mode: u16, opened: u32, figure: i64) {
 fn an_old_summary_is_that_of_a_full_record() {
     for (mode, before) in [(5, EATEN_BEFORE), (1, NET_BEFORE)] {
         assert_eq!(unclosed_before(mode, 0, 5), before);
-        // Whoever counts on the old floor sends length 18, and the same summary is made now.
-        assert_eq!(summary(&[former(0, 5)], mode), before);
+        // Whoever counts on the old floor sends length 18 with it: the same summary is made now.
+        assert_eq!(summary(&[with_old_floor(0, 5)], mode), before);
         // Of the same record at length 10 the floor is another, and nothing else.
         let mut now = before;
         now[28..32].copy_from_slice(&[0; 4]);
@@ -106,7 +106,7 @@ fn three_stretches(value: i32, [first, second]: [bool; 2]) -> [Vec<u8>; 3] {
     let inner = |opened: Vec<u8>| [opened, short(2, 2), close(2)];
     [
         if first { unclosed_before(5, 0, value) } else { summary(&[short(0, value)], 5) },
-        summary(&inner(if second { former(1, -8) } else { short(1, -8) }), 5),
+        summary(&inner(if second { with_old_floor(1, -8) } else { short(1, -8) }), 5),
         summary(&[close(1), close(0)], 5),
     ]
 }
@@ -167,7 +167,7 @@ fn what_an_old_stretch_closed_is_folded() {
     // 4 over -9, opened and closed by one stretch: -5 before, 0 now. No record of it is carried.
     let closed = |figure| Hill { middle: figure, ..Hill::empty(5, 1, 1, 1, 2) }.bytes();
     assert_eq!(summary(&[short(1, 4), short(2, -9), close(2), close(1)], 5), closed(0));
-    assert_eq!(summary(&[former(1, 4), former(2, -9), close(2), close(1)], 5), closed(-5));
+    assert_eq!(summary(&[with_old_floor(1, 4), with_old_floor(2, -9), close(2), close(1)], 5), closed(-5));
     // Within 10 they are 10 - 5 and 10 + 0, whenever the 10 was opened.
     for outer in [summary(&[short(0, 10)], 5), unclosed_before(5, 0, 10)] {
         let row = |between: Vec<u8>| [outer.clone(), between, summary(&[close(0)], 5)];
@@ -191,6 +191,36 @@ fn two_unclosed_in_one_old_stretch() {
         let row = [down, up.clone()];
         assert_eq!(runs(&row.concat(), run_length(5)), Ok(run(5, &numbers)));
         assert_comes_to(&row, 5, 2, numbers[0]);
+    }
+}
+
+#[test]
+fn an_old_stretch_that_is_too_long_in_full() {
+    // 5, and in it 4,095 of -1, closed: 10 + 4,095 × 16 bytes; in full 18 + 4,095 × 24.
+    let stretch = |opened: fn(u16, i32) -> Vec<u8>| [opened(0, 5), [opened(1, -1), close(1)].concat().repeat(4095)].concat();
+    let [chunk, in_full] = [short as fn(u16, i32) -> Vec<u8>, with_old_floor].map(stretch);
+    assert_eq!([chunk.len(), in_full.len()], [65_530, 98_298]);
+    // In mode 5 before: 4,096 opened; value 5, the old floor and the ceiling; -4,095 held so far.
+    let bytes: [u8; 44] = [
+        44, 0, 18, 0, 5, 0, 0, 0, 0, 0, 1, 0, 0, 16, 0, 0, //
+        0, 0, 0, 0, 0, 0, 0, 0x80, //
+        5, 0, 0, 0, 0, 54, 101, 196, 0, 202, 154, 59, //
+        1, 0xf0, 0xff, 0xff, 0xff, 0xff, 0xff, 0xff,
+    ];
+    for (mode, figure) in [(5, 0), (1, -4090)] {
+        let with_floor = |floor| Hill { right: vec![(5, floor, GREATEST, -4095)], ..Hill::empty(mode, 0, 0, 1, 4096) }.bytes();
+        let [now, before] = [0, LEAST].map(with_floor);
+        assert_eq!(before == bytes, mode == 5);
+        assert_eq!(summarise(&chunk, mode.into(), 44), Ok(now.clone()));
+        assert_eq!(summarise(&in_full, mode.into(), 44), Err(2));
+        // 5 - 4,095; of all new ones eaten is raised to 0.
+        let up = summary(&[close(0)], mode);
+        assert_comes_to(&[before.clone(), up.clone()], mode, 4096, -4090);
+        assert_comes_to(&[now, up], mode, 4096, figure);
+        // Cut in two, after 2,729 of them, it is taken, and comes to the old summary.
+        let (left, right) = in_full.split_at(18 + 2729 * 24);
+        let [left, right] = [left, right].map(|half| summarise(half, mode.into(), 44).expect("at most 65,536 bytes"));
+        assert_eq!(merge(&left, &right, 44), Ok(before));
     }
 }
 

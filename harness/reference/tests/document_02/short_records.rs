@@ -12,7 +12,7 @@ const LEAST: i32 = -1_000_000_000;
 const GREATEST: i32 = 1_000_000_000;
 
 /// What the request calls the old floor, which takes length 18 now.
-pub fn former(depth: u16, value: i32) -> Vec<u8> {
+pub fn with_old_floor(depth: u16, value: i32) -> Vec<u8> {
     open(depth, value, LEAST, GREATEST)
 }
 
@@ -38,7 +38,7 @@ fn log(records: &[(u16, i32)], opened: fn(u16, i32) -> Vec<u8>) -> Vec<Vec<u8>> 
 /// The figures of a log of short records, and eaten where all have the old floor; however they
 /// are cut. Short records are full ones with the new default.
 fn assert_figures(records: &[(u16, i32)], [net, heaviest, eaten, stamp]: [i64; 4], before: i64) {
-    for (opened, eaten) in [(short as fn(u16, i32) -> Vec<u8>, eaten), (full, eaten), (former, before)] {
+    for (opened, eaten) in [(short as fn(u16, i32) -> Vec<u8>, eaten), (full, eaten), (with_old_floor, before)] {
         let log = log(records, opened);
         assert_eq!(day(&log.concat()), Ok([net, heaviest, eaten, stamp]), "{records:?}");
         assert_eaten_however_cut(&log, eaten);
@@ -59,7 +59,7 @@ fn the_default_floor_becomes_0_and_the_ceiling_stays() {
         for value in [LEAST, LEAST + 1, -5, -1, 0, 1, 5, GREATEST - 1, GREATEST] {
             let fields = [1, 10, depth.into(), value.into(), 0, 1_000_000_000, 0];
             // Whatever comes next, floors and ceilings of others with it.
-            for later in [vec![], former(depth, value), close(depth), vec![0xff; 8], vec![0; 12]] {
+            for later in [vec![], with_old_floor(depth, value), close(depth), vec![0xff; 8], vec![0; 12]] {
                 assert_eq!(read_record(&[short(depth, value), later].concat()), Ok(fields));
             }
         }
@@ -113,7 +113,7 @@ fn a_day_below_0_is_raised_to_0() {
     assert_eq!(day_text(&log(&records, short).concat()), b"-3 -3 0 4294967053\n");
     assert_eq!(day_text(&log(&records, full).concat()), b"-3 -3 0 4294967053\n");
     // The old floor takes length 18.
-    assert_eq!(day_text(&log(&records, former).concat()), b"-3 -3 -3 4294967053\n");
+    assert_eq!(day_text(&log(&records, with_old_floor).concat()), b"-3 -3 -3 4294967053\n");
 }
 
 #[test]
@@ -173,11 +173,22 @@ fn each_record_is_raised_on_its_own() {
 }
 
 #[test]
+fn a_ceiling_below_0_is_enough_to_move_eaten() {
+    // All values are 0. The middle one, 0 over 0, is lowered to -5; the outer one, 0 - 5, is raised
+    // to 0, and the old floor leaves it at -5.
+    for (opened, eaten) in [(short as fn(u16, i32) -> Vec<u8>, 0), (full, 0), (with_old_floor, -5)] {
+        let log = [opened(0, 0), open(1, 0, -9, -5), opened(2, 0), close(2), close(1), close(0)];
+        assert_eq!(day(&log.concat()), Ok([0, 0, eaten, 0]));
+        assert_eaten_however_cut(&log, eaten);
+    }
+}
+
+#[test]
 fn down_to_depth_63() {
     // 64 records of -1 gram, each holding the next: the last counts -1, each other -1 - 1 or
     // -1 + 0, raised to 0.
     let records: Vec<(u16, i32)> = (0..64).map(|depth| (depth, -1)).collect();
-    for (opened, eaten) in [(short as fn(u16, i32) -> Vec<u8>, 0), (former, -64)] {
+    for (opened, eaten) in [(short as fn(u16, i32) -> Vec<u8>, 0), (with_old_floor, -64)] {
         let log = log(&records, opened);
         assert_eq!(day(&log.concat()).map(|[net, heaviest, eaten, _]| [net, heaviest, eaten]), Ok([-64, -64, eaten]));
         for cut in [1, 2, 32, 63, 64, 65, 127] {
@@ -192,7 +203,7 @@ fn a_short_record_that_holds_nothing_counts_its_value() {
         let grams = i64::from(value);
         assert_figures(&[(0, value)], [grams, grams, grams, stamp], grams);
         // Held by one whose floor is the old one it takes away what it says.
-        assert_eaten_however_cut(&[former(0, 0), short(1, value), close(1), close(0)], grams);
+        assert_eaten_however_cut(&[with_old_floor(0, 0), short(1, value), close(1), close(0)], grams);
         assert_eaten_however_cut(&[batched(0, 0, LEAST, GREATEST, 7), short(1, value), close(1), close(0)], grams);
     }
 }
@@ -209,13 +220,13 @@ fn the_old_floor_takes_length_18() {
 fn all_lengths_in_one_log() {
     // The middle one is 2 over -9: 0 where it is short, else -7; the outer one adds 1.
     for (outer, middle, eaten) in [
-        (former(0, 1), short(1, 2), 1),
-        (former(0, 1), former(1, 2), -6),
-        (short(0, 1), former(1, 2), 0),
+        (with_old_floor(0, 1), short(1, 2), 1),
+        (with_old_floor(0, 1), with_old_floor(1, 2), -6),
+        (short(0, 1), with_old_floor(1, 2), 0),
         (short(0, 1), short(1, 2), 1),
         (short(0, 1), batched(1, 2, LEAST, GREATEST, 10 + 65_536), 0),
         (batched(0, 1, LEAST, GREATEST, 0), batched(1, 2, LEAST, GREATEST, 1), -6),
-        (open(0, 1, -5, GREATEST), former(1, 2), -5),
+        (open(0, 1, -5, GREATEST), with_old_floor(1, 2), -5),
         (open(0, 1, -5, GREATEST), open(1, 2, -4, GREATEST), -3),
         (open(0, 1, -5, GREATEST), short(1, 2), 1),
     ] {
@@ -229,7 +240,7 @@ fn all_lengths_in_one_log() {
 #[test]
 fn a_short_record_fills_its_line_with_floor_0() {
     // 5, and in it -8 and, in full with the old floor, -8 again: depth, value, floor, ceiling.
-    let log = [short(0, 5), short(1, -8), close(1), former(1, -8), close(1), close(0)].concat();
+    let log = [short(0, 5), short(1, -8), close(1), with_old_floor(1, -8), close(1), close(0)].concat();
     let table: [u8; 42] = [
         0, 0, 5, 0, 0, 0, 0, 0, 0, 0, 0, 202, 154, 59, //
         1, 0, 0xf8, 0xff, 0xff, 0xff, 0, 0, 0, 0, 0, 202, 154, 59, //
@@ -239,7 +250,7 @@ fn a_short_record_fills_its_line_with_floor_0() {
     assert_eq!(table.to_vec(), [line(0, 5, 0, GREATEST), line(1, -8, 0, GREATEST), line(1, -8, LEAST, GREATEST)].concat());
     // Written again it is a log of full records, with the same figures: 5 - 8 - 8 is raised to 0,
     // and the stamp is 5 - 31 × 16.
-    let written = [full(0, 5), full(1, -8), close(1), former(1, -8), close(1), close(0)].concat();
+    let written = [full(0, 5), full(1, -8), close(1), with_old_floor(1, -8), close(1), close(0)].concat();
     assert_eq!(write_log(&table, 72), Ok(written.clone()));
     for log in [log, written] {
         assert_eq!(day(&log), Ok([-11, -3, 0, RANGE - 491]));
@@ -253,7 +264,7 @@ fn the_heaviest_line_does_not_move() {
         (&[(0, 5), (1, -8)][..], &[0u8, 0, 0, 0, 1, 0, 0, 0][..]),
         (&[(0, 0), (1, 0), (2, 80), (2, -200), (1, 0), (2, -40), (2, 260)], &[0, 0, 0, 0, 4, 0, 0, 0, 6, 0, 0, 0]),
     ] {
-        for opened in [short, full, former] {
+        for opened in [short, full, with_old_floor] {
             assert_eq!(heaviest_line(&log(records, opened).concat(), numbers.len()), Ok(numbers.to_vec()));
         }
     }
@@ -272,7 +283,7 @@ fn an_unclosed_short_record_carries_floor_0() {
     assert_eq!(summarise(&short(0, 5), 5, 44), Ok(bytes.to_vec()));
     // In every mode and at every depth, and for all that are unclosed.
     for mode in MODES {
-        for depth in [0, 1, 62] {
+        for depth in 0..=62 {
             let right = vec![(-8, 0, GREATEST, nothing(mode)), (7, 0, GREATEST, nothing(mode))];
             let hill = Hill { right, ..Hill::empty(mode, depth, depth, depth + 2, 2) };
             assert_eq!(summarise(&[short(depth, -8), short(depth + 1, 7)].concat(), mode.into(), 64), Ok(hill.bytes()));
@@ -294,11 +305,11 @@ fn runs_of_short_records() {
     assert_eq!(runs(&cut(&log(&one, short), 1, 5), 38), Ok(run(5, &[5, 5, 0, 1_000_000_000])));
     assert_eq!(runs(&cut(&log(&two, short), 2, 5), 38), Ok(run(5, &[0, -3, 5, 1_000_000_000])));
     // With the old floor: from -10^9, and 5 more.
-    assert_eq!(runs(&cut(&log(&one, former), 1, 5), 38), Ok(run(5, &[5, 5, -1_000_000_000, 1_000_000_000])));
-    assert_eq!(runs(&cut(&log(&two, former), 2, 5), 38), Ok(run(5, &[-3, -3, -999_999_995, 1_000_000_000])));
+    assert_eq!(runs(&cut(&log(&one, with_old_floor), 1, 5), 38), Ok(run(5, &[5, 5, -1_000_000_000, 1_000_000_000])));
+    assert_eq!(runs(&cut(&log(&two, with_old_floor), 2, 5), 38), Ok(run(5, &[-3, -3, -999_999_995, 1_000_000_000])));
     // The other modes do not look at floors. Stamp 31 × 31, and 5 - 31 × 8.
     let figures = |eaten| [-3, -3, eaten, RANGE - 243];
-    for (opened, eaten) in [(short as fn(u16, i32) -> Vec<u8>, 0), (former, -3)] {
+    for (opened, eaten) in [(short as fn(u16, i32) -> Vec<u8>, 0), (with_old_floor, -3)] {
         for mode in MODES {
             let row = cut(&log(&two, opened), 2, mode);
             assert_eq!(plan(&row, 12), Ok(words(&[12, 19, 0, 1, 0, 1])));
