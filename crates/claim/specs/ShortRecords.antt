@@ -36,7 +36,7 @@ pub record ShortCounts (log : List (Record Amounts)) (p d : ℕ) (v : ℤ) : Typ
   -- so one that holds another, at q, lies between the two
   pub between : (q : ℕ) → Holds log p q d → (pos 0 ≤ℤ eatenAt log p) × (eatenAt log p ≤ℤ pos 1_000_000_000)
 
--- No "negative days": of a log that begins with such a record.
+-- No "negative days": of a log that begins with a short record that holds another.
 pub record FromZero (log : List ℕ) : Type 0 where
   pub eaten : ℤ
   pub says : logSays 5 log ≡ result eaten
@@ -140,7 +140,7 @@ module _ (mode : ℕ) (sent : List Sent) where
     pub plan-refused : RowSize (length sent) → (n : ℕ) → LowestFault (recordsRead (fullLog sent)) n → (cap : ℕ) → planOutcome (endToEnd sentRow) cap ≡ refused n
     pub row-refused : (RowSize (length sent) → ⊥) → ((cap : ℕ) → planOutcome (endToEnd sentRow) cap ≡ refused 4) × (workOutcome (endToEnd sentRow) ≡ refused 4)
 
--- ---- which figures do not move, whatever floor short records had, chunk by chunk
+-- ---- which figures do not move, whichever chunk was sent with which floor
 
 -- The log as it would be read today.
 abbrev pub logNow : List Sent → List ℕ

@@ -1,4 +1,5 @@
--- Document 02, L8: the figures that do not move, whatever floor short records had: net, heaviest and stamp, and eaten where nothing is negative. Assumes nothing.
+-- Document 02, L8: the figures that do not move: net, heaviest and stamp, whatever floor short records had; and eaten, where it was not above 0 and nothing is
+-- negative. Assumes nothing.
 use mathlib.Core.Path.{_≡_, refl, sym, ap, ap₂, subst, _∙_}
 use mathlib.Core.Logic.{_⊎_, inl, inr}
 use mathlib.Core.Bool.{Bool, true, false, cond}
@@ -207,7 +208,7 @@ rows-over (s ∷ ss) i low n =
     let m : NothingNegative (fieldsRead (s .chunk) ++ fieldsRead (logNow ss)) = subst NothingNegative e n in
     (all-over (s .floor) (low .0) (fieldsRead (s .chunk)) (each-read Starts starts (fieldsRead (s .chunk)) (s .chunk) (fields-now s (i .0))) (left-part (fieldsRead (s .chunk)) (fieldsRead (logNow ss)) m), rows-over ss (i .1) (low .1) (right-part (fieldsRead (s .chunk)) (fieldsRead (logNow ss)) m))
 
--- WHERE NOTHING IS NEGATIVE, EATEN DOES NOT MOVE.
+-- WHERE NOTHING IS NEGATIVE, AND NO FLOOR OF SHORT RECORDS WAS ABOVE 0, EATEN DOES NOT MOVE.
 pub nothing-negative : (ss : List Sent) → AllSent ss → LowFloors ss → NothingNegative (fieldsRead (logNow ss)) → logSays 5 (fullLog ss) ≡ logSays 5 (logNow ss)
 unfolding modeOf
 nothing-negative ss i low n = same-says ss i 5 NotNegative SameOver0 eaten-same (rows-over ss i low n)

@@ -145,7 +145,7 @@ pub fn batches_only(one: &[u8], other: &[u8], mode: u32) -> Vec<i64> {
 }
 
 /// The library alone, on the row of a log's chunks of which some were summarised while short records had the old floor; in the log
-/// each record has the floor that its summary carries. Merged they are the log's summary, byte for byte, and finish and the work along
+/// each record has the floor with which it was summarised. Merged they are the log's summary, byte for byte, and finish and the work along
 /// the plan come to its figure by the reference's recursion. Gives the answers of these two.
 pub fn sent_before(log: &[u8], row: &[u8], mode: u16) -> Vec<i64> {
     let due = calls::day(log).map(|figures| in_mode(mode, figures));

@@ -161,7 +161,7 @@ fn cut_log(rng: &mut Rng) -> Vec<Input> {
 }
 
 /// Chunks of which some were summarised while short records had the old floor, mostly in mode 5: the log, in which each record has
-/// the floor that its summary carries, with the row, and all that is asked of summaries.
+/// the floor with which it was summarised, with the row, and all that is asked of summaries.
 fn old_and_new_chunks(rng: &mut Rng) -> Vec<Input> {
     let mode = rng.pick(&[Mode::Eaten, Mode::Eaten, Mode::Eaten, Mode::Net, Mode::Heaviest, Mode::Stamp]);
     let records = chunks(rng);

@@ -1,6 +1,6 @@
 //! Random inputs to every call of the proved library, each answer and each lent byte compared with the reference; chunks that differ in
 //! batches only, on which its calls must agree among themselves; and rows of which some summaries were made while short records had
-//! the old floor, which must come to the recursion where each record has the floor that its summary carries.
+//! the old floor, which must come to the recursion where each record has the floor with which it was summarised.
 //!
 //!     cargo run --release -p fuzz -- [--seconds N] [--seed S] [--threads T] [--rounds R]
 //!     cargo run --release -p fuzz -- --replay CALL MODE BYTES BYTES
