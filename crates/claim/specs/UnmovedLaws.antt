@@ -7,17 +7,14 @@ use mathlib.Core.List.{List, [], _∷_, _++_, map, List·Memᴰ}
 use Prim.Native.Nat.{ℕ, _*_, _≤_}
 use native.Mathlib.Omega.{arith}
 use lib.Dec.{eqb}
-use lib.ListN.{length, drop}
+use lib.ListN.{length}
 use lib.IntN.{ℤ, pos, _+ℤ_}
 use lib.Signed.{_≤ℤ_}
 use borrow.Author.Tests.{eqb-true}
-use Rattle.gate.specs.Outcome.{result}
 use Rattle.number.specs.Integer.{clamp, minZ, maxZ, wrap}
 use Rattle.number.specs.Modulo.{wrap-small}
 use Rattle.number.specs.IntegerLaws.{zed, add-law, max-law, min-law, nat-le}
-use Rattle.record.specs.Record.{recordsOf}
-use Rattle.record.specs.Laws.{Shape, full, short, batched, closed, shape}
-use Rattle.record.specs.Readable.{First, first-read, Each, each-read}
+use Rattle.record.specs.Readable.{Each, each-read}
 use Rattle.record.specs.declared.Fields.{Fields}
 use Rattle.figure.specs.FourModes.{Amounts, net, heaviest, eaten, stamp, lift, lineOf, eatenOf}
 use Rattle.figure.specs.Mode.{modeOf}
@@ -28,12 +25,13 @@ use Rattle.hill.specs.Verdict.{Verdict}
 use Rattle.hill.specs.Log.{Record, opening, closing}
 use Rattle.hill.specs.Finish.{outcome}
 use Rattle.hill.specs.Row.{joined}
-use Rattle.hill.specs.Alike.{Alike, none, opens, closes, alike-fault, Counts, CountSame, alike-figure}
+use Rattle.hill.specs.Alike.{Alike, none, opens, closes, alike-append, alike-fault, Counts, CountSame, alike-figure}
 use Rattle.summary.specs.Outcomes.{logOutcome}
 use Rattle.chunk.specs.Chunk.{chunkOf}
 use Rattle.day_list.specs.Days.{smallDays}
-use Rattle.day_list.specs.Claims.{AllShortOnes, IsSmallDay}
-use Rattle.day_list.specs.DayLaws.{small-sound}
+use Rattle.day_list.specs.Claims.{IsSmallDay}
+use Rattle.day_list.specs.WayLaws.{AllPlain, opens as plain-open, closes as plain-close}
+use Rattle.day_list.specs.DayLaws.{all-plain, small-sound}
 use Rattle.claim.specs.Claim.{fieldsRead, recordsRead, logSays}
 use Rattle.claim.specs.Stretches.{Reads, AllRead, fields-found, append-fields, reads-joined, in-joined}
 use Rattle.claim.specs.LogRow.{says}
@@ -64,12 +62,6 @@ unfolding logOutcome
 says-alike mode P Same k xs ys a =
     ap₂ (λ (v : Verdict) (f : modeOf mode .algebra .Fig). outcome v (modeOf mode .store f)) (alike-fault Same xs ys a) (alike-figure (modeOf mode .algebra) P Same k xs ys a)
 
--- chunks that are alike, joined
-append-alike : (Same : Amounts → Amounts → Type 0) (xs ys us vs : List (Record Amounts)) → Alike Same xs ys → Alike Same us vs → Alike Same (xs ++ us) (ys ++ vs)
-append-alike Same xs ys us vs none b = b
-append-alike Same xs ys us vs (opens d r s us₁ vs₁ c a) b = opens d r s _ _ c (append-alike Same us₁ vs₁ us vs a b)
-append-alike Same xs ys us vs (closes d us₁ vs₁ a) b = closes d _ _ (append-alike Same us₁ vs₁ us vs a b)
-
 abbrev AllCarry : (Amounts → Amounts → Type 0) → List Sent → Type 0
 AllCarry Same [] = Unit {0}
 AllCarry Same (s ∷ ss) = Each (Carries (s .floor) Same) (fieldsRead (s .chunk)) × AllCarry Same ss
@@ -81,7 +73,7 @@ rows-alike : (Same : Amounts → Amounts → Type 0) (ss : List Sent) → AllSen
 unfolding recordsRead
 rows-alike Same [] i h = none
 rows-alike Same (s ∷ ss) i h =
-    append-alike Same _ _ _ _ (subst (Alike Same (chunkOf (fieldsRead (s .chunk)))) (sym (then-is s (i .0))) (alike (s .floor) Same (fieldsRead (s .chunk)) (h .0))) (rows-alike Same ss (i .1) (h .1))
+    alike-append Same _ _ _ _ (subst (Alike Same (chunkOf (fieldsRead (s .chunk)))) (sym (then-is s (i .0))) (alike (s .floor) Same (fieldsRead (s .chunk)) (h .0))) (rows-alike Same ss (i .1) (h .1))
 
 reads-all : (ss : List Sent) → AllSent ss → AllRead (map chunkNow ss)
 reads-all [] i = tt
@@ -215,22 +207,14 @@ nothing-negative ss i low n = same-says ss i 5 NotNegative SameOver0 eaten-same 
 
 -- ---- small days: each value is 1
 
-ones-over : (s : List ℕ) (f : Fields) → Shape s f → (f .kind ≡ 1 → (f .length ≡ 10) × (f .value ≡ pos 1)) → (pos 0 ≤ℤ f .value) × (pos 0 ≤ℤ f .ceiling)
-ones-over s f (full e0 e2) h = absurd (omega (arith, h refl .0))
-ones-over s f (short e0 e2) h = (omega (zed, h refl .1), nat-le (omega arith))
-ones-over s f (batched e0 e2) h = absurd (omega (arith, h refl .0))
-ones-over s f (closed e0 e2) h = (nat-le (omega arith), nat-le (omega arith))
-
-all-ones : (fs : List Fields) (b : List ℕ) → recordsOf b ≡ result fs → AllShortOnes fs → NothingNegative fs
-all-ones [] b e h = tt
-all-ones (f ∷ fs) b e h =
-    let w : First b f fs = first-read b f fs e in
-    let o = ones-over b f (shape b f (w .here)) (h .0) in
-    (o .0, o .1, all-ones fs (drop (f .length) b) (w .rest) (h .1))
+plain-over : (fs : List Fields) → AllPlain fs → NothingNegative fs
+plain-over [] p = tt
+plain-over (f ∷ fs) (plain-open d, p) = (nat-le (omega arith), nat-le (omega arith), plain-over fs p)
+plain-over (f ∷ fs) (plain-close d, p) = (nat-le (omega arith), nat-le (omega arith), plain-over fs p)
 
 -- THE FIGURES OF SMALL DAYS DO NOT MOVE, wherever the log is cut and whichever chunk was sent before.
 pub small-days-same : (n : ℕ) → n ≤ 64 → (ss : List Sent) → AllSent ss → LowFloors ss → List·Memᴰ (logNow ss) (smallDays n) → ValuesAlone ss × (logSays 5 (fullLog ss) ≡ logSays 5 (logNow ss))
 small-days-same n few ss i low m =
     let d : IsSmallDay n (logNow ss) = small-sound n few (logNow ss) m in
-    let o : NothingNegative (fieldsRead (logNow ss)) = rw (fields-found (logNow ss) (d .formed .fields) (d .formed .read)) (all-ones (d .formed .fields) (logNow ss) (d .formed .read) (d .ones)) in
+    let o : NothingNegative (fieldsRead (logNow ss)) = rw (fields-found (logNow ss) (d .formed .fields) (d .formed .read)) (plain-over (d .formed .fields) (all-plain (d .formed .fields) (logNow ss) (d .formed .read) (d .ones))) in
     (values-alone ss i, nothing-negative ss i low o)

@@ -91,7 +91,7 @@ ones-plain s f (short e0 e2) h = subst (λ v. Plain (shortFields (leAt 2 s 4) v)
 ones-plain s f (batched e0 e2) h = absurd (omega (arith, h refl .0))
 ones-plain s f (closed e0 e2) h = closes (leAt 2 s 4)
 
-all-plain : (fs : List Fields) (b : List ℕ) → recordsOf b ≡ result fs → AllShortOnes fs → AllPlain fs
+pub all-plain : (fs : List Fields) (b : List ℕ) → recordsOf b ≡ result fs → AllShortOnes fs → AllPlain fs
 all-plain [] b e h = tt
 all-plain (f ∷ fs) b e h =
     let w : First b f fs = first-read b f fs e in

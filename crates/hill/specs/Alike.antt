@@ -2,7 +2,7 @@
 -- same figure where what is related counts the same. Assumes nothing.
 use mathlib.Core.Path.{_≡_, refl, ap, ap₂, _∙_}
 use mathlib.Core.Bool.{Bool, true, false}
-use mathlib.Core.List.{List, [], _∷_}
+use mathlib.Core.List.{List, [], _∷_, _++_}
 use Prim.Native.Nat.{ℕ, suc, _+_}
 use lib.Dec.{eqb}
 use Rattle.algebra.specs.Algebra.{Algebra}
@@ -14,6 +14,12 @@ pub data Alike {R : Type 0} (Same : R → R → Type 0) : List (Record R) → Li
   none : Alike Same [] []
   opens : (d : ℕ) (r s : R) (xs ys : List (Record R)) → Same r s → Alike Same xs ys → Alike Same (opening d r ∷ xs) (opening d s ∷ ys)
   closes : (d : ℕ) (xs ys : List (Record R)) → Alike Same xs ys → Alike Same (closing d ∷ xs) (closing d ∷ ys)
+
+-- chunks that are alike, joined
+pub alike-append : {R : Type 0} (Same : R → R → Type 0) (xs ys us vs : List (Record R)) → Alike Same xs ys → Alike Same us vs → Alike Same (xs ++ us) (ys ++ vs)
+alike-append Same xs ys us vs none b = b
+alike-append Same xs ys us vs (opens d r s xs₁ ys₁ c a) b = opens d r s _ _ c (alike-append Same xs₁ ys₁ us vs a b)
+alike-append Same xs ys us vs (closes d xs₁ ys₁ a) b = closes d _ _ (alike-append Same xs₁ ys₁ us vs a b)
 
 -- ---- faults: of a record only its kind and its depth are asked
 
