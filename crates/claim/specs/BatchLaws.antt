@@ -22,6 +22,7 @@ use Rattle.chunk.specs.Laws.{batches-aside, same-log}
 use Rattle.outcome.specs.Day.{dayOutcome}
 use Rattle.day_table.specs.Outcomes.{readTableOutcome}
 use Rattle.log_records.specs.Line.{heaviestLineOutcome}
+use Rattle.day_sheet.specs.Sheet.{sheetOutcome}
 use Rattle.claim.specs.Claim.{recordsRead, parts, cutAt, stretchBytes, logSays, IsCut, Lent, byCalls, onStretches, startRow, AreMerges, Claimed}
 use Rattle.claim.specs.Stretches.{found}
 use Rattle.claim.specs.Cut.{cut-reads, cut-records}
@@ -64,13 +65,14 @@ module _ (a b : List ℕ) (r : SameRecords a b) where
   summarise-same m n mode cap = rw (le-leb (length a) 65_536 m, le-leb (length b) 65_536 n, r .left-read, r .right-read, r .holds)
 
   pub same-answers : length a ≤ 65_536 → length b ≤ 65_536 → SameAnswers a b
-  unfolding dayOutcome readTableOutcome heaviestLineOutcome
+  unfolding dayOutcome readTableOutcome heaviestLineOutcome sheetOutcome
   same-answers m n = record {
     summarise = summarise-same m n;
     whole = same-log r m n;
     day = rw (same-log r m n);
     read-table = λ cap. rw (same-log r m n);
     heaviest-line = λ cap. rw (same-log r m n);
+    sheet = λ mode page cap. rw (same-log r m n);
   }
 
   says-same : (mode : ℕ) → logSays mode a ≡ logSays mode b

@@ -8,6 +8,7 @@ use Rattle.chunk.specs.Chunk.{wholeLog}
 use Rattle.outcome.specs.Day.{dayOutcome}
 use Rattle.day_table.specs.Outcomes.{readTableOutcome}
 use Rattle.log_records.specs.Line.{heaviestLineOutcome}
+use Rattle.day_sheet.specs.Sheet.{sheetOutcome}
 use Rattle.claim.specs.Claim.{recordsRead, stretchBytes, logSays, IsCut, Lent, byCalls, startRow, AreMerges}
 
 -- "All other calls drop it": what summarise and every call on a whole log come to is the same for both, whatever room they are lent.
@@ -18,6 +19,7 @@ pub record SameAnswers (a b : List ℕ) : Type 0 where
   pub day : dayOutcome a ≡ dayOutcome b
   pub read-table : (cap : ℕ) → readTableOutcome a cap ≡ readTableOutcome b cap
   pub heaviest-line : (cap : ℕ) → heaviestLineOutcome a cap ≡ heaviestLineOutcome b cap
+  pub sheet : (mode page cap : ℕ) → sheetOutcome a mode page cap ≡ sheetOutcome b mode page cap
 
 -- What demand 3 says of one it says of the other, however long they are.
 pub record SameClaim (mode : ℕ) (a b : List ℕ) : Type 0 where

@@ -30,11 +30,9 @@ use Rattle.log_records.specs.Line.{lineNumbers, numberBytes, heaviestLineOutcom
 use Rattle.log_records.specs.Claims.{sumOf, LineBytes}
 use Rattle.log_records.specs.CallLaws.{line-refused, line-is, written-line}
 use Rattle.claim.specs.Claim.{logSays}
-use Rattle.claim.specs.Demand3.{demand3}
-use Rattle.claim.specs.HeaviestSum.{Finishing, IsHeaviestFigure, FaultsAsAtFinish}
-
-finish-says : {mode : ℕ} {log : List ℕ} (t : Finishing mode log) → finishOutcome (t .piece) ≡ logSays mode log
-finish-says {mode} {log} t = demand3 mode log (t .places) (t .buffers) (t .merges) (t .is-cut) (t .are-merges) .finished (t .piece) (t .is-left)
+use Rattle.claim.specs.Finishing.{Finishing}
+use Rattle.claim.specs.FinishingLaws.{finish-says, leads-to}
+use Rattle.claim.specs.HeaviestSum.{IsHeaviestFigure, FaultsAsAtFinish}
 
 -- ---- the sum
 
@@ -43,21 +41,12 @@ module _ {log : List ℕ} {xs : List (Record Amounts)} (i : IsLog log xs) {w : L
   unfolding modeOf storeHeld
   stored = ap storeHeld (b .line .is .adds)
 
-  says : logSays 2 log ≡ result (sumOf xs (b .places))
-  unfolding logSays logOutcome
-  says = rw (i .formed .read, i .formed .records-are, i .formed .fine) (ap result stored)
-
   answered : onResult (λ f. f .heaviest) (dayOutcome log) ≡ result (sumOf xs (b .places))
   unfolding dayOutcome figuresOf figureIn
   answered = rw (log-is i) (ap result stored)
 
   heaviest-figure : IsHeaviestFigure log (sumOf xs (b .places))
-  heaviest-figure = record {
-    says = says;
-    day = answered;
-    finished = λ t. finish-says t ∙ says;
-    worked = λ places buffers c z. demand3 2 log places buffers [] c tt .worked z ∙ says;
-  }
+  heaviest-figure = record { leads-to = leads-to 2 (i .formed) (sumOf xs (b .places)) stored; day = answered }
 
 -- THE VALUES OF THE RECORDS THAT THE CALL NAMES ADD TO THE MODE 2 FIGURE.
 pub adds-to-figure : (log : List ℕ) (cap : ℕ) {w : List ℕ} → heaviestLineOutcome log cap ≡ result w → (xs : List (Record Amounts)) × (b : LineBytes xs w) × IsHeaviestFigure log (sumOf xs (b .places))

@@ -21,8 +21,8 @@ use Rattle.hill.specs.Building.{hillOf}
 use Rattle.hill.specs.Finish.{outcome}
 use Rattle.figure.specs.FourModes.{Amounts}
 use Rattle.figure.specs.Mode.{modeOf}
-use Rattle.figure.specs.Stored.{IsStored, amounts, none}
-use Rattle.slopes.specs.Laws.{emptied}
+use Rattle.figure.specs.Stored.{IsStored, amounts}
+use Rattle.slopes.specs.Rising.{Stands, stands-none}
 use Rattle.fault.specs.Fault.{noFault, verdictOf}
 use Rattle.fault.specs.Laws.{clear, is-clear}
 use Rattle.summary.specs.Values.{tells-range}
@@ -35,7 +35,7 @@ use Rattle.whole_log.specs.Pass as reading
 use Rattle.whole_log.specs.Pass.{Reading}
 use Rattle.outcome.specs.declared.Figures.{Figures}
 use Rattle.outcome.specs.Day.{figureIn, figuresOf, dayOutcome}
-use Rattle.day.specs.Pass.{noFigures, rising, Stands, Standing, Ready, Applied}
+use Rattle.day.specs.Pass.{noFigures, Standing, Ready, Applied}
 
 -- ---- the figures
 
@@ -74,10 +74,6 @@ pub record Empty (mid : Figures) (vs fs cs ns hs es ss : List ℤ) : Type 0 wher
   pub held-eaten : length es ≡ 64
   pub held-stamp : length ss ≡ 64
   pub figures : mid ≡ noFigures
-
-stands-none : (m : ℕ) {vs fs cs hs : List ℤ} {mid : ℤ} → length vs ≡ 64 → length fs ≡ 64 → length cs ≡ 64 → length hs ≡ 64 → mid ≡ none (modeOf m) → Stands [] 0 vs fs cs m hs mid
-stands-none m {vs} {fs} {cs} {hs} {mid} ev ef ec eh e =
-    emptied (modeOf m) (rising vs fs cs hs) mid (record { left = ev; values = ev; floors = ef; ceilings = ec; held = eh }) e
 
 pub begin : {log : List ℕ} {t : Tally} {mid : Figures} {vs fs cs ns hs es ss : List ℤ} → length log ≤ 65_536 → Fresh t → Empty mid vs fs cs ns hs es ss → Inv log log t mid vs fs cs ns hs es ss
 begin {mid} {vs} {fs} {cs} {ns} {hs} {es} {ss} short u e = record {

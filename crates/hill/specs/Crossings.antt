@@ -20,7 +20,7 @@ use Rattle.hill.specs.HeldPlaces.{opening-closing, first-close}
 
 module _ {R : Type 0} where
   -- A record that crosses from above level m to level m or below closes depth m, and one that crosses up opens it.
-  crosses-down : (x : Record R) (m : ℕ) → m < startLevel x → endLevel x ≤ m → x ≡ closing m
+  pub crosses-down : (x : Record R) (m : ℕ) → m < startLevel x → endLevel x ≤ m → x ≡ closing m
   crosses-down (opening c r) m a b = absurd (omega arith)
   crosses-down (closing c) m a b = ap closing (omega arith)
 

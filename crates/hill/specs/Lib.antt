@@ -1,5 +1,5 @@
 -- Definitions that a reader must believe, in reading order: the questions and "the lowest"; records, levels and faults; sorted lists; who closes and who
--- holds whom; the questions by places; trees and the recursion; a record's figure; a chunk's summary; merging; finishing; rows; accepted summaries.
+-- holds whom; the questions by places; trees and the recursion; a record's figure, and its subtree as a log of its own; a chunk's summary; merging; finishing; rows; accepted summaries.
 pub mod Verdict
 pub mod Log
 pub mod Sorted
@@ -7,6 +7,7 @@ pub mod Closing
 pub mod Questions
 pub mod Tree
 pub mod Figure
+pub mod OwnLog
 pub mod Summary
 pub mod Merge
 pub mod Finish
@@ -46,3 +47,5 @@ pub mod SummaryLaws
 pub mod FinishLaws
 pub mod RowLaws
 pub mod ValidLaws
+-- A record's subtree as a log of its own.
+pub mod OwnLogLaws

@@ -1,9 +1,9 @@
 -- A log without fault is the traversal of exactly one tree, and the traversal of a tree is a log without fault. Assumes nothing.
 use mathlib.Core.Path.{_≡_, refl, sym, _∙_}
 use mathlib.Core.List.{List, [], _∷_, _++_, append-assoc}
-use Prim.Native.Nat.{ℕ, suc}
+use Prim.Native.Nat.{ℕ, suc, _≤_}
 use Rattle.hill.specs.Verdict.{Verdict, pass, low, joint, count, ends}
-use Rattle.hill.specs.VerdictLaws.{low-pass, low-fst, low-snd, joint-same, ends-pass, refuse-pass}
+use Rattle.hill.specs.VerdictLaws.{low-pass, low-fst, low-snd, joint-same, count-pass, ends-pass, refuse-pass}
 use Rattle.hill.specs.Log.{Record, opening, closing, startLevel, endLevel, endOf, joints, openedOf, faultOf, logFault}
 use Rattle.hill.specs.Tree.{Forest, nil, tree, write}
 use Rattle.hill.specs.Growth.{end-last}
@@ -18,6 +18,10 @@ module _ {R : Type 0} where
 
   pub log-joints : (x : Record R) (xs : List (Record R)) → logFault (x ∷ xs) ≡ pass → joints x xs ≡ pass
   log-joints x xs v = low-fst (joints x xs) (count (openedOf (x ∷ xs))) (low-fst (faultOf x xs) (ends (startLevel x) (endOf x xs)) v)
+
+  pub log-few : (log : List (Record R)) → logFault log ≡ pass → openedOf log ≤ 100_000
+  log-few [] v = absurd (refuse-pass v)
+  log-few (x ∷ xs) v = count-pass (openedOf (x ∷ xs)) (low-snd (joints x xs) (count (openedOf (x ∷ xs))) (low-fst (faultOf x xs) (ends (startLevel x) (endOf x xs)) v))
 
   -- A well-formed log is the traversal of its forest, ..
   pub well-formed : (log : List (Record R)) → logFault log ≡ pass → write 0 (treeOf log) ≡ log

@@ -67,7 +67,7 @@ opens-low (f ∷ fs) h (suc p) d o = opens-low fs (h .1) p d o
 -- ---- what is written
 
 module _ {log : List ℕ} {xs : List (Record Amounts)} (i : IsWellFormed log xs) where
-  low-log : (p d : ℕ) → OpensAt xs p d → d ≤ 63
+  pub low-log : (p d : ℕ) → OpensAt xs p d → d ≤ 63
   low-log p d o = opens-low (i .fields) (records-in-range log (i .fields) (i .read)) p d (subst (λ ys. OpensAt ys p d) (sym (i .records-are)) o)
 
   line-opens : (k : ℕ) → k < length (linePlaces xs) → OpensAt xs (getD (linePlaces xs) k 0) k

@@ -1,14 +1,18 @@
 -- What a log without fault is, by places: for the laws of records that hold others. Assumes nothing.
 use mathlib.Core.Path.{_≡_, sym, ap, _∙_}
-use mathlib.Core.List.{List, [], _∷_}
-use Prim.Native.Nat.{ℕ, suc, _≤_, _<_}
+use mathlib.Core.Logic.{_≢_, ⊎-elim, dite}
+use mathlib.Core.List.{List}
+use Prim.Native.Nat.{ℕ, suc, _-_, _≤_, _<_}
+use native.Mathlib.Nat.{eq-or-lt-of-le}
+use native.Mathlib.Decide.{decLt}
 use native.Mathlib.Omega.{arith}
 use lib.ListN.{length}
-use Rattle.hill.specs.Verdict.{pass, count, ends}
-use Rattle.hill.specs.VerdictLaws.{low-fst, low-snd, count-pass, refuse-pass}
-use Rattle.hill.specs.Log.{Record, opening, closing, startLevel, endLevel, endOf, openedOf, joints, faultOf, logFault}
-use Rattle.hill.specs.Closing.{at, OpensAt}
-use Rattle.hill.specs.Crossings.{Meeting}
+use Rattle.hill.specs.Verdict.{pass, ends}
+use Rattle.hill.specs.Log.{Record, opening, closing, startLevel, endLevel, openedOf, logFault}
+use Rattle.hill.specs.Closing.{at, OpensAt, Closed}
+use Rattle.hill.specs.HeldPlaces.{opens-inside, first-close}
+use Rattle.hill.specs.Crossings.{Meeting, crosses-down, falls}
+use Rattle.hill.specs.WellFormed.{log-few}
 use Rattle.hill.specs.LogPlaces.{levelBefore, log-well-formed}
 
 pub record Formed {R : Type 0} (log : List (Record R)) : Type 0 where
@@ -23,10 +27,6 @@ module _ {R : Type 0} where
   starts (opening d r) e = (r, ap (λ k. opening k r) e)
   starts (closing d) e = absurd (omega (arith, e))
 
-  opened-few : (log : List (Record R)) → logFault log ≡ pass → openedOf log ≤ 100_000
-  opened-few [] v = absurd (refuse-pass v)
-  opened-few (x ∷ xs) v = count-pass (openedOf (x ∷ xs)) (low-snd (joints x xs) (count (openedOf (x ∷ xs))) (low-fst (faultOf x xs) (ends (startLevel x) (endOf x xs)) v))
-
   pub formed : (log : List (Record R)) → logFault log ≡ pass → Formed log
   formed log v =
       let w = log-well-formed log v in
@@ -35,5 +35,19 @@ module _ {R : Type 0} where
         root = starts (at log 0) (w .meets 0 (w .some));
         raised = λ k a l. omega (arith, w .meets k l, w .above k a l);
         closed = λ k e. ap (levelBefore (at log)) e ∙ w .ends;
-        few = opened-few log v;
+        few = log-few log v;
       }
+
+  -- Each record is closed.
+  pub closed-some : {log : List (Record R)} → Formed log → {p d : ℕ} → OpensAt log p d → Closed log p d
+  closed-some {log} f {p} {d} o = ⊎-elim (λ none. absurd (open-still none)) (λ w. (w .0, w .2)) (first-close log p d o (length log) (omega arith))
+    where
+      open-still : ((k : ℕ) → p < k → k < length log → at log k ≢ closing d) → ⊥
+      open-still none =
+          let i : p < length log = opens-inside log p d o in
+          let n : suc p < length log = ⊎-elim (λ (g : suc p ≡ length log). absurd (omega (arith, f .closed p g, ap endLevel (o .1)))) (λ g. g) (eq-or-lt-of-le i) in
+          let l : ℕ = length log - 1 in
+          let e : endLevel (at log l) ≡ 0 = f .closed l (omega arith) in
+          let up : startLevel (at log (suc p)) ≡ suc d = sym (f .meets p n) ∙ ap endLevel (o .1) in
+          dite (decLt d (startLevel (at log l))) (λ h. none l (omega arith) (omega arith) (crosses-down (at log l) d h (omega arith)))
+          (λ h. let w = falls log (f .meets) d (suc p) l (omega arith) (omega arith) (omega arith) (omega arith) in none (w .0) (omega (arith, w .1)) (omega (arith, w .2)) (w .3))

@@ -11,6 +11,7 @@ pub mod ChainLaws
 pub mod LineLaws
 -- What a pass over the log keeps, and where it ends.
 pub mod StackLaws
+pub mod CloseFigure
 -- What the call comes to.
 pub mod CallLaws
 pub mod Examples

@@ -2,7 +2,7 @@
 use mathlib.Core.Path.{_≡_, refl, sym, ap, subst, _∙_}
 use mathlib.Core.Logic.{_⊎_, inl, inr, ⊎-elim, dite}
 use mathlib.Core.List.{List, [], _∷_, _++_, append-assoc}
-use Prim.Native.Nat.{ℕ, zero, suc, _+_, _≤_, _<_}
+use Prim.Native.Nat.{ℕ, zero, suc, _+_, _-_, _≤_, _<_}
 use native.Mathlib.Nat.{eq-or-lt-of-le}
 use native.Mathlib.Decide.{decLt}
 use native.Mathlib.Omega.{arith}
@@ -90,6 +90,10 @@ module _ {R : Type 0} (xs : List (Record R)) where
           (λ n. dite (decLt j k) (λ l. omega (arith, w .0 .deeper j n l)) (λ l. let g : j ≡ k = omega arith in omega (arith, ap (λ i. depth (at xs i)) g, ap depth e)))
           (λ n. let g : j ≡ p = omega arith in omega (arith, ap (λ i. depth (at xs i)) g, ap depth (w .0 .opens .1))))
 
+  ended-low : (x : Record R) → endLevel x ≡ 0 → depth x ≡ 0
+  ended-low (opening c r) e = absurd (omega (arith, e))
+  ended-low (closing c) e = e
+
   module _ (f : Formed xs) where
     pub stack-close : {k : ℕ} (ps : List ℕ) (s : StackBefore k ps) (inside : k < length xs) {d : ℕ} → at xs k ≡ closing d → Left k ps d
     stack-close {k} [] s inside {d} e = absurd (omega (arith, s .level inside, ap startLevel e))
@@ -102,6 +106,16 @@ module _ {R : Type 0} (xs : List (Record R)) where
           closes = g;
           before = record { open-records = under-top k p ps (s .open-records) (e ∙ ap closing g); level = λ l. sym (f .meets k l) ∙ ap endLevel e ∙ g };
         }
+
+    -- at the end of the log none is open
+    pub stack-end : {k : ℕ} (ps : List ℕ) → StackBefore k ps → length xs ≤ k → ps ≡ []
+    stack-end [] s all = refl
+    stack-end {k} (p ∷ ps) s all =
+        let w = s .open-records .0 in
+        let l : ℕ = length xs - 1 in
+        let i : p < length xs = opens-inside xs p (length ps) (w .opens) in
+        ⊎-elim (λ (g : suc p ≡ length xs). absurd (omega (arith, f .closed p g, ap endLevel (w .opens .1))))
+        (λ g. absurd (omega (arith, w .deeper l (omega arith) (omega arith), ended-low (at xs l) (f .closed l (omega arith))))) (eq-or-lt-of-le i)
 
   -- ---- what holds nothing is closed at once
 

@@ -52,8 +52,12 @@ pub record Top (M : Mode) (vs fs cs hs : List ℤ) (t : ℕ) (mid : ℤ) : Type 
   pub nl : ℕ
   pub able : Able M (arrays left vs fs cs hs) (record { nl = nl; n = suc t; mid = mid })
 
+-- its figure
+abbrev pub topFigure : Mode → (vs fs cs hs : List ℤ) (t : ℕ) → ℤ
+topFigure M vs fs cs hs t = passed M (amounts (at vs t) (at fs t) (at cs t)) (at hs t)
+
 abbrev pub ClosedTop : Mode → (vs fs cs hs : List ℤ) (t : ℕ) (mid : ℤ) (hs′ : List ℤ) (mid′ : ℤ) → Type 0
-ClosedTop M vs fs cs hs t mid hs′ mid′ = Added M hs t mid (passed M (amounts (at vs t) (at fs t) (at cs t)) (at hs t)) hs′ mid′
+ClosedTop M vs fs cs hs t mid hs′ mid′ = Added M hs t mid (topFigure M vs fs cs hs t) hs′ mid′
 
 -- ---- `close`, `apply`
 

@@ -2,3 +2,5 @@
 pub mod Arrays
 pub mod Actions
 pub mod Laws
+-- A log's records so far, in one mode.
+pub mod Rising

@@ -2,11 +2,12 @@
 ghost use mathlib.Core.Path.{_≡_};
 ghost use mathlib.Core.List.{[], _∷_};
 ghost use Prim.Native.Nat.{ℕ, _+_, _<_};
+ghost use lib.IntN.{ℤ};
 ghost use Rattle.hill.specs.Building.{close as closeHill, step};
 ghost use Rattle.figure.specs.Mode.{modeOf};
 ghost use Rattle.figure.specs.Stored.{amounts};
 ghost use Rattle.slopes.specs.Arrays.{arrays, slopesOf, weightOf, Able, StandsFor};
-ghost use Rattle.slopes.specs.Actions.{Pushed, Adds, Added, Top, ClosedTop, CanClose, Room, entry, cost};
+ghost use Rattle.slopes.specs.Actions.{Pushed, Adds, Added, Top, topFigure, ClosedTop, CanClose, Room, entry, cost};
 
 // How many left values and unclosed records the arrays hold, and the middle value.
 pub struct Counts {
@@ -50,6 +51,21 @@ pub fn add(mode: u16, held: &mut [i64; 64], n: usize, mid: i64, x: i64) -> i64
     mid
 }
 
+// The figure of the deepest record, at index `top`.
+pub fn top_figure(
+    mode: u16,
+    top: usize,
+    values: &[i32; 64],
+    floors: &[i32; 64],
+    ceilings: &[i32; 64],
+    held: &[i64; 64],
+) -> i64
+    requires { ⌜ ((mid : ℤ) × Top (modeOf mode) (now values) (now floors) (now ceilings) (now held) top mid) ⌝ }
+    ensures { λ r. ⌜ r ≡ topFigure (modeOf mode) (now (values .entry)) (now (floors .entry)) (now (ceilings .entry)) (now (held .entry)) top ⌝ }
+{
+    figure::through(mode, values[top], floors[top], ceilings[top], held[top])
+}
+
 // The deepest record, at index `top`, is closed: its figure joins the level below. The middle value is answered.
 pub fn close_top(
     mode: u16,
@@ -63,7 +79,7 @@ pub fn close_top(
     requires { ⌜ Top (modeOf mode) (now values) (now floors) (now ceilings) (now held) top mid ⌝ }
     ensures { λ r. ⌜ ClosedTop (modeOf mode) (now (values .entry)) (now (floors .entry)) (now (ceilings .entry)) (now (held .entry)) top mid (now (held .exit)) r ⌝ }
 {
-    let figure = figure::through(mode, values[top], floors[top], ceilings[top], held[top]);
+    let figure = top_figure(mode, top, values, floors, ceilings, &*held);
     add(mode, held, top, mid, figure)
 }
 

@@ -1,3 +1,5 @@
 -- Decimal text.
 pub mod Decimal
+pub mod Columns
 pub mod DecimalLaws
+pub mod ColumnLaws

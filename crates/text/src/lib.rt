@@ -1,10 +1,11 @@
 // Decimal text at a position of a buffer, where each caller shows that it fits.
 ghost use mathlib.Core.Path.{_≡_};
-ghost use Prim.Native.Nat.{_+_, _≤_};
+ghost use Prim.Native.Nat.{_+_, _-_, _≤_};
 ghost use mathlib.Core.List.{[], _∷_, _++_};
 ghost use lib.ListN.{length};
 ghost use lib.Seq.{sets};
 ghost use Rattle.text.specs.Decimal.{digitsOf, decimalOf};
+ghost use Rattle.text.specs.Columns.{blanks, rightAligned};
 
 // How many digits n has.
 fn count_digits(n: u64) -> usize
@@ -62,4 +63,38 @@ pub fn write_item(out: &mut [u8], at: usize, x: i64, after: u8) -> usize
     let i = write_decimal(out, at, x);
     out[i] = after;
     i + 1
+}
+
+// How many bytes the text of x takes.
+fn decimal_length(x: i64) -> usize
+    ensures { λ r. ⌜ r ≡ length (decimalOf x) ⌝ }
+{
+    let bits = number::bits_64(x);
+    if bits < 0x8000_0000_0000_0000 {
+        count_digits(bits)
+    } else {
+        1 + count_digits(0xffff_ffff_ffff_ffff - bits + 1)
+    }
+}
+
+// Blanks from one position to another.
+fn write_blanks(out: &mut [u8], at: usize, end: usize)
+    requires { ⌜ (at ≤ end) × (end ≤ length (now out)) ⌝ }
+    ensures { λ _. ⌜ now (out .exit) ≡ sets (now (out .entry)) at (blanks (end - at)) ⌝ }
+{
+    let mut i = at;
+    while i < end {
+        out[i] = b' ';
+        i += 1;
+    }
+}
+
+// A number at the right end of its columns, with blanks before it, and the byte after them.
+pub fn write_column(out: &mut [u8], at: usize, columns: usize, x: i64, after: u8)
+    requires { ⌜ (length (decimalOf x) ≤ columns) × (at + (columns + 1) ≤ length (now out)) ⌝ }
+    ensures { λ _. ⌜ now (out .exit) ≡ sets (now (out .entry)) at (rightAligned columns (decimalOf x) ++ (after ∷ [])) ⌝ }
+{
+    let start = at + (columns - decimal_length(x));
+    write_blanks(out, at, start);
+    write_item(out, start, x, after);
 }

@@ -43,6 +43,8 @@ use Rattle.day_list.specs.Days.{smallDays, smallDaysOutcome}
 use Rattle.day_list.specs.Counts.{most-54912}
 use Rattle.log_records.specs.Line.{heaviestLineOutcome}
 use Rattle.log_records.specs.CallLaws.{written-line}
+use Rattle.day_sheet.specs.Sheet.{sheetOutcome}
+use Rattle.day_sheet.specs.CallLaws.{written-page}
 use Rattle.tulghimo.specs.Interface.{Short}
 
 short-question : (n : ℕ) (t : Bool) (o : Outcome (List ℕ)) → Short (lengthAnswered o) → Short (lengthAnswered (question n t o))
@@ -146,10 +148,18 @@ short-days n cap = go (leb 1 n && leb n 8) refl
     go false e = tt
     go true e = short-written cap (joined (smallDays n)) (omega (arith, most-54912 n (leb-true n 8 (and-right (leb 1 n) (leb n 8) e))))
 
--- .. and the numbers of a line at most 256.
+-- .. the numbers of a line at most 256, ..
 pub short-line : (log : List ℕ) (cap : ℕ) → Short (lengthAnswered (heaviestLineOutcome log cap))
 short-line log cap = go (heaviestLineOutcome log cap) refl
   where
     go : (o : Outcome (List ℕ)) → heaviestLineOutcome log cap ≡ o → Short (lengthAnswered o)
     go (refused n) e = tt
     go (result w) e = let b = written-line log cap e .2 in omega (arith, b .whole-length, b .few)
+
+-- .. and a page at most 1,620.
+pub short-page : (log : List ℕ) (mode page cap : ℕ) → Short (lengthAnswered (sheetOutcome log mode page cap))
+short-page log mode page cap = go (sheetOutcome log mode page cap) refl
+  where
+    go : (o : Outcome (List ℕ)) → sheetOutcome log mode page cap ≡ o → Short (lengthAnswered o)
+    go (refused n) e = tt
+    go (result w) e = let p = written-page log mode page cap e .is-page in omega (arith, p .long, p .few)

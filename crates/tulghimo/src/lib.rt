@@ -12,6 +12,7 @@ ghost use Rattle.day_table.specs.Outcomes.{writeLogOutcome, readTableOutcome};
 ghost use Rattle.day_list.specs.Days.{smallDaysOutcome};
 ghost use Rattle.run_back.specs.Backwards.{backwardsOutcome};
 ghost use Rattle.log_records.specs.Line.{heaviestLineOutcome};
+ghost use Rattle.day_sheet.specs.Sheet.{sheetOutcome};
 ghost use Rattle.work.specs.Answers.{workIn};
 ghost use Rattle.tulghimo.specs.Interface.{statusOf, lengthStatus, Short, fieldsAfter, figureAfter, figuresAfter, workAfter};
 use day::Day;
@@ -233,4 +234,14 @@ pub extern "C" fn tulghimo_heaviest_line(log: &[u8], out: &mut [u8]) -> i64
 {
     let numbers = heaviest_line::heaviest_line(log, out);
     status(numbers)
+}
+
+// A page of the sheet with a figure for every record of a whole log: the bytes written, or -1, -2, -3, -7 to -11, -18 or -12 and `out` as it was.
+#[no_mangle]
+pub extern "C" fn tulghimo_sheet(log: &[u8], mode: u32, page: u32, out: &mut [u8]) -> i64
+    ensures answer { λ r. ⌜ r ≡ lengthStatus (lengthAnswered (sheetOutcome (now (log .entry)) mode page (length (now (out .entry))))) ⌝ }
+    ensures buffer { λ _. ⌜ now (out .exit) ≡ bufferAfter (sheetOutcome (now (log .entry)) mode page (length (now (out .entry)))) (now (out .entry)) ⌝ }
+{
+    let printed = sheet::sheet(log, mode, page, out);
+    status(printed)
 }

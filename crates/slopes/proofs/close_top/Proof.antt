@@ -1,100 +1,37 @@
 -- `slopes::close_top` meets its contract: the record's figure joins the level below. Assumes nothing.
-use mathlib.Core.Path.{_≡_, refl}
-use Prim.Native.Nat.{ℕ}
+use mathlib.Core.Path.{refl}
 use denote.Ref.{now}
-use mir.Syntax.{w32, w64}
-use mir.Val.{toZ, ofZ}
+use mir.Syntax.{w64}
 use mir.Facts.{toZ-ofZ}
 use Rattle.number.specs.Word.{back}
 use Rattle.figure.specs.Mode.{Mode, modeOf}
-use Rattle.figure.specs.Stored.{passed}
-use Rattle.slopes.specs.Arrays.{Arrays, arrays, at, amountsAt}
-use Rattle.slopes.specs.Laws.{adds, top-passes, top-joins}
+use Rattle.slopes.specs.Arrays.{Arrays, arrays}
+use Rattle.slopes.specs.Laws.{adds, top-joins}
 use borrow.Author.Needs.{needs}
 use Rattle.slopes.proofs.close_top.Statement.{statement}
 use Rattle.slopes.proofs.close_top.Tie as tie
 
--- the mode, the arrays at entry, and the record's place
+-- the mode and the arrays at entry
 abbrev M : tie.Start → Mode
 M a = modeOf (a .args .mode)
 
 abbrev A : tie.Start → Arrays
 A a = arrays (a .pre .left) (now (a .args .values)) (now (a .args .floors)) (now (a .args .ceilings)) (now (a .args .held))
 
-abbrev top : tie.Start → ℕ
-top a = a .args .top
-
--- what the code reads is what stands there
-module _ (c : tie.After-through-arg4) where
-  abbrev start : tie.Start
-  start = c .before .before .before .before
-
-  value-is : toZ w32 (ofZ w32 (at (A start .values) (top start))) ≡ at (A start .values) (top start)
-  value-is = back w32 (at (A start .values) (top start)) (c .before .before .before .through-arg .given)
-
-  floor-is : toZ w32 (ofZ w32 (at (A start .floors) (top start))) ≡ at (A start .floors) (top start)
-  floor-is = back w32 (at (A start .floors) (top start)) (c .before .before .through-arg2 .given)
-
-  ceiling-is : toZ w32 (ofZ w32 (at (A start .ceilings) (top start))) ≡ at (A start .ceilings) (top start)
-  ceiling-is = back w32 (at (A start .ceilings) (top start)) (c .before .through-arg3 .given)
-
-  held-is : toZ w64 (ofZ w64 (at (A start .held) (top start))) ≡ at (A start .held) (top start)
-  held-is = back w64 (at (A start .held) (top start)) (c .through-arg4 .given)
-
-figure-is : (c : tie.After-through) → c .through .result ≡ passed (M (start (c .before))) (amountsAt (A (start (c .before))) (top (start (c .before)))) (at (A (start (c .before)) .held) (top (start (c .before))))
-figure-is c = rw (value-is (c .before), floor-is (c .before), ceiling-is (c .before), held-is (c .before)) at (c .through .ensures)
-
-mul-through : tie.Need-mul-through
-mul-through c = search needs
-
-element-copy-out-through : tie.Need-element-copy-out-through
-element-copy-out-through c = search needs
-
-mul-through-2 : tie.Need-mul-through-2
-mul-through-2 c = search needs
-
-element-copy-out-through-2 : tie.Need-element-copy-out-through-2
-element-copy-out-through-2 c = search needs
-
-mul-through-3 : tie.Need-mul-through-3
-mul-through-3 c = search needs
-
-element-copy-out-through-3 : tie.Need-element-copy-out-through-3
-element-copy-out-through-3 c = search needs
-
-mul-through-4 : tie.Need-mul-through-4
-mul-through-4 c = search needs
-
-element-copy-out-through-4 : tie.Need-element-copy-out-through-4
-element-copy-out-through-4 c = search needs
-
-through-requires : tie.Need-through-requires
-through-requires c κs = rw (value-is c, held-is c) (top-passes {M = M (start c)} {A = A (start c)} (start c .pre .able) (top (start c)) refl)
+top-figure-requires : tie.Need-top-figure-requires
+top-figure-requires c κs = search needs
 
 add-requires : tie.Need-add-requires
 add-requires c κs =
     let t = c .before in
-    let a = start (t .before) in
-    rw (toZ-ofZ (a .fits .mid), back w64 (t .through .result) (t .through .ok)) (adds (top-joins {M = M a} {A = A a} (a .pre .able) (top a) refl (figure-is t)))
+    let a = t .before .before in
+    rw (toZ-ofZ (a .fits .mid), back w64 (t .top-figure .result) (t .top-figure .ok)) (adds (top-joins {M = M a} {A = A a} (a .pre .able) (a .args .top) refl (t .top-figure .ensures)))
 
 returns : tie.Need-returns
 returns c =
     let t = c .before .before in
-    let a = start (t .before) in
-    rw (← figure-is t, back w64 (c .add .result) (c .add .ok)) (rw (toZ-ofZ (a .fits .mid), back w64 (t .through .result) (t .through .ok)) at (c .add .ensures))
+    let a = t .before .before in
+    rw (← t .top-figure .ensures, back w64 (c .add .result) (c .add .ok)) (rw (toZ-ofZ (a .fits .mid), back w64 (t .top-figure .result) (t .top-figure .ok)) at (c .add .ensures))
 
 pub close-top-spec : {M : Type 1} → statement M
-close-top-spec =
-    tie.close
-    (tie.spec
-    mul-through
-    element-copy-out-through
-    mul-through-2
-    element-copy-out-through-2
-    mul-through-3
-    element-copy-out-through-3
-    mul-through-4
-    element-copy-out-through-4
-    through-requires
-    add-requires
-    returns)
+close-top-spec = tie.close (tie.spec top-figure-requires add-requires returns)

@@ -1,0 +1,76 @@
+-- What printing a page comes to: the page, or 1, a fault, 18 or 12, each exactly where it is due. Assumes nothing.
+use mathlib.Core.Path.{_≡_, refl, sym, ap, subst, _∙_}
+use mathlib.Core.Bool.{Bool, true, false}
+use mathlib.Core.Logic.{dite}
+use mathlib.Core.List.{List}
+use Prim.Native.Nat.{ℕ, _*_, _≤_, _<_}
+use native.Mathlib.Decide.{decLt}
+use native.Mathlib.Omega.{arith}
+use lib.ListN.{length}
+use borrow.Author.Tests.{lt-ltb, le-ltb}
+use Rattle.gate.specs.Outcome.{Outcome, refused, result, written}
+use Rattle.gate.specs.Laws.{not-result, one-number, result-same, fits, too-short}
+use Rattle.figure.specs.FourModes.{Amounts}
+use Rattle.figure.specs.Mode.{modeInUse}
+use Rattle.hill.specs.Log.{Record, openedOf}
+use Rattle.chunk.specs.Chunk.{wholeLog}
+use Rattle.chunk.specs.Laws.{is-log}
+use Rattle.day_sheet.specs.Sheet.{pageText, sheetOutcome}
+use Rattle.day_sheet.specs.Claims.{IsPage, TurnsAway, WritesPage}
+use Rattle.day_sheet.specs.PageLaws.{is-page}
+
+module _ (log : List ℕ) (mode page cap : ℕ) where
+  pub out-of-use : modeInUse mode ≡ false → sheetOutcome log mode page cap ≡ refused 1
+  unfolding sheetOutcome
+  out-of-use e = rw e
+
+  module _ (u : modeInUse mode ≡ true) where
+    pub at-fault : {n : ℕ} → wholeLog log ≡ refused n → sheetOutcome log mode page cap ≡ refused n
+    unfolding sheetOutcome
+    at-fault e = rw (u, e)
+
+    module _ {xs : List (Record Amounts)} (e : wholeLog log ≡ result xs) where
+      pub past-last : openedOf xs ≤ 60 * page → sheetOutcome log mode page cap ≡ refused 18
+      unfolding sheetOutcome
+      past-last h = rw (u, e, le-ltb (60 * page) (openedOf xs) h)
+
+      pub starts : 60 * page < openedOf xs → sheetOutcome log mode page cap ≡ written cap (pageText mode page xs)
+      unfolding sheetOutcome
+      starts h = rw (u, e, lt-ltb (60 * page) (openedOf xs) h)
+
+      not-18 : (w : List ℕ) → written cap w ≡ refused 18 → ⊥
+      not-18 w h =
+          dite (decLt cap (length w)) (λ l. omega (arith, one-number (sym (too-short cap w l) ∙ h)))
+          (λ l. not-result 18 w (sym (sym (fits cap w (omega arith)) ∙ h)))
+
+      only-past : sheetOutcome log mode page cap ≡ refused 18 → openedOf xs ≤ 60 * page
+      only-past h = dite (decLt (60 * page) (openedOf xs)) (λ l. absurd (not-18 (pageText mode page xs) (sym (starts l) ∙ h))) (λ l. omega arith)
+
+  -- TURNED AWAY where it is due; all else is written.
+  pub turns-away : TurnsAway log mode page cap
+  turns-away = record {
+    by-mode = out-of-use;
+    by-fault = λ u n e. at-fault u e;
+    past-the-last = λ u xs e. (only-past u e, past-last u e);
+    else-written = λ u xs e l. (pageText mode page xs, is-page mode u (is-log log xs e .formed) page l, starts u e l);
+  }
+
+  -- WHAT THE CALL WRITES.
+  pub written-page : {w : List ℕ} → sheetOutcome log mode page cap ≡ result w → WritesPage log mode page cap w
+  written-page {w} r = by-use (modeInUse mode) refl
+    where
+      starting : modeInUse mode ≡ true → (xs : List (Record Amounts)) → wholeLog log ≡ result xs → 60 * page < openedOf xs → WritesPage log mode page cap w
+      starting u xs e l =
+          let i = is-log log xs e in
+          let v : List ℕ = pageText mode page xs in
+          dite (decLt cap (length v)) (λ h. absurd (not-result 12 w (sym (too-short cap v h) ∙ sym (starts u e l) ∙ r)))
+          (λ h. let s : v ≡ w = result-same (sym (fits cap v (omega arith)) ∙ sym (starts u e l) ∙ r) in
+          record { in-use = u; records = xs; is-log = i; starts = l; bytes-are = sym s; is-page = subst (IsPage mode xs page) s (is-page mode u (i .formed) page l); fits = omega (arith, ap length s) })
+
+      by-log : modeInUse mode ≡ true → (o : Outcome (List (Record Amounts))) → wholeLog log ≡ o → WritesPage log mode page cap w
+      by-log u (refused n) e = absurd (not-result n w (sym (at-fault u e) ∙ r))
+      by-log u (result xs) e = dite (decLt (60 * page) (openedOf xs)) (λ l. starting u xs e l) (λ l. absurd (not-result 18 w (sym (past-last u e (omega arith)) ∙ r)))
+
+      by-use : (t : Bool) → modeInUse mode ≡ t → WritesPage log mode page cap w
+      by-use false u = absurd (not-result 1 w (sym (out-of-use u) ∙ r))
+      by-use true u = by-log u (wholeLog log) refl
