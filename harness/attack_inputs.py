@@ -53,7 +53,7 @@ def hill(mode, start, peak, end, opened, left, middle, right=()):
 
 def call(name, data, number=0, room=200):
     """A request: the call, its bytes, its number (a mode, where the right piece or
-    an outer figure begins, or an n) and how long its buffer is."""
+    an outer figure begins, an n, or 8 times a page and a mode) and how long its buffer is."""
     return f"{name} {number} {room} {data.hex() or '-'}"
 
 
@@ -79,6 +79,10 @@ def small_days(n, room=200):
 
 def heaviest_line(log, room=200):
     return call("heaviest_line::heaviest_line", log, room=room)
+
+
+def sheet(log, mode=1, page=0, room=200, name="sheet::sheet"):
+    return call(name, log, 8 * page + mode, room)
 
 
 def run(mode, *numbers):
@@ -108,6 +112,8 @@ def held(*values):
 
 
 HEAD, TAIL = halves(1)
+# Of one page, and of two.
+SIXTY, SIXTY_ONE = held(*[7] * 59), held(*[7] * 60)
 # The line is of records 0, 1 and 2, and record 3, which stands beside 1, comes next.
 BESIDE = short(0, 1) + short(1, 9) + short(2, 1) + close(2) + close(1) + short(1, 1) + close(1) + close(0)
 # Record 2 is deeper than the line goes, which is of records 0 and 3.
@@ -325,10 +331,41 @@ INPUTS = {
     "runs/refused_though_written": runs(1),
     "runs/run_after_the_last": runs(1),
     "runs/twelve_for_faults": call("runs::runs", OPEN + OPEN),
+    "sheet/all_at_depth_0": sheet(D),
+    "sheet/always_net": sheet(D, mode=2),
+    "sheet/always_the_first_page": sheet(SIXTY_ONE, page=1),
+    "sheet/always_the_root": sheet(D),
+    "sheet/close_as_open": sheet(D),
+    "sheet/counted_from_1": sheet(D),
+    "sheet/depth_a_column_on": sheet(D),
+    "sheet/depth_for_number": sheet(D),
+    "sheet/each_fault_11": sheet(D[:71]),
+    "sheet/fifteen_columns": sheet(D),
+    "sheet/fifty_nine_lines": sheet(SIXTY, room=1700),
+    "sheet/first_left_out": sheet(D),
+    "sheet/first_of_the_next_page": sheet(SIXTY_ONE, room=1700),
+    "sheet/floor_for_ceiling": sheet(D, mode=5),
+    "sheet/full_buffer_refused": sheet(D, room=81),
+    "sheet/lines_of_the_first_page": sheet(SIXTY_ONE, page=1, room=1700),
+    "sheet/mode_gets_5": sheet(D, mode=3),
+    "sheet/mode_unasked": sheet(D, mode=3),
+    "sheet/no_newline": sheet(D),
+    "sheet/nothing_is_0": sheet(held(-9), mode=2),
+    "sheet/number_not_kept": sheet(D),
+    "sheet/numbers_of_the_first_page": sheet(SIXTY_ONE, page=1),
+    "sheet/open_not_counted": sheet(D),
+    "sheet/page_0": sheet(D, page=1),
+    "sheet/past_by_one": sheet(SIXTY, page=1),
+    "sheet/past_gets_12": sheet(D, page=1),
+    "sheet/running_figure": sheet(D),
+    "sheet/sixty_one_lines": sheet(SIXTY_ONE, room=1700),
+    "sheet/value_alone": sheet(D),
+    "sheet/without_the_newline": sheet(D),
     "slopes/add_drops_what_was_held": summarise(1, opening(1, 5) + close(1) + opening(1, 7) + close(1)),
     "slopes/close_ceiling_as_floor": summarise(5, D),
     "slopes/left_level_twice": summarise(1, close(3)),
     "slopes/push_at_the_first": summarise(1, opening(0, 10) + opening(1, 5) + close(1) + opening(1, 7)),
+    "slopes/top_ceiling_as_floor": summarise(5, D),
     "small_days/always_the_first": small_days(3),
     "small_days/close_at_wrong_depth": small_days(2),
     "small_days/closes_not_counted": small_days(1),
@@ -386,8 +423,12 @@ INPUTS = {
     "table/twelve_first": write_log(line(1), room=0),
     "table/value_unasked": write_log(line(0, GRAMS + 1)),
     "text/leading_zero": call("day_line::text", NINE),
+    "text/left_aligned": sheet(D),
     "text/minus_sign": call("day_line::text", NEGATIVE),
+    "text/not_filled": sheet(D),
+    "text/sign_not_counted": sheet(D),
     "text/zero_digit": call("day_line::text", D),
+    "text/zeros_for_blanks": sheet(D),
     "tulghimo/backwards_from_0": backwards(run(1, 12, 0, 0), 13, "tulghimo::tulghimo_backwards"),
     "tulghimo/backwards_refused": backwards(run(1, 12, 0, 0), 13, "tulghimo::tulghimo_backwards"),
     "tulghimo/day_always_10": call("tulghimo::tulghimo_day", D[:71]),
@@ -411,6 +452,8 @@ INPUTS = {
     "tulghimo/refusal_positive": call("tulghimo::tulghimo_read_record", b""),
     "tulghimo/runs_always_one": call("tulghimo::tulghimo_runs", NESTED),
     "tulghimo/runs_refused": call("tulghimo::tulghimo_runs", HEAD + TAIL),
+    "tulghimo/sheet_page_0": sheet(D, page=1, name="tulghimo::tulghimo_sheet"),
+    "tulghimo/sheet_refused": sheet(D, name="tulghimo::tulghimo_sheet"),
     "tulghimo/small_days_of_1": call("tulghimo::tulghimo_small_days", b"", 2),
     "tulghimo/small_days_refused": call("tulghimo::tulghimo_small_days", b"", 1),
     "tulghimo/status_always_12": call("tulghimo::tulghimo_merge_row", 65 * blank(1)),

@@ -31,6 +31,7 @@ from attack_inputs import INPUTS
 
 WRITTEN = "written({}, &out)"
 RUN_AND_Y = "&input[..number], y(&input[number..])"
+MODE_AND_PAGE = "&input, (number % 8) as u32, (number / 8) as u32"
 ARMS = {
     "record::read_first": """match record::read_first(&input) {
             record::Read::Record(f) => format!("{} {} {} {} {} {} {}", f.kind, f.length, f.depth, f.value, f.floor, f.ceiling, f.batch),
@@ -54,6 +55,7 @@ ARMS = {
     "table::read_table": WRITTEN.format("table::read_table(&input, &mut out)"),
     "small_days::small_days": WRITTEN.format("small_days::small_days(number as u32, &mut out)"),
     "heaviest_line::heaviest_line": WRITTEN.format("heaviest_line::heaviest_line(&input, &mut out)"),
+    "sheet::sheet": WRITTEN.format(f"sheet::sheet({MODE_AND_PAGE}, &mut out)"),
     "backwards::backwards": f"finished(backwards::backwards({RUN_AND_Y}))",
     "day::figures": """match day::figures(&input) {
             day::Day::Figures(f) => format!("{} {} {} {}", f.net, f.heaviest, f.eaten, f.stamp),
@@ -69,7 +71,7 @@ ARMS = {
 # The C functions: those that write bytes, and those that store numbers, with how many; each with what it is given.
 LENGTHS = {"summarise": "&input, number as u32", "merge": "&input[..number], &input[number..]",
            "merge_row": "&input", "plan": "&input", "runs": "&input", "write_log": "&input", "read_table": "&input",
-           "small_days": "number as u32", "heaviest_line": "&input"}
+           "small_days": "number as u32", "heaviest_line": "&input", "sheet": MODE_AND_PAGE}
 NUMBERS = {"read_record": ("&input", 7), "finish": ("&input", 1), "work": ("&input", 3), "day": ("&input", 4),
            "backwards": (RUN_AND_Y, 1)}
 ARMS |= {f"tulghimo::tulghimo_{name}": f"""answered(tulghimo::tulghimo_{name}({lent}, &mut out), &out)"""

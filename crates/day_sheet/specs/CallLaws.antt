@@ -6,9 +6,10 @@ use mathlib.Core.List.{List}
 use Prim.Native.Nat.{ℕ, _*_, _≤_, _<_}
 use native.Mathlib.Decide.{decLt}
 use native.Mathlib.Omega.{arith}
+use lib.Dec.{ltb}
 use lib.ListN.{length}
 use borrow.Author.Tests.{lt-ltb, le-ltb}
-use Rattle.gate.specs.Outcome.{Outcome, refused, result, written}
+use Rattle.gate.specs.Outcome.{Outcome, refused, result, question, written}
 use Rattle.gate.specs.Laws.{not-result, one-number, result-same, fits, too-short}
 use Rattle.figure.specs.FourModes.{Amounts}
 use Rattle.figure.specs.Mode.{modeInUse}
@@ -30,13 +31,15 @@ module _ (log : List ℕ) (mode page cap : ℕ) where
     at-fault e = rw (u, e)
 
     module _ {xs : List (Record Amounts)} (e : wholeLog log ≡ result xs) where
-      pub past-last : openedOf xs ≤ 60 * page → sheetOutcome log mode page cap ≡ refused 18
+      pub let-through : sheetOutcome log mode page cap ≡ question 18 (ltb (60 * page) (openedOf xs)) (written cap (pageText mode page xs))
       unfolding sheetOutcome
-      past-last h = rw (u, e, le-ltb (60 * page) (openedOf xs) h)
+      let-through = rw (u, e)
+
+      pub past-last : openedOf xs ≤ 60 * page → sheetOutcome log mode page cap ≡ refused 18
+      past-last h = let-through ∙ ap (λ t. question 18 t (written cap (pageText mode page xs))) (le-ltb (60 * page) (openedOf xs) h)
 
       pub starts : 60 * page < openedOf xs → sheetOutcome log mode page cap ≡ written cap (pageText mode page xs)
-      unfolding sheetOutcome
-      starts h = rw (u, e, lt-ltb (60 * page) (openedOf xs) h)
+      starts h = let-through ∙ ap (λ t. question 18 t (written cap (pageText mode page xs))) (lt-ltb (60 * page) (openedOf xs) h)
 
       not-18 : (w : List ℕ) → written cap w ≡ refused 18 → ⊥
       not-18 w h =

@@ -16,17 +16,11 @@ use Rattle.figure.specs.FourModes.{Amounts}
 use Rattle.figure.specs.Mode.{modeInUse}
 use Rattle.hill.specs.Log.{Record, openedOf}
 use Rattle.hill.specs.Row.{joined}
-use Rattle.chunk.specs.Chunk.{wholeLog}
 use Rattle.chunk.specs.Laws.{IsLog, one-log}
 use Rattle.whole_log.specs.AskLaws.{Opens}
-use Rattle.day_sheet.specs.Sheet.{sheetLines, pageText, sheetOutcome}
+use Rattle.day_sheet.specs.Sheet.{sheetLines, pageText}
 use Rattle.day_sheet.specs.PageLaws.{lines-length, is-page}
 use Rattle.sheet.specs.Contracts.{pageOutcome, linesAt, PageFits}
-
--- what is asked after 1 and the log's faults
-pub let-through : (log : List ℕ) (mode page cap : ℕ) {xs : List (Record Amounts)} → modeInUse mode ≡ true → wholeLog log ≡ result xs → sheetOutcome log mode page cap ≡ pageOutcome mode page cap xs
-unfolding sheetOutcome
-let-through log mode page cap u e = rw (u, e)
 
 -- 60 lines, or as many as there are
 page-is : (mode page : ℕ) (xs : List (Record Amounts)) {first lines : ℕ} → first ≡ 60 * page → lines ≡ min 60 (openedOf xs - first) → joined (linesAt mode first lines xs) ≡ pageText mode page xs

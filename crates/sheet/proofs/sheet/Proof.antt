@@ -10,8 +10,7 @@ use Rattle.chunk.specs.Laws.{log-is}
 use Rattle.whole_log.specs.Gate.{askedAnswer}
 use Rattle.whole_log.specs.AskLaws.{log-opens, log-refused}
 use Rattle.whole_log.specs.TallyLaws.{begun, not-begun}
-use Rattle.day_sheet.specs.CallLaws.{out-of-use, at-fault}
-use Rattle.sheet.specs.CallLaws.{let-through}
+use Rattle.day_sheet.specs.CallLaws.{out-of-use, at-fault, let-through}
 use borrow.Author.Needs.{needs}
 use Rattle.sheet.proofs.sheet.Statement.{statement}
 use Rattle.sheet.proofs.sheet.Tie as tie

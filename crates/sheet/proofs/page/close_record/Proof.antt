@@ -1,6 +1,8 @@
 -- `sheet::page::close_record` meets its contract: the record's figure joins the level below, and is what is printed. Assumes nothing.
-use mathlib.Core.Path.{_≡_, refl, _∙_}
+use mathlib.Core.Path.{_≡_, refl, sym, ap, subst, _∙_}
 use Prim.Native.Nat.{_^_, _<_}
+use lib.IntN.{ℤ}
+use lib.ListN.{getD}
 use lib.Signed.{mag}
 use denote.Ref.{now}
 use mir.Syntax.{w64}
@@ -10,6 +12,8 @@ use Rattle.figure.specs.Mode.{Mode, modeOf}
 use Rattle.slopes.specs.Arrays.{Arrays, arrays}
 use Rattle.slopes.specs.Actions.{topFigure}
 use Rattle.slopes.specs.Laws.{adds, top-joins}
+use Rattle.day_sheet.specs.Claims.{InColumns}
+use Rattle.sheet.specs.Contracts.{linePut}
 use borrow.Author.Needs.{needs}
 use Rattle.sheet.proofs.page.close_record.Statement.{statement}
 use Rattle.sheet.proofs.page.close_record.Tie as tie
@@ -24,6 +28,11 @@ A a = arrays (a .pre .top .left) (now (a .args .values)) (now (a .args .floors))
 -- the middle value, as the code reads it
 middle-is : (c : tie.After-struct-told) → let x = c .before .before .before .before .before .args .s .middle in toZ w64 (ofZ w64 x) ≡ x
 middle-is c = let h : mag (c .before .before .before .before .before .args .s .middle) < 2 ^ 63 = search needs in back w64 (c .before .before .before .before .before .args .s .middle) h
+
+-- the figure, as the code hands it on
+figure-is : (c : tie.After-top-figure) → let a = c .before .before .before in
+    toZ w64 (ofZ w64 (c .top-figure .result)) ≡ topFigure (M a) (now (a .args .values)) (now (a .args .floors)) (now (a .args .ceilings)) (now (a .args .held)) (a .args .depth)
+figure-is c = back w64 (c .top-figure .result) (c .top-figure .ok) ∙ c .top-figure .ensures
 
 top-figure-requires : tie.Need-top-figure-requires
 top-figure-requires c κs = search needs
@@ -44,7 +53,7 @@ put-line-requires : tie.Need-put-line-requires
 put-line-requires c κs =
     let t = c .before .before .before .before .before in
     let a = t .before .before .before in
-    (rw (back w64 (t .top-figure .result) (t .top-figure .ok), t .top-figure .ensures) (a .pre .columns), a .pre .room)
+    (subst (InColumns (getD (now (a .args .numbers)) (a .args .depth) 0) (a .args .depth)) (sym (figure-is t)) (a .pre .columns), a .pre .room)
 
 same-length : tie.Need-same-length
 same-length c = search needs
@@ -54,8 +63,8 @@ returns c =
     let t = c .before .before .before .before .before .before .before .before in
     let a = t .before .before .before in
     let add = c .before .before .before .before .before .add in
-    let figure : toZ w64 (ofZ w64 (t .top-figure .result)) ≡ topFigure (M a) (now (a .args .values)) (now (a .args .floors)) (now (a .args .ceilings)) (now (a .args .held)) (a .args .depth) = back w64 (t .top-figure .result) (t .top-figure .ok) ∙ t .top-figure .ensures in
-    (rw (back w64 (add .result) (add .ok)) (rw (middle-is (c .before .before .before .before .before .before), figure) at (add .ensures)), rw figure at (c .before .before .put-line .ensures), refl)
+    (rw (back w64 (add .result) (add .ok)) (rw (middle-is (c .before .before .before .before .before .before), figure-is t) at (add .ensures)),
+    c .before .before .put-line .ensures ∙ ap (λ (z : ℤ). linePut (a .args .first) (a .args .lines) (getD (now (a .args .numbers)) (a .args .depth) 0) (a .args .depth) z (now (a .args .out))) (figure-is t), refl)
 
 pub close-record-spec : {M : Type 1} → statement M
 close-record-spec =

@@ -1,10 +1,13 @@
 -- `sheet::page::open_record` meets its contract: the record is put on top, and its number at its depth. Assumes nothing.
-use mathlib.Core.Path.{_≡_, refl}
-use Prim.Native.Nat.{_^_, _<_}
+use mathlib.Core.Path.{_≡_, refl, sym, _∙_}
+use mathlib.Core.List.{List}
+use Prim.Native.Nat.{ℕ, _^_, _<_}
+use lib.IntN.{ℤ}
 use lib.Signed.{mag}
 use mir.Syntax.{w32, w64}
 use mir.Val.{toZ, ofZ}
 use Rattle.number.specs.Word.{back}
+use Rattle.slopes.specs.Actions.{Pushed}
 use borrow.Author.Needs.{needs}
 use Rattle.sheet.proofs.page.open_record.Statement.{statement}
 use Rattle.sheet.proofs.page.open_record.Tie as tie
@@ -27,6 +30,10 @@ element-write-numbers c = search needs
 add-t19 : tie.Need-add-t19
 add-t19 c = search needs
 
+-- what is put on top, by equations
+put : {d : ℕ} {v v′ l l′ h h′ x x′ : ℤ} {vs ls hs xs vs′ ls′ hs′ xs′ : List ℤ} → v′ ≡ v → l′ ≡ l → h′ ≡ h → x′ ≡ x → Pushed d v′ l′ h′ x′ vs ls hs xs vs′ ls′ hs′ xs′ → Pushed d v l h x vs ls hs xs vs′ ls′ hs′ xs′
+put ev el eh ex p = rw (sym ev, sym el, sym eh, sym ex) p
+
 -- the numbers of the record and the middle value, as the code reads them
 value-is : (c : tie.After-struct-told) → let x = c .before .before .before .before .before .before .before .args .f .value in toZ w32 (ofZ w32 x) ≡ x
 value-is c = let h : mag (c .before .before .before .before .before .before .before .args .f .value) < 2 ^ 31 = search needs in back w32 (c .before .before .before .before .before .before .before .args .f .value) h
@@ -43,7 +50,7 @@ middle-is c = let h : mag (c .before .before .before .before .before .before .be
 returns : tie.Need-returns
 returns c =
     let n = c .before .before .before .before .before .before .nothing in
-    (rw (value-is (c .before .before .before .before .before), floor-is (c .before .before .before .before), ceiling-is (c .before .before .before), back w64 (n .result) (n .ok), n .ensures) at (c .before .before .push .ensures), refl, rw (middle-is c))
+    (put (value-is (c .before .before .before .before .before)) (floor-is (c .before .before .before .before)) (ceiling-is (c .before .before .before)) (back w64 (n .result) (n .ok) ∙ n .ensures) (c .before .before .push .ensures), refl, rw (middle-is c))
 
 pub open-record-spec : {M : Type 1} → statement M
 open-record-spec =
