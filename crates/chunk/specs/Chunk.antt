@@ -4,13 +4,16 @@ use mathlib.Core.Bool.{cond}
 use mathlib.Core.List.{List, map}
 use Prim.Native.Nat.{ℕ}
 use lib.Dec.{leb, eqb}
+use lib.IntN.{ℤ}
 use lib.ListN.{length}
 use Rattle.gate.specs.Outcome.{Outcome, result, question, onward}
 use Rattle.record.specs.Record.{recordsOf}
 use Rattle.record.specs.declared.Fields.{Fields}
 use Rattle.figure.specs.FourModes.{Amounts}
+use Rattle.figure.specs.Mode.{modeOf}
 use Rattle.hill.specs.Verdict.{pass}
 use Rattle.hill.specs.Log.{Record, opening, closing, logFault}
+use Rattle.hill.specs.Figure.{figureOf}
 use Rattle.hill.specs.Finish.{outcome}
 
 -- A record that was read, as all calls but reading take it: "kind 1, open", or "kind 2, close". They "drop" its batch (document 02, L2).
@@ -19,6 +22,10 @@ recordOf f = cond (eqb (f .kind) 1) (opening (f .depth) (record { value = f .val
 
 abbrev pub chunkOf : List Fields → List (Record Amounts)
 chunkOf fs = map recordOf fs
+
+-- "The recursion's figure on a well-formed log .., in the mode given", as a signed 64-bit number.
+unfoldable pub figureIn : ℕ → List (Record Amounts) → ℤ
+figureIn m log = modeOf m .store (figureOf (modeOf m .algebra) log)
 
 -- THE GATE ON A WHOLE LOG, "2, 3 and 7 to 11": the log's records, or the number of the first question that gets a "no".
 -- 2: "Is the chunk at most 65,536 bytes?" 3: "Is every record readable?" 7 to 11: `logFault`, the lowest.

@@ -2,19 +2,24 @@
 use mathlib.Core.Path.{_≡_, refl, sym, ap, _∙_}
 use mathlib.Core.Bool.{Bool, true, false}
 use mathlib.Core.List.{List, [], _∷_, _++_, map}
+use mathlib.Core.Logic.{inl, inr}
 use Prim.Native.Nat.{ℕ, _≤_, _<_}
+use native.Mathlib.Omega.{arith}
 use lib.Dec.{leb}
 use lib.ListN.{length}
 use borrow.Author.Tests.{le-leb, lt-leb, leb-true, eq-eqb, ne-eqb}
 use Rattle.gate.specs.Outcome.{Outcome, refused, result, question, onward}
-use Rattle.gate.specs.Laws.{not-result}
+use Rattle.gate.specs.Laws.{not-result, one-number}
 use Rattle.record.specs.Record.{inRange, recordsOf}
+use Rattle.record.specs.Laws.{records-3}
 use Rattle.record.specs.RangeLaws.{range-parts}
 use Rattle.record.specs.declared.Fields.{Fields}
 use Rattle.figure.specs.FourModes.{Amounts}
 use Rattle.figure.specs.Stored.{amounts}
 use Rattle.hill.specs.Verdict.{Verdict, pass, refuse}
 use Rattle.hill.specs.Log.{Record, opening, closing, logFault}
+use Rattle.hill.specs.Questions.{NoOfLog}
+use Rattle.hill.specs.Faults.{lowest-log}
 use Rattle.hill.specs.Finish.{outcome}
 use Rattle.chunk.specs.Chunk.{recordOf, chunkOf, wholeLog, IsWellFormed, SameRecords, withoutBatch, SameButBatches}
 
@@ -81,6 +86,27 @@ is-log log xs e = go (leb (length log) 65_536) refl (recordsOf log) refl e
 pub log-is : {log : List ℕ} {xs : List (Record Amounts)} → IsLog log xs → wholeLog log ≡ result xs
 unfolding wholeLog
 log-is {log} {xs} i = rw (le-leb (length log) 65_536 (i .short), i .formed .read, i .formed .records-are, i .formed .fine)
+
+-- it is not let through by one of document 01's numbers, none above 11
+pub refused-low : (log : List ℕ) (n : ℕ) → wholeLog log ≡ refused n → n ≤ 11
+unfolding wholeLog
+refused-low log n e = go (leb (length log) 65_536) (recordsOf log) refl e
+  where
+    fault-low : (xs : List (Record Amounts)) → NoOfLog xs n → n ≤ 11
+    fault-low xs (inl (inl q)) = omega (arith, q .0)
+    fault-low xs (inl (inr (inl q))) = omega (arith, q .0)
+    fault-low xs (inl (inr (inr q))) = omega (arith, q .0)
+    fault-low xs (inr (inl q)) = omega (arith, q .0)
+    fault-low xs (inr (inr q)) = omega (arith, q .0)
+
+    by-fault : (xs : List (Record Amounts)) (v : Verdict) → logFault xs ≡ v → outcome v xs ≡ refused n → n ≤ 11
+    by-fault xs pass p e = absurd (not-result n xs (sym e))
+    by-fault xs (refuse k) p e = fault-low xs (lowest-log xs .least n (p ∙ ap refuse (one-number e)) .0)
+
+    go : (t : Bool) (o : Outcome (List Fields)) → recordsOf log ≡ o → question 2 t (onward o (λ fs. outcome (logFault (chunkOf fs)) (chunkOf fs))) ≡ refused n → n ≤ 11
+    go false o r e = omega (arith, one-number e)
+    go true (refused k) r e = omega (arith, records-3 log k r, one-number e)
+    go true (result fs) r e = by-fault (chunkOf fs) (logFault (chunkOf fs)) refl e
 
 -- bytes have the records of one log
 pub one-log : {log : List ℕ} {xs ys : List (Record Amounts)} → IsWellFormed log xs → IsWellFormed log ys → xs ≡ ys

@@ -29,6 +29,7 @@ use Rattle.summary.specs.DecideLaws.{decide-summary}
 use Rattle.summary.specs.Outcomes.{summariseOutcome, mergeOutcome, finishOutcome}
 use Rattle.outcome.specs.Outcomes.{allSummaries, Summaries, askRow, askLog, mergedBytes, planBytes, runsBytes, workAlong, mergeRowOutcome, planOutcome, runsOutcome, workOutcome}
 use Rattle.outcome.specs.Laws.{two-to-64, mode-5, ask-mode}
+use Rattle.day_sheet.specs.Sheet.{sheetOutcome}
 use Rattle.claim.specs.Claim.{recordsRead, logSays, IsCut, Lent, RowSize, WellFormed, Recursion, AreMerges, Claimed}
 use Rattle.claim.specs.Demand3.{demand3}
 use Rattle.claim.specs.Drops.{eatenTrees, summed, TakenAtValue, eatenAt, LeadsToRecursion, OutOfUse}
@@ -167,9 +168,10 @@ module _ (m : ℕ) (out : modeInUse m ≡ false) where
     )
 
   pub out-of-use : OutOfUse m
-  unfolding summariseOutcome mergeOutcome finishOutcome
+  unfolding summariseOutcome mergeOutcome finishOutcome sheetOutcome
   out-of-use = record {
     argument = λ chunk cap. rw out;
+    printed = λ log page cap. rw out;
     merged = λ a b cap e. rw (merged-5 a b cap e);
     finished = λ b e. rw (no-summary b e);
     row = row-5;

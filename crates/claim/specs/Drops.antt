@@ -18,6 +18,7 @@ use Rattle.hill.specs.Row.{Call, replay, onResult}
 use Rattle.summary.specs.Judge.{modeAt}
 use Rattle.summary.specs.Outcomes.{summariseOutcome, mergeOutcome, finishOutcome}
 use Rattle.outcome.specs.Outcomes.{mergeRowOutcome, planOutcome, runsOutcome, workOutcome}
+use Rattle.day_sheet.specs.Sheet.{sheetOutcome}
 use Rattle.claim.specs.Claim.{recordsRead, Lent, byCalls, RowSize, chunks, startRow, lentRow}
 
 -- The figures of trees side by side, added. "Counts such a record as it is": one that holds nothing is its value;
@@ -56,6 +57,7 @@ pub record LeadsToRecursion (log places : List ℕ) (buffers : List (List ℕ)) 
 -- "Mode 3 gets 1 as an argument and 5 within a summary": of a mode m that is out of use, whatever else there is.
 pub record OutOfUse (m : ℕ) : Type 0 where
   pub argument : (chunk : List ℕ) (cap : ℕ) → summariseOutcome chunk m cap ≡ refused 1
+  pub printed : (log : List ℕ) (page cap : ℕ) → sheetOutcome log m page cap ≡ refused 1
   pub merged : (a b : List ℕ) (cap : ℕ) → (modeAt a ≡ m) ⊎ (modeAt b ≡ m) → mergeOutcome a b cap ≡ refused 5
   pub finished : (b : List ℕ) → modeAt b ≡ m → finishOutcome b ≡ refused 5
   -- a row with a piece p of this mode

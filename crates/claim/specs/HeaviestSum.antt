@@ -1,19 +1,18 @@
 -- Document 02, L7: what is claimed of the values along the heaviest line, and of its faults beside finish. Definitions only.
 use mathlib.Core.Path.{_≡_}
 use mathlib.Core.List.{List}
-use Prim.Native.Nat.{ℕ}
+use Prim.Native.Nat.{ℕ, _≤_}
 use lib.IntN.{ℤ}
+use lib.ListN.{length}
 use Rattle.gate.specs.Outcome.{refused, result, written}
-use Rattle.hill.specs.Row.{onResult}
 use Rattle.summary.specs.Outcomes.{finishOutcome}
-use Rattle.outcome.specs.Day.{dayOutcome}
 use Rattle.log_records.specs.Line.{heaviestLineOutcome}
 use Rattle.claim.specs.Finishing.{Finishing, LeadsTo}
 
--- "The values add to the mode 2 figure": their sum is what the log leads to in mode 2, and what the day's call answers.
+-- "The values add to the mode 2 figure": their sum is what the log, which has one chunk, leads to in mode 2.
 pub record IsHeaviestFigure (log : List ℕ) (sum : ℤ) : Type 0 where
+  pub one-chunk : length log ≤ 65_536
   pub leads-to : LeadsTo 2 log sum
-  pub day : onResult (λ f. f .heaviest) (dayOutcome log) ≡ result sum
 
 -- "Faults get their numbers as at finish": however the log is cut and merged, in whatever mode. Where finish gives a figure, there is a line.
 pub record FaultsAsAtFinish (log : List ℕ) : Type 0 where

@@ -12,18 +12,16 @@ use Rattle.gate.specs.Laws.{not-result, one-number}
 use Rattle.record.specs.Record.{recordsOf}
 use Rattle.record.specs.declared.Fields.{Fields}
 use Rattle.figure.specs.FourModes.{Amounts, storeHeld}
-use Rattle.figure.specs.Mode.{modeOf}
+use Rattle.figure.specs.Mode.{modeOf, modeInUse}
 use Rattle.hill.specs.Verdict.{Verdict, pass, refuse}
 use Rattle.hill.specs.Log.{Record, opening, closing, logFault}
 use Rattle.hill.specs.Closing.{at}
 use Rattle.hill.specs.HeldPlaces.{opening-closing}
 use Rattle.hill.specs.Figure.{figureOf}
 use Rattle.hill.specs.Finish.{outcome}
-use Rattle.hill.specs.Row.{onResult}
 use Rattle.summary.specs.Outcomes.{finishOutcome, logOutcome}
-use Rattle.chunk.specs.Chunk.{chunkOf, wholeLog}
-use Rattle.chunk.specs.Laws.{IsLog, log-is}
-use Rattle.outcome.specs.Day.{figureIn, figuresOf, dayOutcome}
+use Rattle.chunk.specs.Chunk.{chunkOf, figureIn, wholeLog}
+use Rattle.chunk.specs.Laws.{IsLog}
 use Rattle.day_table.specs.Table.{TableLine, tableLine, tableOf}
 use Rattle.log_records.specs.Numbers.{numberAt}
 use Rattle.log_records.specs.Line.{lineNumbers, numberBytes, heaviestLineOutcome}
@@ -37,16 +35,13 @@ use Rattle.claim.specs.HeaviestSum.{IsHeaviestFigure, FaultsAsAtFinish}
 -- ---- the sum
 
 module _ {log : List ℕ} {xs : List (Record Amounts)} (i : IsLog log xs) {w : List ℕ} (b : LineBytes xs w) where
-  stored : modeOf 2 .store (figureOf (modeOf 2 .algebra) xs) ≡ sumOf xs (b .places)
-  unfolding modeOf storeHeld
+  stored : figureIn 2 xs ≡ sumOf xs (b .places)
+  unfolding figureIn modeOf storeHeld
   stored = ap storeHeld (b .line .is .adds)
 
-  answered : onResult (λ f. f .heaviest) (dayOutcome log) ≡ result (sumOf xs (b .places))
-  unfolding dayOutcome figuresOf figureIn
-  answered = rw (log-is i) (ap result stored)
-
   heaviest-figure : IsHeaviestFigure log (sumOf xs (b .places))
-  heaviest-figure = record { leads-to = leads-to 2 (i .formed) (sumOf xs (b .places)) stored; day = answered }
+  unfolding modeInUse
+  heaviest-figure = record { one-chunk = i .short; leads-to = leads-to 2 refl (i .formed) (sumOf xs (b .places)) stored }
 
 -- THE VALUES OF THE RECORDS THAT THE CALL NAMES ADD TO THE MODE 2 FIGURE.
 pub adds-to-figure : (log : List ℕ) (cap : ℕ) {w : List ℕ} → heaviestLineOutcome log cap ≡ result w → (xs : List (Record Amounts)) × (b : LineBytes xs w) × IsHeaviestFigure log (sumOf xs (b .places))

@@ -15,44 +15,44 @@ use Rattle.hill.specs.Verdict.{joint, count, ends}
 use Rattle.hill.specs.Log.{Record, opening, closing}
 use Rattle.text.specs.Decimal.{digitsIn, digitsOf, decimalOf}
 use Rattle.text.specs.Columns.{rightAligned}
-use Rattle.chunk.specs.Chunk.{wholeLog}
+use Rattle.chunk.specs.Chunk.{figureIn, wholeLog}
 use Rattle.outcome.specs.Line.{ascii}
 use Rattle.day_sheet.specs.Sheet.{sheetLine, pageText, sheetOutcome}
 
 -- "log D gives `12 15 12 72`": the root's figures. The stamp of -3 is 2^32 - 3.
 D-net : sheetOutcome logD 1 0 81 ≡ result (ascii "     0  0               12\n     1  1                5\n     2  1               -3\n")
-unfolding leAt within inRange accepted whole byShape readOf recordsIn recordsOf joint count ends wholeLog modeInUse modeOf digitsIn digitsOf decimalOf rightAligned ascii sheetLine pageText sheetOutcome
+unfolding leAt within inRange accepted whole byShape readOf recordsIn recordsOf joint count ends wholeLog figureIn modeInUse modeOf digitsIn digitsOf decimalOf rightAligned ascii sheetLine pageText sheetOutcome
 D-net = refl
 
 D-heaviest : sheetOutcome logD 2 0 81 ≡ result (ascii "     0  0               15\n     1  1                5\n     2  1               -3\n")
-unfolding leAt within inRange accepted whole byShape readOf recordsIn recordsOf joint count ends wholeLog modeInUse modeOf maxZ lift lineOf storeHeld digitsIn digitsOf decimalOf rightAligned ascii sheetLine pageText sheetOutcome
+unfolding leAt within inRange accepted whole byShape readOf recordsIn recordsOf joint count ends wholeLog figureIn modeInUse modeOf maxZ lift lineOf storeHeld digitsIn digitsOf decimalOf rightAligned ascii sheetLine pageText sheetOutcome
 D-heaviest = refl
 
 D-eaten : sheetOutcome logD 5 0 81 ≡ result (ascii "     0  0               12\n     1  1                5\n     2  1               -3\n")
-unfolding leAt within inRange accepted whole byShape readOf recordsIn recordsOf joint count ends wholeLog modeInUse modeOf minZ maxZ clamp lift eatenOf storeHeld digitsIn digitsOf decimalOf rightAligned ascii sheetLine pageText sheetOutcome
+unfolding leAt within inRange accepted whole byShape readOf recordsIn recordsOf joint count ends wholeLog figureIn modeInUse modeOf minZ maxZ clamp lift eatenOf storeHeld digitsIn digitsOf decimalOf rightAligned ascii sheetLine pageText sheetOutcome
 D-eaten = refl
 
 D-stamp : sheetOutcome logD 4 0 81 ≡ result (ascii "     0  0               72\n     1  1                5\n     2  1       4294967293\n")
-unfolding leAt within inRange accepted whole byShape readOf recordsIn recordsOf joint count ends wholeLog modeInUse modeOf wrap digitsIn digitsOf decimalOf rightAligned ascii sheetLine pageText sheetOutcome
+unfolding leAt within inRange accepted whole byShape readOf recordsIn recordsOf joint count ends wholeLog figureIn modeInUse modeOf wrap digitsIn digitsOf decimalOf rightAligned ascii sheetLine pageText sheetOutcome
 D-stamp = refl
 
 -- ---- turned away
 
 -- a byte short
 D-short : sheetOutcome logD 1 0 80 ≡ refused 12
-unfolding leAt within inRange accepted whole byShape readOf recordsIn recordsOf joint count ends wholeLog modeInUse modeOf digitsIn digitsOf decimalOf rightAligned sheetLine pageText sheetOutcome
+unfolding leAt within inRange accepted whole byShape readOf recordsIn recordsOf joint count ends wholeLog figureIn modeInUse modeOf digitsIn digitsOf decimalOf rightAligned sheetLine pageText sheetOutcome
 D-short = refl
 
--- 18 comes before 12, also for a page whose product with 60 is 44 modulo 2^32, and for the last page that there could be
+-- 18 comes before 12; also for page 2^30, whose product with 60 is 0 modulo 2^32, and for the last page that there could be
 D-past : sheetOutcome logD 1 1 0 ≡ refused 18
 unfolding leAt within inRange accepted whole byShape readOf recordsIn recordsOf joint count ends wholeLog modeInUse sheetOutcome
 D-past = refl
 
-D-wraps : sheetOutcome logD 1 71_582_789 81 ≡ refused 18
+D-wraps : sheetOutcome logD 1 1_073_741_824 0 ≡ refused 18
 unfolding leAt within inRange accepted whole byShape readOf recordsIn recordsOf joint count ends wholeLog modeInUse sheetOutcome
 D-wraps = refl
 
-D-last : sheetOutcome logD 1 4_294_967_295 81 ≡ refused 18
+D-last : sheetOutcome logD 1 4_294_967_295 0 ≡ refused 18
 unfolding leAt within inRange accepted whole byShape readOf recordsIn recordsOf joint count ends wholeLog modeInUse sheetOutcome
 D-last = refl
 
@@ -74,7 +74,7 @@ sevens (suc n) = opening 1 (amounts (pos 7) (pos 0) (pos 9)) ∷ closing 1 ∷ s
 
 -- A root that holds 60: one line is left for page 1, and none for page 2.
 second-page : pageText 1 1 (opening 0 (amounts (pos 0) (pos 0) (pos 9)) ∷ sevens 60) ≡ ascii "    60  1                7\n"
-unfolding modeOf digitsIn digitsOf decimalOf rightAligned ascii sheetLine pageText
+unfolding figureIn modeOf digitsIn digitsOf decimalOf rightAligned ascii sheetLine pageText
 second-page = refl
 
 no-third-page : pageText 1 2 (opening 0 (amounts (pos 0) (pos 0) (pos 9)) ∷ sevens 60) ≡ []

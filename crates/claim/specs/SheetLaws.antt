@@ -16,15 +16,14 @@ use Rattle.record.specs.RangeLaws.{range-parts}
 use Rattle.record.specs.Ranged.{AllInRange, records-in-range}
 use Rattle.record.specs.declared.Fields.{Fields}
 use Rattle.figure.specs.FourModes.{Amounts}
-use Rattle.figure.specs.Mode.{modeOf}
+use Rattle.figure.specs.Mode.{modeInUse}
 use Rattle.hill.specs.Verdict.{pass}
 use Rattle.hill.specs.Log.{Record, opening, closing, depth, logFault}
 use Rattle.hill.specs.Closing.{OpensAt}
 use Rattle.hill.specs.HeldPlaces.{opening-closing}
-use Rattle.hill.specs.Figure.{figureOf}
 use Rattle.hill.specs.OwnLog.{lowered, ownLog}
 use Rattle.hill.specs.Row.{joined}
-use Rattle.chunk.specs.Chunk.{chunkOf, IsWellFormed}
+use Rattle.chunk.specs.Chunk.{chunkOf, figureIn, IsWellFormed}
 use Rattle.chunk.specs.Laws.{depth-low}
 use Rattle.day_table.specs.Outcomes.{logBytes}
 use Rattle.day_table.specs.LogLaws.{RecordsInRange, allFields, chunk-fields, log-read}
@@ -79,24 +78,24 @@ own-bytes {log} {xs} i p q d v =
     let own : List (Record Amounts) = ownLog xs p q d in
     record { fields = allFields own; read = log-read own (ranged-lower d (take (suc q - p) (drop p xs)) (ranged-take (suc q - p) (drop p xs) (ranged-drop p xs h))); records-are = chunk-fields own; fine = v }
 
-alone-leads-to : (mode : ℕ) {log : List ℕ} {xs : List (Record Amounts)} → IsWellFormed log xs → (p q d : ℕ) {z : ℤ} → IsOwnFigure mode xs p q d z → AloneLeadsTo mode (ownLog xs p q d) z
-alone-leads-to mode {xs = xs} i p q d {z} o = record { some = (logBytes (ownLog xs p q d), own-bytes i p q d (o .fine)); all = λ bytes w. leads-to mode w z (sym (o .of-log)) }
+alone-leads-to : (mode : ℕ) → modeInUse mode ≡ true → {log : List ℕ} {xs : List (Record Amounts)} → IsWellFormed log xs → (p q d : ℕ) {z : ℤ} → IsOwnFigure mode xs p q d z → AloneLeadsTo mode (ownLog xs p q d) z
+alone-leads-to mode u {xs = xs} i p q d {z} o = record { some = (logBytes (ownLog xs p q d), own-bytes i p q d (o .fine)); all = λ bytes w. leads-to mode u w z (sym (o .of-log)) }
 
 -- EACH FIGURE is what its record's own subtree leads to.
 pub each-alone : (log : List ℕ) (mode page cap : ℕ) {w : List ℕ} → sheetOutcome log mode page cap ≡ result w → EachAlone log mode page cap w
 each-alone log mode page cap e =
     let s = written-page log mode page cap e in
-    record { writes = s; alone = λ i l. let t = s .is-page .each i l in alone-leads-to mode (s .is-log .formed) (t .place) (t .close) (t .depth) (t .own) }
+    record { writes = s; alone = λ i l. let t = s .is-page .each i l in alone-leads-to mode (s .in-use) (s .is-log .formed) (t .place) (t .close) (t .depth) (t .own) }
 
 -- ---- the root
 
-first-line : (mode : ℕ) (xs : List (Record Amounts)) → OpensAt xs 0 0 → InColumns 0 0 (modeOf mode .store (figureOf (modeOf mode .algebra) xs))
-    → take 27 (pageText mode 0 xs) ≡ sheetLine 0 0 (modeOf mode .store (figureOf (modeOf mode .algebra) xs))
+first-line : (mode : ℕ) (xs : List (Record Amounts)) → OpensAt xs 0 0 → InColumns 0 0 (figureIn mode xs)
+    → take 27 (pageText mode 0 xs) ≡ sheetLine 0 0 (figureIn mode xs)
 unfolding pageText
 first-line mode [] o c = absurd (opening-closing (closing 0) 0 0 (o .0) (o .1) refl)
 first-line mode (closing d ∷ xs) o c = absurd (opening-closing (closing d) 0 d (o .0) (o .1) refl)
 first-line mode (opening d r ∷ xs) o c =
-    let z : ℤ = modeOf mode .store (figureOf (modeOf mode .algebra) (opening d r ∷ xs)) in
+    let z : ℤ = figureIn mode (opening d r ∷ xs) in
     let e : d ≡ 0 = ap depth (o .1) in
     take-at (sheetLine 0 d z) (joined (take 59 (linesFrom mode 1 xs))) 27 (ap (λ k. length (sheetLine 0 k z)) e ∙ line-27 c) ∙ ap (λ k. sheetLine 0 k z) e
 
@@ -105,7 +104,7 @@ pub root-first : (log : List ℕ) (mode cap : ℕ) {w : List ℕ} → sheetOutco
 root-first log mode cap {w} e =
     let s = written-page log mode 0 cap e in
     let xs = s .records in
-    let z : ℤ = modeOf mode .store (figureOf (modeOf mode .algebra) xs) in
+    let z : ℤ = figureIn mode xs in
     let root = formed xs (s .is-log .formed .fine) .root in
     let c : InColumns 0 0 z = fits mode (s .in-use) (s .is-log .formed) 0 0 root in
-    record { figure = z; leads-to = leads-to mode (s .is-log .formed) z refl; first = ap (λ b. readLine (take 27 b)) (s .bytes-are) ∙ ap readLine (first-line mode xs root c) ∙ line-back c }
+    record { figure = z; leads-to = leads-to mode (s .in-use) (s .is-log .formed) z refl; first = ap (λ b. readLine (take 27 b)) (s .bytes-are) ∙ ap readLine (first-line mode xs root c) ∙ line-back c }

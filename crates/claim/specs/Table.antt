@@ -26,8 +26,8 @@ use Rattle.summary.specs.Outcomes.{summaryBytes, summariseOutcome, finishOutcom
 use Rattle.join_plan.specs.Plan.{leftOpen, upTo, downFrom, select, depthsJoined, lineFor, planOf}
 use Rattle.plan_work.specs.Runs.{levelsDown, runLevels, runsAlong}
 use Rattle.text.specs.Decimal.{digitsIn, digitsOf, decimalOf}
-use Rattle.chunk.specs.Chunk.{wholeLog}
-use Rattle.outcome.specs.Day.{figureIn, figuresOf, dayOutcome}
+use Rattle.chunk.specs.Chunk.{figureIn, wholeLog}
+use Rattle.outcome.specs.Day.{figuresOf, dayOutcome}
 use Rattle.outcome.specs.Line.{ascii, lineText, dayLine}
 use Rattle.outcome.specs.Outcomes.{twoTo64, askRow, askLog, lineBytes, planBytes, runLength, runBytes, runsBytes, planOutcome, runsOutcome}
 use Rattle.run_back.specs.Decide.{stampFits, numbersFit, isRunBytes}

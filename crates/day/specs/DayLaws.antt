@@ -16,9 +16,9 @@ use Rattle.hill.specs.Faults.{lowest-log}
 use Rattle.hill.specs.Tree.{Forest, nil, tree, write, value}
 use Rattle.hill.specs.FigureLaws.{log-tree}
 use Rattle.hill.specs.Finish.{outcome}
-use Rattle.chunk.specs.Chunk.{chunkOf}
+use Rattle.chunk.specs.Chunk.{chunkOf, figureIn}
 use Rattle.chunk.specs.Laws.{too-long as log-too-long, readable as log-readable}
-use Rattle.outcome.specs.Day.{figureIn, figuresOf, dayOutcome}
+use Rattle.outcome.specs.Day.{figuresOf, dayOutcome}
 
 -- ---- by questions
 

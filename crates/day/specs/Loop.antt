@@ -13,7 +13,7 @@ use Rattle.record.specs.Laws.{sound}
 use Rattle.record.specs.declared.Fields.{Fields}
 use Rattle.hill.specs.Verdict.{Verdict, pass, refuse, low, ask}
 use Rattle.hill.specs.Log.{Record, startLevel, logFault}
-use Rattle.hill.specs.Tree.{nil, tree, value}
+use Rattle.hill.specs.Tree.{nil, tree}
 use Rattle.hill.specs.TreeLaws.{hillOf-write}
 use Rattle.hill.specs.FigureLaws.{log-tree}
 use Rattle.hill.specs.Summary.{middle}
@@ -26,7 +26,7 @@ use Rattle.slopes.specs.Rising.{Stands, stands-none}
 use Rattle.fault.specs.Fault.{noFault, verdictOf}
 use Rattle.fault.specs.Laws.{clear, is-clear}
 use Rattle.summary.specs.Values.{tells-range}
-use Rattle.chunk.specs.Chunk.{recordOf, chunkOf}
+use Rattle.chunk.specs.Chunk.{recordOf, chunkOf, figureIn}
 use Rattle.chunk.specs.Laws.{chunk-append}
 use Rattle.whole_log.specs.declared.Tally.{Tally}
 use Rattle.whole_log.specs.Tallies.{Fresh, Tallied, logVerdict}
@@ -34,7 +34,7 @@ use Rattle.whole_log.specs.TallyLaws.{level-is, faultless, so-far, grounded, me
 use Rattle.whole_log.specs.Pass as reading
 use Rattle.whole_log.specs.Pass.{Reading}
 use Rattle.outcome.specs.declared.Figures.{Figures}
-use Rattle.outcome.specs.Day.{figureIn, figuresOf, dayOutcome}
+use Rattle.outcome.specs.Day.{figuresOf, dayOutcome}
 use Rattle.day.specs.Pass.{noFigures, Standing, Ready, Applied}
 
 -- ---- the figures

@@ -1,12 +1,13 @@
 -- How many small days there are, and how many bytes they take. Assumes nothing.
-use mathlib.Core.Path.{_≡_, refl, ap, _∙_}
+use mathlib.Core.Path.{_≡_, refl, ap}
 use mathlib.Core.List.{List, [], _∷_, map, List·Memᴰ, List·Memᴰ·head, List·Memᴰ·tail}
-use Prim.Native.Nat.{ℕ, zero, suc, _*_, _≤_}
+use Prim.Native.Nat.{ℕ, zero, suc, _*_, _≤_, _<_}
 use native.Mathlib.Omega.{arith}
-use native.Mathlib.Nat.{mul-suc, mul-le-mul}
+use native.Mathlib.Nat.{mul-le-mul}
 use lib.Dec.{lit≤}
-use lib.ListN.{length, length-append}
+use lib.ListN.{length, getD}
 use Rattle.hill.specs.Row.{joined}
+use Rattle.hill.specs.RowLaws.{joined-long}
 use Rattle.day_list.specs.Days.{ways, days, smallDays}
 use Rattle.day_list.specs.Claims.{AreSmallDays}
 use Rattle.day_list.specs.DayLaws.{only-small-days, small-long}
@@ -20,16 +21,14 @@ counts = refl
 pub counted : (n : ℕ) → n ≤ 64 → (logs : List (List ℕ)) → AreSmallDays n logs → length logs ≡ length (smallDays n)
 counted n few logs h = ap length (only-small-days n few logs h)
 
-joined-long : (k : ℕ) (logs : List (List ℕ)) → ((log : List ℕ) → List·Memᴰ log logs → length log ≡ k) → length (joined logs) ≡ k * length logs
-joined-long k [] h = omega arith
-joined-long k (log ∷ logs) h =
-    let a : length log ≡ k = h log (List·Memᴰ·head refl) in
-    let b : length (joined logs) ≡ k * length logs = joined-long k logs (λ x m. h x (List·Memᴰ·tail m)) in
-    length-append log (joined logs) ∙ rw (a, b, mul-suc k (length logs)) (omega arith)
+at-member : (logs : List (List ℕ)) (i : ℕ) → i < length logs → List·Memᴰ (getD logs i []) logs
+at-member [] i l = absurd (omega arith)
+at-member (log ∷ logs) zero l = List·Memᴰ·head refl
+at-member (log ∷ logs) (suc i) l = List·Memᴰ·tail (at-member logs i (omega arith))
 
 -- 16 bytes for each record that a log opens
 pub total : (n : ℕ) → n ≤ 64 → length (joined (smallDays n)) ≡ 16 * n * length (smallDays n)
-total n few = joined-long (16 * n) (smallDays n) (small-long n few)
+total n few = joined-long (16 * n) (smallDays n) (λ i l. small-long n few (getD (smallDays n) i []) (at-member (smallDays n) i l))
 
 pub totals : map (λ n. length (joined (smallDays n))) (1 ∷ 2 ∷ 3 ∷ 4 ∷ 5 ∷ 6 ∷ 7 ∷ 8 ∷ []) ≡ 16 ∷ 32 ∷ 96 ∷ 320 ∷ 1_120 ∷ 4_032 ∷ 14_784 ∷ 54_912 ∷ []
 unfolding smallDays days ways

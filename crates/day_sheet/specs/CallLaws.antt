@@ -3,10 +3,9 @@ use mathlib.Core.Path.{_≡_, refl, sym, ap, subst, _∙_}
 use mathlib.Core.Bool.{Bool, true, false}
 use mathlib.Core.Logic.{dite}
 use mathlib.Core.List.{List}
-use Prim.Native.Nat.{ℕ, _*_, _≤_, _<_}
+use Prim.Native.Nat.{ℕ, _+_, _*_, _/_, _≤_, _<_}
 use native.Mathlib.Decide.{decLt}
 use native.Mathlib.Omega.{arith}
-use lib.Dec.{ltb}
 use lib.ListN.{length}
 use borrow.Author.Tests.{lt-ltb, le-ltb}
 use Rattle.gate.specs.Outcome.{Outcome, refused, result, question, written}
@@ -15,10 +14,11 @@ use Rattle.figure.specs.FourModes.{Amounts}
 use Rattle.figure.specs.Mode.{modeInUse}
 use Rattle.hill.specs.Log.{Record, openedOf}
 use Rattle.chunk.specs.Chunk.{wholeLog}
-use Rattle.chunk.specs.Laws.{is-log}
-use Rattle.day_sheet.specs.Sheet.{pageText, sheetOutcome}
-use Rattle.day_sheet.specs.Claims.{IsPage, TurnsAway, WritesPage}
-use Rattle.day_sheet.specs.PageLaws.{is-page}
+use Rattle.chunk.specs.Laws.{is-log, refused-low}
+use Rattle.log_records.specs.NumberLaws.{counted-from-0}
+use Rattle.day_sheet.specs.Sheet.{pageText, pageOutcome, sheetOutcome}
+use Rattle.day_sheet.specs.Claims.{IsPage, AllPages, TurnsAway, WritesPage}
+use Rattle.day_sheet.specs.PageLaws.{lines-length, page-length, tells, is-page, pages-whole}
 
 module _ (log : List ℕ) (mode page cap : ℕ) where
   pub out-of-use : modeInUse mode ≡ false → sheetOutcome log mode page cap ≡ refused 1
@@ -31,11 +31,11 @@ module _ (log : List ℕ) (mode page cap : ℕ) where
     at-fault e = rw (u, e)
 
     module _ {xs : List (Record Amounts)} (e : wholeLog log ≡ result xs) where
-      pub let-through : sheetOutcome log mode page cap ≡ question 18 (ltb (60 * page) (openedOf xs)) (written cap (pageText mode page xs))
+      pub let-through : sheetOutcome log mode page cap ≡ pageOutcome mode page cap xs
       unfolding sheetOutcome
       let-through = rw (u, e)
 
-      pub past-last : openedOf xs ≤ 60 * page → sheetOutcome log mode page cap ≡ refused 18
+      past-last : openedOf xs ≤ 60 * page → sheetOutcome log mode page cap ≡ refused 18
       past-last h = let-through ∙ ap (λ t. question 18 t (written cap (pageText mode page xs))) (le-ltb (60 * page) (openedOf xs) h)
 
       pub starts : 60 * page < openedOf xs → sheetOutcome log mode page cap ≡ written cap (pageText mode page xs)
@@ -49,13 +49,25 @@ module _ (log : List ℕ) (mode page cap : ℕ) where
       only-past : sheetOutcome log mode page cap ≡ refused 18 → openedOf xs ≤ 60 * page
       only-past h = dite (decLt (60 * page) (openedOf xs)) (λ l. absurd (not-18 (pageText mode page xs) (sym (starts l) ∙ h))) (λ l. omega arith)
 
+  -- 18 is answered for no other reason
+  only-18 : sheetOutcome log mode page cap ≡ refused 18 → (modeInUse mode ≡ true) × ((xs : List (Record Amounts)) × (wholeLog log ≡ result xs) × (openedOf xs ≤ 60 * page))
+  only-18 h = by-use (modeInUse mode) refl
+    where
+      by-log : modeInUse mode ≡ true → (o : Outcome (List (Record Amounts))) → wholeLog log ≡ o → (xs : List (Record Amounts)) × (wholeLog log ≡ result xs) × (openedOf xs ≤ 60 * page)
+      by-log u (refused n) e = absurd (omega (arith, refused-low log n e, one-number (sym (at-fault u e) ∙ h)))
+      by-log u (result xs) e = (xs, e, only-past u e h)
+
+      by-use : (t : Bool) → modeInUse mode ≡ t → (modeInUse mode ≡ true) × ((xs : List (Record Amounts)) × (wholeLog log ≡ result xs) × (openedOf xs ≤ 60 * page))
+      by-use false u = absurd (omega (arith, one-number (sym (out-of-use u) ∙ h)))
+      by-use true u = (u, by-log u (wholeLog log) refl)
+
   -- TURNED AWAY where it is due; all else is written.
   pub turns-away : TurnsAway log mode page cap
   turns-away = record {
     by-mode = out-of-use;
     by-fault = λ u n e. at-fault u e;
-    past-the-last = λ u xs e. (only-past u e, past-last u e);
-    else-written = λ u xs e l. (pageText mode page xs, is-page mode u (is-log log xs e .formed) page l, starts u e l);
+    past-the-last = (only-18, λ w. past-last (w .0) (w .1 .1) (w .1 .2));
+    else-written = λ u xs e l. (is-page mode u (is-log log xs e .formed) page l, starts u e l);
   }
 
   -- WHAT THE CALL WRITES.
@@ -77,3 +89,15 @@ module _ (log : List ℕ) (mode page cap : ℕ) where
       by-use : (t : Bool) → modeInUse mode ≡ t → WritesPage log mode page cap w
       by-use false u = absurd (not-result 1 w (sym (out-of-use u) ∙ r))
       by-use true u = by-log u (wholeLog log) refl
+
+-- ALL PAGES PUT ONE AFTER ANOTHER.
+pub all-pages : (log : List ℕ) (mode : ℕ) → modeInUse mode ≡ true → {xs : List (Record Amounts)} → wholeLog log ≡ result xs → AllPages log mode xs ((openedOf xs + 59) / 60)
+all-pages log mode u {xs} e = record {
+  whole = pages-whole mode xs ((openedOf xs + 59) / 60) (omega arith);
+  a-record = lines-length mode 0 xs;
+  each = tells mode u (is-log log xs e .formed);
+  counted = counted-from-0 xs;
+  full = λ n l. omega (arith, page-length mode n xs);
+  starts = λ n. (λ h. omega arith, λ h. omega arith);
+  printed = λ n l cap. starts log mode n cap u e (omega arith);
+}

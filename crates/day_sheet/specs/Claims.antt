@@ -15,13 +15,13 @@ use Rattle.hill.specs.Verdict.{pass}
 use Rattle.hill.specs.Log.{Record, openedOf, logFault}
 use Rattle.hill.specs.Closing.{ClosedBy}
 use Rattle.hill.specs.Tree.{Forest, nil, tree, write, value}
-use Rattle.hill.specs.Figure.{figureOf}
 use Rattle.hill.specs.OwnLog.{ownLog}
 use Rattle.hill.specs.Row.{joined}
-use Rattle.chunk.specs.Chunk.{wholeLog}
+use Rattle.chunk.specs.Chunk.{figureIn, wholeLog}
 use Rattle.chunk.specs.Laws.{IsLog}
 use Rattle.log_records.specs.Numbers.{IsRecord}
-use Rattle.day_sheet.specs.Sheet.{sheetLine, sheetLines, pageText, sheetOutcome}
+use Rattle.log_records.specs.Claims.{CountedFrom0}
+use Rattle.day_sheet.specs.Sheet.{sheetLine, sheetLines, pageLines, pageText, sheetOutcome}
 
 -- Each number fits its columns.
 pub record InColumns (number depth : ℕ) (figure : ℤ) : Type 0 where
@@ -30,12 +30,12 @@ pub record InColumns (number depth : ℕ) (figure : ℤ) : Type 0 where
   pub figure-fits : length (decimalOf figure) ≤ 16
 
 -- What a line reads back to: the numbers in its first 6 columns, in the 2 after the blank, and in the 16 after the next.
-pub record Printed : Type 0 where
+pub record LineRead : Type 0 where
   pub number : ℕ
   pub depth : ℕ
   pub figure : ℤ
 
-abbrev pub readLine : List ℕ → Printed
+abbrev pub readLine : List ℕ → LineRead
 readLine s = record { number = readDigits (afterBlanks (take 6 s)); depth = readDigits (afterBlanks (take 2 (drop 7 s))); figure = readDecimal (afterBlanks (take 16 (drop 10 s))) }
 
 module _ (mode : ℕ) (xs : List (Record Amounts)) where
@@ -43,7 +43,7 @@ module _ (mode : ℕ) (xs : List (Record Amounts)) where
   -- fault; the figure z is that log's, and that of the one tree whose traversal it is.
   pub record IsOwnFigure (p q d : ℕ) (z : ℤ) : Type 0 where
     pub fine : logFault (ownLog xs p q d) ≡ pass
-    pub of-log : z ≡ modeOf mode .store (figureOf (modeOf mode .algebra) (ownLog xs p q d))
+    pub of-log : z ≡ figureIn mode (ownLog xs p q d)
     pub root : Amounts
     pub below : Forest Amounts
     pub traversal : write 0 (tree root below nil) ≡ ownLog xs p q d
@@ -80,22 +80,25 @@ module _ (mode : ℕ) (xs : List (Record Amounts)) where
   pagesUpTo zero = []
   pagesUpTo (suc n) = pagesUpTo n ++ pageText mode n xs
 
-  -- All pages of a log put one after another: its lines, one for each opened record, in log order. Page n is one of them exactly if it does not start past the
-  -- last record.
-  pub record AllPages (count : ℕ) : Type 0 where
-    pub whole : pagesUpTo count ≡ joined (sheetLines mode xs)
-    pub a-record : length (sheetLines mode xs) ≡ openedOf xs
-    pub each : (n : ℕ) → n < openedOf xs → TellsOf n (getD (sheetLines mode xs) n [])
-    pub starts : (n : ℕ) → (n < count) ↔ (60 * n < openedOf xs)
+-- All pages of a log put one after another: its lines, one for each opened record, "in log order". There are `count` of them, each of 60 lines but the last; page n
+-- is one exactly if it does not start past the last record, and then it is what the call prints.
+pub record AllPages (log : List ℕ) (mode : ℕ) (xs : List (Record Amounts)) (count : ℕ) : Type 0 where
+  pub whole : pagesUpTo mode xs count ≡ joined (sheetLines mode xs)
+  pub a-record : length (sheetLines mode xs) ≡ openedOf xs
+  pub each : (n : ℕ) → n < openedOf xs → TellsOf mode xs n (getD (sheetLines mode xs) n [])
+  pub counted : CountedFrom0 xs
+  pub full : (n : ℕ) → suc n < count → length (pageLines mode n xs) ≡ 60
+  pub starts : (n : ℕ) → (n < count) ↔ (60 * n < openedOf xs)
+  pub printed : (n : ℕ) → n < count → (cap : ℕ) → sheetOutcome log mode n cap ≡ written cap (pageText mode n xs)
 
--- "Turned away": 1 and the log's faults first, by their numbers. Then 18, exactly "when the page starts past the last record". All else is written, unless it does
--- not fit: `written`, of question 12.
+-- "Turned away": 1 and the log's faults first, by their numbers. Then 18, exactly "when the page starts past the last record" of a log that is let through. All
+-- else is the page, unless it does not fit: `written`, of question 12.
 pub record TurnsAway (log : List ℕ) (mode page cap : ℕ) : Type 0 where
   pub by-mode : modeInUse mode ≡ false → sheetOutcome log mode page cap ≡ refused 1
   pub by-fault : modeInUse mode ≡ true → (n : ℕ) → wholeLog log ≡ refused n → sheetOutcome log mode page cap ≡ refused n
-  pub past-the-last : modeInUse mode ≡ true → (xs : List (Record Amounts)) → wholeLog log ≡ result xs → (sheetOutcome log mode page cap ≡ refused 18) ↔ (openedOf xs ≤ 60 * page)
+  pub past-the-last : (sheetOutcome log mode page cap ≡ refused 18) ↔ ((modeInUse mode ≡ true) × ((xs : List (Record Amounts)) × (wholeLog log ≡ result xs) × (openedOf xs ≤ 60 * page)))
   pub else-written : modeInUse mode ≡ true → (xs : List (Record Amounts)) → wholeLog log ≡ result xs → 60 * page < openedOf xs
-      → (w : List ℕ) × IsPage mode xs page w × (sheetOutcome log mode page cap ≡ written cap w)
+      → IsPage mode xs page (pageText mode page xs) × (sheetOutcome log mode page cap ≡ written cap (pageText mode page xs))
 
 -- What the call writes: a page of a log that was let through.
 pub record WritesPage (log : List ℕ) (mode page cap : ℕ) (w : List ℕ) : Type 0 where

@@ -16,7 +16,7 @@ use Rattle.figure.specs.Mode.{modeOf, modeInUse}
 use Rattle.figure.specs.Bound.{sizeHeld}
 use Rattle.figure.specs.Stored.{by-mode}
 use Rattle.day_sheet.specs.Sheet.{sheetLine}
-use Rattle.day_sheet.specs.Claims.{InColumns, Printed, readLine}
+use Rattle.day_sheet.specs.Claims.{InColumns, LineRead, readLine}
 
 -- ---- a line
 
@@ -68,7 +68,7 @@ module _ {n d : ℕ} {z : ℤ} (c : InColumns n d z) where
       (ap (λ s. readDigits (afterBlanks (take 2 s))) from-depth ∙ ap (λ s. readDigits (afterBlanks s)) (take-at (rightAligned 2 (digitsOf d)) (32 ∷ figure-part) 2 depth-long) ∙ number-back 2 d)
       (ap (λ s. readDecimal (afterBlanks (take 16 s))) from-figure ∙ ap (λ s. readDecimal (afterBlanks s)) (take-at (rightAligned 16 (decimalOf z)) (10 ∷ []) 16 figure-long) ∙ decimal-back 16 z)
     where
-      three : {a b : ℕ} {c : ℤ} → a ≡ n → b ≡ d → c ≡ z → _≡_ {A = Printed} (record { number = a; depth = b; figure = c }) (record { number = n; depth = d; figure = z })
+      three : {a b : ℕ} {c : ℤ} → a ≡ n → b ≡ d → c ≡ z → _≡_ {A = LineRead} (record { number = a; depth = b; figure = c }) (record { number = n; depth = d; figure = z })
       three ea eb ec = rw (ea, eb, ec)
 
 -- ---- the numbers fit

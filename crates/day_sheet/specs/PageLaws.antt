@@ -1,11 +1,11 @@
 -- The lines of a log by their records: each tells of its own record, whose figure is that of its subtree as a log of its own. And the pages. Assumes nothing.
 use mathlib.Core.Path.{_≡_, refl, sym, ap, ap₂, subst, _∙_}
 use mathlib.Core.Bool.{true}
-use mathlib.Core.List.{List, [], _∷_, _++_, append-assoc}
-use Prim.Native.Nat.{ℕ, zero, suc, _+_, _-_, _*_, _/_, _≤_, _<_, min}
+use mathlib.Core.List.{List, [], _∷_, _++_}
+use Prim.Native.Nat.{ℕ, zero, suc, _+_, _-_, _*_, _≤_, _<_, min}
 use native.Mathlib.Omega.{arith}
 use lib.IntN.{ℤ, natAbs}
-use lib.ListN.{length, getD, take, drop, length-append, length-take, length-drop}
+use lib.ListN.{length, getD, take, drop, length-take, length-drop}
 use lib.Seq.{drop-cons, take-all, take-add, getD-take, getD-drop}
 use Rattle.figure.specs.FourModes.{Amounts}
 use Rattle.figure.specs.Mode.{modeOf, modeInUse}
@@ -18,7 +18,8 @@ use Rattle.hill.specs.FigureLaws.{log-tree}
 use Rattle.hill.specs.OwnLog.{ownLog}
 use Rattle.hill.specs.OwnLogLaws.{own-fine, own-figure, figure-size}
 use Rattle.hill.specs.Row.{joined}
-use Rattle.chunk.specs.Chunk.{IsWellFormed}
+use Rattle.hill.specs.RowLaws.{joined-append, joined-long}
+use Rattle.chunk.specs.Chunk.{figureIn, IsWellFormed}
 use Rattle.summary.specs.MergeBytes.{Readables}
 use Rattle.summary.specs.OutcomeLaws.{chunk-readable}
 use Rattle.log_records.specs.Numbers.{numberAt, IsRecord}
@@ -26,23 +27,13 @@ use Rattle.log_records.specs.NumberLaws.{counted-from-0, number-most}
 use Rattle.log_records.specs.Formed.{Formed, formed, closed-some}
 use Rattle.log_records.specs.CallLaws.{low-log}
 use Rattle.day_sheet.specs.Sheet.{sheetLine, linesFrom, sheetLines, pageLines, pageText}
-use Rattle.day_sheet.specs.Claims.{InColumns, readLine, IsOwnFigure, TellsOf, IsPage, pagesUpTo, AllPages}
+use Rattle.day_sheet.specs.Claims.{InColumns, readLine, IsOwnFigure, TellsOf, IsPage, pagesUpTo}
 use Rattle.day_sheet.specs.LineLaws.{line-27, line-back, most, in-columns, stored-within}
-
--- ---- lines put one after another
-
-pub joined-append : (ls ms : List (List ℕ)) → joined (ls ++ ms) ≡ joined ls ++ joined ms
-joined-append [] ms = refl
-joined-append (l ∷ ls) ms = ap (λ (s : List ℕ). l ++ s) (joined-append ls ms) ∙ sym (append-assoc l (joined ls) (joined ms))
-
-pub joined-length : (k : ℕ) (ls : List (List ℕ)) → ((i : ℕ) → i < length ls → length (getD ls i []) ≡ k) → length (joined ls) ≡ k * length ls
-joined-length k [] f = omega arith
-joined-length k (l ∷ ls) f = length-append l (joined ls) ∙ omega (arith, f 0 (omega arith), joined-length k ls (λ i h. f (suc i) (omega arith)))
 
 module _ (mode : ℕ) where
   -- The figure that is printed of the record opened at p.
   abbrev pub printed : List (Record Amounts) → (p : ℕ) → ℤ
-  printed xs p = modeOf mode .store (figureAt (modeOf mode .algebra) xs p)
+  printed xs p = figureIn mode (drop p xs)
 
   -- A LINE FOR EACH OPENED RECORD.
   pub lines-length : (n : ℕ) (xs : List (Record Amounts)) → length (linesFrom mode n xs) ≡ openedOf xs
@@ -54,7 +45,7 @@ module _ (mode : ℕ) where
   line-from : (n : ℕ) (xs : List (Record Amounts)) (p d : ℕ) → OpensAt xs p d → getD (linesFrom mode n xs) (numberAt xs p) [] ≡ sheetLine (n + numberAt xs p) d (printed xs p)
   line-from n [] p d o = absurd (opening-closing (closing 0) d 0 (o .0) (o .1) refl)
   line-from n (opening c r ∷ xs) zero d o =
-      ap₂ (λ (i j : ℕ). sheetLine i j (modeOf mode .store (figureOf (modeOf mode .algebra) (opening c r ∷ xs)))) (omega arith) (ap depth (o .1))
+      ap₂ (λ (i j : ℕ). sheetLine i j (figureIn mode (opening c r ∷ xs))) (omega arith) (ap depth (o .1))
   line-from n (closing c ∷ xs) zero d o = absurd (opening-closing (closing c) d c (o .0) (o .1) refl)
   line-from n (opening c r ∷ xs) (suc p) d o =
       let k : ℕ = numberAt xs p in
@@ -72,7 +63,7 @@ module _ (mode : ℕ) where
       ap (λ k. getD (sheetLines mode xs) k []) (sym (r .number)) ∙ line-from 0 xs p d (r .opens) ∙ ap (λ k. sheetLine k d (printed xs p)) e
 
   -- line i of a page
-  pub page-line : (page : ℕ) (xs : List (Record Amounts)) (i : ℕ) → i < 60 → getD (pageLines mode page xs) i [] ≡ getD (sheetLines mode xs) (60 * page + i) []
+  page-line : (page : ℕ) (xs : List (Record Amounts)) (i : ℕ) → i < 60 → getD (pageLines mode page xs) i [] ≡ getD (sheetLines mode xs) (60 * page + i) []
   page-line page xs i l = getD-take 60 (drop (60 * page) (sheetLines mode xs)) i [] l ∙ getD-drop (60 * page) (sheetLines mode xs) i []
 
   pub page-length : (page : ℕ) (xs : List (Record Amounts)) → length (pageLines mode page xs) ≡ min 60 (openedOf xs - 60 * page)
@@ -100,14 +91,16 @@ module _ (mode : ℕ) where
 
     -- EACH FIGURE IS THAT OF THE RECORD'S OWN SUBTREE.
     pub own-subtree : (p q d : ℕ) → ClosedBy xs p q d → IsOwnFigure mode xs p q d (printed xs p)
+    unfolding figureIn
     own-subtree p q d c =
         let fine = own-fine (modeOf mode .algebra) (modeOf mode .laws) xs (w .fine) p q d c in
-        let same : printed xs p ≡ modeOf mode .store (figureOf (modeOf mode .algebra) (ownLog xs p q d)) = ap (modeOf mode .store) (own-figure (modeOf mode .algebra) (modeOf mode .laws) xs (w .fine) p q d c) in
+        let same : printed xs p ≡ figureIn mode (ownLog xs p q d) = ap (modeOf mode .store) (own-figure (modeOf mode .algebra) (modeOf mode .laws) xs (w .fine) p q d c) in
         let t = log-tree (modeOf mode .algebra) (modeOf mode .laws) (ownLog xs p q d) fine in
         record { fine = fine; of-log = same; root = t .root; below = t .below; traversal = t .traversal; only = t .only; of-tree = same ∙ ap (modeOf mode .store) (t .its-figure) }
 
     -- THE NUMBERS FIT THEIR COLUMNS.
     light : (p d : ℕ) → OpensAt xs p d → natAbs (printed xs p) ≤ most
+    unfolding figureIn
     light p d o =
         let c = closed-some shape o in
         let e : figureAt (modeOf mode .algebra) xs p ≡ modeOf mode .algebra .node (o .0) (held (modeOf mode .algebra) (suc d) (drop (suc p) xs))
@@ -151,7 +144,7 @@ module _ (mode : ℕ) where
       is-page = record {
         lines = pageLines mode page xs;
         bytes = refl;
-        long = joined-length 27 (pageLines mode page xs) (λ i l. page-tells i l .long);
+        long = joined-long 27 (pageLines mode page xs) (λ i l. page-tells i l .long);
         some = omega (arith, page-length page xs);
         few = omega (arith, page-length page xs);
         full = λ h. omega (arith, page-length page xs);
@@ -159,11 +152,6 @@ module _ (mode : ℕ) where
         each = page-tells;
       }
 
-    -- ALL PAGES PUT ONE AFTER ANOTHER.
-    pub all-pages : AllPages mode xs ((openedOf xs + 59) / 60)
-    all-pages = record {
-      whole = pages-are xs ((openedOf xs + 59) / 60) ∙ ap joined (take-all (60 * ((openedOf xs + 59) / 60)) (sheetLines mode xs) (omega (arith, lines-length 0 xs)));
-      a-record = lines-length 0 xs;
-      each = tells;
-      starts = λ n. (λ h. omega arith, λ h. omega arith);
-    }
+  -- ALL PAGES PUT ONE AFTER ANOTHER, where there are enough for all records.
+  pub pages-whole : (xs : List (Record Amounts)) (n : ℕ) → openedOf xs ≤ 60 * n → pagesUpTo mode xs n ≡ joined (sheetLines mode xs)
+  pages-whole xs n h = pages-are xs n ∙ ap joined (take-all (60 * n) (sheetLines mode xs) (omega (arith, lines-length 0 xs)))

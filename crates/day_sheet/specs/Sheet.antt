@@ -8,11 +8,10 @@ use Rattle.gate.specs.Outcome.{Outcome, question, onward, written}
 use Rattle.text.specs.Decimal.{digitsOf, decimalOf}
 use Rattle.text.specs.Columns.{rightAligned}
 use Rattle.figure.specs.FourModes.{Amounts}
-use Rattle.figure.specs.Mode.{modeOf, modeInUse}
+use Rattle.figure.specs.Mode.{modeInUse}
 use Rattle.hill.specs.Log.{Record, opening, closing, openedOf}
-use Rattle.hill.specs.Figure.{figureOf}
 use Rattle.hill.specs.Row.{joined}
-use Rattle.chunk.specs.Chunk.{wholeLog}
+use Rattle.chunk.specs.Chunk.{figureIn, wholeLog}
 
 -- A LINE: "the record number in 6 columns, a blank, the depth in 2, a blank, the figure in 16, all right-aligned and filled with blanks, then a newline".
 unfoldable pub sheetLine : (number depth : ℕ) (figure : ℤ) → List ℕ
@@ -22,7 +21,7 @@ sheetLine n d f = rightAligned 6 (digitsOf n) ++ (32 ∷ (rightAligned 2 (digits
 -- record's own subtree": that of the record which the log from there on begins with (`PageLaws.own-subtree` says it of the subtree as a log of its own).
 abbrev pub linesFrom : (mode n : ℕ) → List (Record Amounts) → List (List ℕ)
 linesFrom mode n [] = []
-linesFrom mode n (opening d r ∷ xs) = sheetLine n d (modeOf mode .store (figureOf (modeOf mode .algebra) (opening d r ∷ xs))) ∷ linesFrom mode (suc n) xs
+linesFrom mode n (opening d r ∷ xs) = sheetLine n d (figureIn mode (opening d r ∷ xs)) ∷ linesFrom mode (suc n) xs
 linesFrom mode n (closing d ∷ xs) = linesFrom mode n xs
 
 abbrev pub sheetLines : (mode : ℕ) → List (Record Amounts) → List (List ℕ)
@@ -35,7 +34,10 @@ pageLines mode page xs = take 60 (drop (60 * page) (sheetLines mode xs))
 unfoldable pub pageText : (mode page : ℕ) → List (Record Amounts) → List ℕ
 pageText mode page xs = joined (pageLines mode page xs)
 
--- PRINTING A PAGE, "for a well-formed log of one chunk, a mode and a page". 18, "after the log's faults and before 12, when the page starts past the last record".
+-- "18, after the log's faults and before 12, when the page starts past the last record".
+abbrev pub pageOutcome : (mode page cap : ℕ) → List (Record Amounts) → Outcome (List ℕ)
+pageOutcome mode page cap xs = question 18 (ltb (60 * page) (openedOf xs)) (written cap (pageText mode page xs))
+
+-- PRINTING A PAGE, "for a well-formed log of one chunk, a mode and a page".
 unfoldable pub sheetOutcome : (log : List ℕ) (mode page cap : ℕ) → Outcome (List ℕ)
-sheetOutcome log mode page cap =
-    question 1 (modeInUse mode) (onward (wholeLog log) (λ xs. question 18 (ltb (60 * page) (openedOf xs)) (written cap (pageText mode page xs))))
+sheetOutcome log mode page cap = question 1 (modeInUse mode) (onward (wholeLog log) (pageOutcome mode page cap))

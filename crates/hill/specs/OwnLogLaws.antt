@@ -34,7 +34,7 @@ module _ {R : Type 0} where
 
   -- ---- no more records are opened in a part
 
-  opened-take : (n : ℕ) (xs : List (Record R)) → openedOf (take n xs) ≤ openedOf xs
+  pub opened-take : (n : ℕ) (xs : List (Record R)) → openedOf (take n xs) ≤ openedOf xs
   opened-take zero xs = omega arith
   opened-take (suc n) [] = omega arith
   opened-take (suc n) (x ∷ xs) = omega (arith, opened-take n xs)

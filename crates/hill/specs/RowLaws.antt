@@ -2,9 +2,10 @@
 use mathlib.Core.Path.{_≡_, refl, sym, subst, _∙_}
 use mathlib.Core.Bool.{Bool, true, false, cond}
 use mathlib.Core.List.{List, [], _∷_, _++_, map, map-append, append-assoc}
-use Prim.Native.Nat.{ℕ, zero, suc, _+_, _/_, _≤_}
+use Prim.Native.Nat.{ℕ, zero, suc, _+_, _*_, _/_, _≤_, _<_}
+use native.Mathlib.Nat.{mul-suc}
 use native.Mathlib.Omega.{arith}
-use lib.ListN.{length, take, drop, length-take, length-drop, take-append-drop}
+use lib.ListN.{length, getD, take, drop, length-append, length-take, length-drop, take-append-drop}
 use Rattle.algebra.specs.Algebra.{Algebra, Laws}
 use Rattle.gate.specs.Outcome.{Outcome, refused, result}
 use Rattle.hill.specs.Log.{Record}
@@ -76,12 +77,20 @@ module _ {S A B : Type 0} (φ : S → A) (g : List S → B → Outcome S) (f : L
           stays = ih .stays;
         }
 
--- Merging stretches leaves their joined records as they are.
-module _ {X B : Type 0} (fits : B → List X → Bool) where
+-- Lists joined: those of two rows, and how long they are where all have one length.
+module _ {X : Type 0} where
   pub joined-append : (x y : List (List X)) → joined (x ++ y) ≡ joined x ++ joined y
   joined-append [] y = refl
   joined-append (a ∷ x) y = rw (joined-append x y, append-assoc a (joined x) (joined y))
 
+  pub joined-long : (k : ℕ) (row : List (List X)) → ((i : ℕ) → i < length row → length (getD row i []) ≡ k) → length (joined row) ≡ k * length row
+  joined-long k [] h = omega arith
+  joined-long k (x ∷ row) h =
+      let m : length (joined row) ≡ k * length row = joined-long k row (λ i l. h (suc i) (omega arith)) in
+      length-append x (joined row) ∙ rw (h 0 (omega arith), m, mul-suc k (length row)) (omega arith)
+
+-- Merging stretches leaves their joined records as they are.
+module _ {X B : Type 0} (fits : B → List X → Bool) where
   put-joined : (c : Call B) (st : List (List X)) → joined (put (fitting fits joined) (answer (fitting fits joined) c st) c st) ≡ joined st
   put-joined c st = go (fits (c .lent) (joined (take (c .many) (drop (c .place) st))))
     where

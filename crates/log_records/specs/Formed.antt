@@ -7,7 +7,7 @@ use native.Mathlib.Nat.{eq-or-lt-of-le}
 use native.Mathlib.Decide.{decLt}
 use native.Mathlib.Omega.{arith}
 use lib.ListN.{length}
-use Rattle.hill.specs.Verdict.{pass, ends}
+use Rattle.hill.specs.Verdict.{pass}
 use Rattle.hill.specs.Log.{Record, opening, closing, startLevel, endLevel, openedOf, logFault}
 use Rattle.hill.specs.Closing.{at, OpensAt, Closed}
 use Rattle.hill.specs.HeldPlaces.{opens-inside, first-close}

@@ -9,7 +9,7 @@ pub mod Formed
 pub mod GreatestLaws
 pub mod ChainLaws
 pub mod LineLaws
--- What a pass over the log keeps, and where it ends.
+-- What a pass over the log keeps, where it ends, and the figure that it has at a close.
 pub mod StackLaws
 pub mod CloseFigure
 -- What the call comes to.

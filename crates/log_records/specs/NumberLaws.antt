@@ -10,6 +10,7 @@ use lib.Seq.{take-nil}
 use Rattle.hill.specs.Log.{Record, opening, closing, openedOf, opens}
 use Rattle.hill.specs.Closing.{at, OpensAt}
 use Rattle.hill.specs.HeldPlaces.{opening-closing}
+use Rattle.hill.specs.OwnLogLaws.{opened-take}
 use Rattle.log_records.specs.Numbers.{numberAt, IsRecord}
 use Rattle.log_records.specs.Claims.{CountedFrom0}
 
@@ -58,9 +59,7 @@ module _ {R : Type 0} where
   number-mono (x ∷ xs) (suc k) (suc p) l = omega (arith, number-mono xs k p (omega arith))
 
   pub number-most : (log : List (Record R)) (k : ℕ) → numberAt log k ≤ openedOf log
-  number-most [] k = omega (arith, ap openedOf (take-nil {A = Record R} k))
-  number-most (x ∷ xs) zero = omega arith
-  number-most (x ∷ xs) (suc k) = omega (arith, number-most xs k)
+  number-most log k = opened-take k log
 
   order : (log : List (Record R)) (m n p q d e : ℕ) → IsRecord log m p d → IsRecord log n q e → (m < n) ↔ (p < q)
   order log m n p q d e a b = (

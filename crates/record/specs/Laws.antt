@@ -10,6 +10,7 @@ use lib.Dec.{T, leb, eqb, lit≤}
 use lib.IntN.{ℤ, pos, negsuc, natAbs}
 use borrow.Author.Tests.{lt-leb, leb-true, eqb-true}
 use Rattle.gate.specs.Outcome.{Outcome, refused, result}
+use Rattle.gate.specs.Laws.{not-result, one-number}
 use Rattle.number.specs.Bytes.{leAt}
 use Rattle.record.specs.Record.{within, inRange, accepted, whole, byShape, readOf, before, andThen, recordsIn, recordsOf, fullOpen, openWithBatch, shortFields, shortOpen, close}
 use Rattle.record.specs.declared.Fields.{Fields}
@@ -34,7 +35,7 @@ pub record Sound (s : List ℕ) (f : Fields) : Type 0 where
 
 abbrev SoundRead : List ℕ → Outcome Fields → Type 0
 SoundRead s (result f) = Sound s f
-SoundRead s (refused n) = Unit {0}
+SoundRead s (refused n) = n ≡ 3
 
 either : (P : Outcome Fields → Type 0) (b : Bool) (x y : Outcome Fields) → (b ≡ true → P x) → P y → P (cond b x y)
 either P true x y p q = p refl
@@ -43,7 +44,7 @@ either P false x y p q = q
 whole-sound : (s : List ℕ) (f : Fields) → 6 ≤ f .length → SoundRead s (whole s f)
 unfolding whole accepted
 whole-sound s f h =
-    either (SoundRead s) (leb (f .length) (length s)) (accepted f) (refused 3) (λ e. either (SoundRead s) (inRange (f .depth) (f .value) (f .floor) (f .ceiling)) (result f) (refused 3) (λ r. record { least-6 = h; inside = leb-true _ _ e; ranged = r }) tt) tt
+    either (SoundRead s) (leb (f .length) (length s)) (accepted f) (refused 3) (λ e. either (SoundRead s) (inRange (f .depth) (f .value) (f .floor) (f .ceiling)) (result f) (refused 3) (λ r. record { least-6 = h; inside = leb-true _ _ e; ranged = r }) refl) refl
 
 read-sound : (s : List ℕ) → SoundRead s (readOf s)
 unfolding readOf byShape
@@ -51,11 +52,15 @@ read-sound s =
     either (SoundRead s) (eqb (leAt 2 s 2) 1) _ _
     (λ _. either (SoundRead s) (eqb (leAt 2 s 0) 18) _ _ (λ _. whole-sound s (fullOpen s) (lit≤ tt))
     (either (SoundRead s) (eqb (leAt 2 s 0) 10) _ _ (λ _. whole-sound s (shortOpen s) (lit≤ tt))
-    (either (SoundRead s) (eqb (leAt 2 s 0) 22) _ _ (λ _. whole-sound s (openWithBatch s) (lit≤ tt)) tt)))
-    (either (SoundRead s) (eqb (leAt 2 s 2) 2) _ _ (λ _. either (SoundRead s) (eqb (leAt 2 s 0) 6) _ _ (λ _. whole-sound s (close s) (lit≤ tt)) tt) tt)
+    (either (SoundRead s) (eqb (leAt 2 s 0) 22) _ _ (λ _. whole-sound s (openWithBatch s) (lit≤ tt)) refl)))
+    (either (SoundRead s) (eqb (leAt 2 s 2) 2) _ _ (λ _. either (SoundRead s) (eqb (leAt 2 s 0) 6) _ _ (λ _. whole-sound s (close s) (lit≤ tt)) refl) refl)
 
 pub sound : (s : List ℕ) (f : Fields) → readOf s ≡ result f → Sound s f
 sound s f e = subst (SoundRead s) e (read-sound s)
+
+-- reading is refused by 3 alone
+read-3 : (s : List ℕ) (n : ℕ) → readOf s ≡ refused n → n ≡ 3
+read-3 s n e = subst (SoundRead s) e (read-sound s)
 
 pub and-left : (a b : Bool) → a && b ≡ true → a ≡ true
 and-left true b e = refl
@@ -143,6 +148,26 @@ same-suc n ih (suc m) (b ∷ s) h k = go (readOf (b ∷ s)) refl
 enough : (n : ℕ) → Same n
 enough zero = same-zero
 enough (suc n) = same-suc n (enough n)
+
+in-3 : (m : ℕ) (s : List ℕ) (n : ℕ) → recordsIn m s ≡ refused n → n ≡ 3
+unfolding recordsIn
+in-3 zero [] n e = absurd (not-result n [] (sym e))
+in-3 zero (b ∷ s) n e = sym (one-number e)
+in-3 (suc m) [] n e = absurd (not-result n [] (sym e))
+in-3 (suc m) (b ∷ s) n e = go (readOf (b ∷ s)) refl (λ f. in-3 m (drop (f .length) (b ∷ s)) n) e
+  where
+    rest : (f : Fields) (o : Outcome (List Fields)) → (o ≡ refused n → n ≡ 3) → before f o ≡ refused n → n ≡ 3
+    rest f (refused k) ih e = ih (ap refused (one-number e))
+    rest f (result fs) ih e = absurd (not-result n (f ∷ fs) (sym e))
+
+    go : (r : Outcome Fields) → readOf (b ∷ s) ≡ r → ((f : Fields) → recordsIn m (drop (f .length) (b ∷ s)) ≡ refused n → n ≡ 3) → andThen r (λ f. recordsIn m (drop (f .length) (b ∷ s))) ≡ refused n → n ≡ 3
+    go (refused k) h ih e = sym (one-number e) ∙ read-3 (b ∷ s) k h
+    go (result f) h ih e = rest f (recordsIn m (drop (f .length) (b ∷ s))) (ih f) e
+
+-- so is reading all
+pub records-3 : (s : List ℕ) (n : ℕ) → recordsOf s ≡ refused n → n ≡ 3
+unfolding recordsOf
+records-3 s n e = in-3 (length s) s n e
 
 pub records-nil : recordsOf [] ≡ result []
 unfolding recordsOf recordsIn

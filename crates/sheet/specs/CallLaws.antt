@@ -18,9 +18,9 @@ use Rattle.hill.specs.Log.{Record, openedOf}
 use Rattle.hill.specs.Row.{joined}
 use Rattle.chunk.specs.Laws.{IsLog, one-log}
 use Rattle.whole_log.specs.AskLaws.{Opens}
-use Rattle.day_sheet.specs.Sheet.{sheetLines, pageText}
+use Rattle.day_sheet.specs.Sheet.{sheetLines, pageText, pageOutcome}
 use Rattle.day_sheet.specs.PageLaws.{lines-length, is-page}
-use Rattle.sheet.specs.Contracts.{pageOutcome, linesAt, PageFits}
+use Rattle.sheet.specs.Contracts.{linesAt, PageFits}
 
 -- 60 lines, or as many as there are
 page-is : (mode page : ℕ) (xs : List (Record Amounts)) {first lines : ℕ} → first ≡ 60 * page → lines ≡ min 60 (openedOf xs - first) → joined (linesAt mode first lines xs) ≡ pageText mode page xs

@@ -7,19 +7,14 @@ use lib.Dec.{leb, ltb}
 use lib.IntN.{ℤ}
 use lib.ListN.{length, getD, take, drop}
 use lib.Seq.{sets}
-use Rattle.gate.specs.Outcome.{Outcome, question, written}
 use Rattle.figure.specs.FourModes.{Amounts}
 use Rattle.figure.specs.Mode.{modeOf, modeInUse}
 use Rattle.hill.specs.Log.{Record, openedOf}
 use Rattle.chunk.specs.Chunk.{IsWellFormed}
 use Rattle.slopes.specs.Actions.{Top, topFigure}
-use Rattle.day_sheet.specs.Sheet.{sheetLine, sheetLines, pageText}
+use Rattle.day_sheet.specs.Sheet.{sheetLine, sheetLines}
 use Rattle.day_sheet.specs.Claims.{InColumns}
 use Rattle.sheet.specs.declared.page.Progress.{Progress}
-
--- What is asked of a log that was let through: 18 and 12.
-abbrev pub pageOutcome : (mode page cap : ℕ) → List (Record Amounts) → Outcome (List ℕ)
-pageOutcome mode page cap xs = question 18 (ltb (60 * page) (openedOf xs)) (written cap (pageText mode page xs))
 
 -- So many lines of the sheet, from record `first` on.
 abbrev pub linesAt : (mode first lines : ℕ) → List (Record Amounts) → List (List ℕ)

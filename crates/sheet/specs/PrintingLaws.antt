@@ -25,7 +25,7 @@ use Rattle.hill.specs.HeldPlaces.{opening-closing, opens-inside}
 use Rattle.hill.specs.Summary.{Hill, rights}
 use Rattle.hill.specs.Building.{step, hillOf}
 use Rattle.hill.specs.Row.{joined}
-use Rattle.chunk.specs.Chunk.{IsWellFormed}
+use Rattle.chunk.specs.Chunk.{figureIn, IsWellFormed}
 use Rattle.chunk.specs.Laws.{is-open, is-close, one-log}
 use Rattle.summary.specs.Values.{tells-range}
 use Rattle.whole_log.specs.Second as second
@@ -77,15 +77,12 @@ module _ (xs : List (Record Amounts)) where
     few : openedOf (take k xs) ≤ 100_000
     few = omega (arith, number-most xs k, i .formed .few)
 
-    -- the hill of one record more
-    hill-next : (y : Record Amounts) → at xs k ≡ y → step (modeOf mode .algebra) (hillOf (modeOf mode .algebra) (take k xs)) y ≡ hillOf (modeOf mode .algebra) (take (suc k) xs)
-    hill-next y e = hill-more mode (take k xs) y ∙ ap (λ ys. hillOf (modeOf mode .algebra) ys) (sym (taken y e))
-      where
-        taken : (y : Record Amounts) → at xs k ≡ y → take (suc k) xs ≡ take k xs ++ (y ∷ [])
-        taken y e = take-suc xs k (closing 0) inside ∙ ap (λ x. take k xs ++ (x ∷ [])) e
-
     taken : (y : Record Amounts) → at xs k ≡ y → take k xs ++ (y ∷ []) ≡ take (suc k) xs
     taken y e = sym (take-suc xs k (closing 0) inside ∙ ap (λ x. take k xs ++ (x ∷ [])) e)
+
+    -- the hill of one record more
+    hill-next : (y : Record Amounts) → at xs k ≡ y → step (modeOf mode .algebra) (hillOf (modeOf mode .algebra) (take k xs)) y ≡ hillOf (modeOf mode .algebra) (take (suc k) xs)
+    hill-next y e = hill-more mode (take k xs) y ∙ ap (λ ys. hillOf (modeOf mode .algebra) ys) (taken y e)
 
     -- ---- an open
 
@@ -107,7 +104,7 @@ module _ (xs : List (Record Amounts)) where
         filled = λ p c o l a b. ⊎-elim (λ (g : p ≡ k). inl (List·Memᴰ·head g)) (λ g. ⊎-elim (λ m. inl (List·Memᴰ·tail m)) (λ m. inr m) (i .so-far .filled p c o g a b)) (eq-or-lt-of-le (omega arith));
       }
 
-      pub printing-open : {vs′ fs′ cs′ hs′ : List ℤ} {ns′ : List ℕ} {s′ : Progress} → d < 64 → InRange r → Pushed d (r .value) (r .floor) (r .ceiling) (none (modeOf mode)) vs fs cs hs vs′ fs′ cs′ hs′
+      printing-open : {vs′ fs′ cs′ hs′ : List ℤ} {ns′ : List ℕ} {s′ : Progress} → d < 64 → InRange r → Pushed d (r .value) (r .floor) (r .ceiling) (none (modeOf mode)) vs fs cs hs vs′ fs′ cs′ hs′
           → ns′ ≡ set ns d (s .opened) → s′ ≡ oneMore s → Printing xs mode first lines (suc k) before s′ vs′ fs′ cs′ hs′ ns′ out
       printing-open lt g p en es = rw (en, es) record {
         formed = i .formed;
@@ -158,12 +155,12 @@ module _ (xs : List (Record Amounts)) where
 
       -- what the arrays have at its depth makes up its figure
       top-figure : topFigure (modeOf mode) vs fs cs hs d ≡ printed mode xs (gone .top)
-      unfolding passed
+      unfolding passed figureIn
       top-figure = ap (modeOf mode .store) (sym (close-figure (modeOf mode .algebra) (modeOf mode .laws) xs k (gone .top) (gone .rest) inside open-stack closes-here
           (amounts (numberIn vs d) (numberIn fs d) (numberIn cs d)) (modeOf mode .read (numberIn hs d)) (downs (modeOf mode) vs fs cs hs d)
           (subst (λ (h : Hill (modeOf mode .algebra .Fig) Amounts). Carried (modeOf mode .algebra) (modeOf mode .laws) xs k (gone .top ∷ gone .rest) (rights h)) (sym (arrays-all .is)) carried-all)))
 
-      pub can-close : d ≤ 63 → Closes mode lines d s vs fs cs hs ns out
+      can-close : d ≤ 63 → Closes mode lines d s vs fs cs hs ns out
       can-close l = record {
         top = is-top {A = rising vs fs cs hs} able-here d refl refl;
         columns = subst (λ n. InColumns n d (topFigure (modeOf mode) vs fs cs hs d)) (sym top-number)
@@ -229,7 +226,7 @@ module _ (xs : List (Record Amounts)) where
           (λ j. subst (LinesSoFar xs mode first lines (suc k) (gone .rest) before) (on-page first lines n₀ d (printed mode xs (gone .top)) out (omega arith) j) (lines-more (omega arith) j))
           (λ j. subst (LinesSoFar xs mode first lines (suc k) (gone .rest) before) (after-page first lines n₀ d (printed mode xs (gone .top)) out (omega arith)) (lines-stay (λ u v. omega arith))))
 
-      pub printing-close : {hs′ : List ℤ} {out′ : List ℕ} {s′ : Progress} → ClosedTop (modeOf mode) vs fs cs hs d (s .middle) hs′ (s′ .middle)
+      printing-close : {hs′ : List ℤ} {out′ : List ℕ} {s′ : Progress} → ClosedTop (modeOf mode) vs fs cs hs d (s .middle) hs′ (s′ .middle)
           → out′ ≡ linePut first lines (getD ns d 0) d (topFigure (modeOf mode) vs fs cs hs d) out
           → s′ .opened ≡ s .opened → Printing xs mode first lines (suc k) before s′ vs fs cs hs′ ns out′
       printing-close {hs′} {out′} {s′} t eo es = record {
@@ -252,7 +249,7 @@ module _ (xs : List (Record Amounts)) where
 
   -- ---- the beginning and the end of the log
 
-  pub printing-start : {mode first lines : ℕ} {before : List ℕ} {vs fs cs hs : List ℤ} {ns : List ℕ} {s : Progress} → Formed xs → ((p d : ℕ) → OpensAt xs p d → InColumns (numberAt xs p) d (printed mode xs p))
+  printing-start : {mode first lines : ℕ} {before : List ℕ} {vs fs cs hs : List ℤ} {ns : List ℕ} {s : Progress} → Formed xs → ((p d : ℕ) → OpensAt xs p d → InColumns (numberAt xs p) d (printed mode xs p))
       → 27 * lines ≤ length before → length vs ≡ 64 → length fs ≡ 64 → length cs ≡ 64 → length hs ≡ 64 → length ns ≡ 64 → s .opened ≡ 0 → s .middle ≡ none (modeOf mode)
       → Printing xs mode first lines 0 before s vs fs cs hs ns before
   printing-start {mode} f columns room ev ef ec eh en eo em = record {
@@ -281,7 +278,7 @@ module _ (xs : List (Record Amounts)) where
         ap (λ q. sheetLine q (w .1) (printed mode xs (w .0))) (r .number) ∙
         sym (getD-take lines (drop first (sheetLines mode xs)) j [] m ∙ getD-drop first (sheetLines mode xs) j [] ∙ line-is mode xs r)
 
-    pub printing-end : out ≡ bufferAfter (result (joined (linesAt mode first lines xs))) before
+    printing-end : out ≡ bufferAfter (result (joined (linesAt mode first lines xs))) before
     printing-end =
         let n : 27 * length (linesAt mode first lines xs) ≡ 27 * lines = ap (λ q. 27 * q) long-lines in
         let t : take (27 * lines) out ≡ joined (linesAt mode first lines xs) = ap (λ q. take q out) (sym n) ∙ rows-joined (linesAt mode first lines xs) out each-row in

@@ -13,8 +13,7 @@ ghost use Rattle.figure.specs.Mode.{modeInUse};
 ghost use Rattle.hill.specs.Log.{Record};
 ghost use Rattle.whole_log.specs.AskLaws.{Opens};
 ghost use Rattle.chunk.specs.Laws.{IsLog};
-ghost use Rattle.day_sheet.specs.Sheet.{sheetOutcome};
-ghost use Rattle.sheet.specs.Contracts.{pageOutcome};
+ghost use Rattle.day_sheet.specs.Sheet.{pageOutcome, sheetOutcome};
 use gate::Written;
 use whole_log::LogAsked;
 
@@ -31,12 +30,12 @@ fn lines_from(first: u32, opened: u32) -> u32
 }
 
 // The page of a log that was let through: 18 and 12, and then its lines. 60 × page does not fit 32 bits for every page.
-fn put_page(log: &[u8], mode: u16, opened: u32, number: u32, out: &mut [u8]) -> Written
+fn put_page(log: &[u8], mode: u16, opened: u32, page: u32, out: &mut [u8]) -> Written
     requires { ⌜ modeInUse mode ≡ true ⌝ }
     requires { ⌜ Opens (now log) opened ⌝ }
-    ensures { λ r. ⌜ ((xs : List (Record Amounts)) → IsLog (now (log .entry)) xs → Answers (pageOutcome mode number (length (now (out .entry))) xs) (now (out .entry)) (now (out .exit)) r) ⌝ }
+    ensures { λ r. ⌜ ((xs : List (Record Amounts)) → IsLog (now (log .entry)) xs → Answers (pageOutcome mode page (length (now (out .entry))) xs) (now (out .entry)) (now (out .exit)) r) ⌝ }
 {
-    let starts = 60 * (number as u64);
+    let starts = 60 * (page as u64);
     if (opened as u64) <= starts {
         return Written::Refused(18);
     }

@@ -1,8 +1,9 @@
-// The lines of a page. A record's figure is known when the record is closed, which may be long after the last record of the page is opened; where its line stands is
-// known by its number. So each line is written at the close of its record, and nothing is kept but the records that are open: no line, and no figure of a closed one.
+// The lines of a page. A record's figure is known when the record is closed, which may be long after the last record of the page is opened; where its line
+// stands is known by its number. So each line is written at the close of its record. Beside a count and the middle value only the open records are kept: no line,
+// and no figure of a closed record.
 ghost use mathlib.Core.Path.{_≡_};
 ghost use mathlib.Core.List.{List};
-ghost use Prim.Native.Nat.{ℕ, suc, _+_, _*_, _≤_, _<_};
+ghost use Prim.Native.Nat.{_*_, _≤_, _<_};
 ghost use lib.ListN.{length, getD, set};
 ghost use Rattle.gate.specs.Outcome.{result, bufferAfter};
 ghost use Rattle.figure.specs.FourModes.{Amounts};
@@ -19,7 +20,7 @@ use super::line;
 use record::Fields;
 use record::Read;
 
-// What the pass keeps beside the open records: how many records are opened so far, and the middle value.
+// What the pass keeps beside the open records: how many records are opened so far, and the middle value, which `slopes::add` asks for and no line shows.
 pub struct Progress {
     pub opened: u32,
     pub middle: i64,
@@ -75,7 +76,7 @@ fn open_record(
     }
 }
 
-// A close: the record's figure joins the level below, and is printed.
+// A close: the record's figure joins the level below, and is printed where its line is on the page.
 fn close_record(
     mode: u16,
     first: u32,

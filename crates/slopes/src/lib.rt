@@ -1,6 +1,5 @@
-// A hill under construction in five arrays and three numbers, in any mode: what summarising, merging and the day's figures share.
+// A hill under construction in five arrays and three numbers, in any mode: what summarising, merging, the day's figures and the sheet share.
 ghost use mathlib.Core.Path.{_≡_};
-ghost use mathlib.Core.List.{[], _∷_};
 ghost use Prim.Native.Nat.{ℕ, _+_, _<_};
 ghost use lib.IntN.{ℤ};
 ghost use Rattle.hill.specs.Building.{close as closeHill, step};

@@ -1,4 +1,4 @@
--- Decimal text.
+-- Decimal text, and text in columns.
 pub mod Decimal
 pub mod Columns
 pub mod DecimalLaws

@@ -69,12 +69,8 @@ pub fn write_item(out: &mut [u8], at: usize, x: i64, after: u8) -> usize
 fn decimal_length(x: i64) -> usize
     ensures { λ r. ⌜ r ≡ length (decimalOf x) ⌝ }
 {
-    let bits = number::bits_64(x);
-    if bits < 0x8000_0000_0000_0000 {
-        count_digits(bits)
-    } else {
-        1 + count_digits(0xffff_ffff_ffff_ffff - bits + 1)
-    }
+    let digits = count_digits(number::magnitude(x));
+    if x < 0 { digits + 1 } else { digits }
 }
 
 // Blanks from one position to another.

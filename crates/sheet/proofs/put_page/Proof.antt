@@ -11,7 +11,7 @@ mul-starts : tie.Need-mul-starts
 mul-starts c = search needs
 
 returns : tie.Need-returns
-returns c xs i = let a = c .before .before .before in past (a .args .mode) (a .args .number) (a .pre .0) (a .pre .1) xs i (now (a .args .out)) (omega arith)
+returns c xs i = let a = c .before .before .before in past (a .args .mode) (a .args .page) (a .pre .0) (a .pre .1) xs i (now (a .args .out)) (omega arith)
 
 cast-first : tie.Need-cast-first
 cast-first c = search needs
@@ -26,7 +26,7 @@ mul-total : tie.Need-mul-total
 mul-total c = search needs
 
 returns-2 : tie.Need-returns-2
-returns-2 c xs i = let a = c .before .before .before .before .before in short (a .args .mode) (a .args .number) (a .pre .0) (a .pre .1) xs i (omega arith) refl (c .before .lines-from .ensures) (now (a .args .out)) (omega arith)
+returns-2 c xs i = let a = c .before .before .before .before .before in short (a .args .mode) (a .args .page) (a .pre .0) (a .pre .1) xs i (omega arith) refl (c .before .lines-from .ensures) (now (a .args .out)) (omega arith)
 
 print-requires : tie.Need-print-requires
 print-requires c κs = let a = c .before .before .before .before .before .before in page-fits (a .pre .0) (a .pre .1) (omega arith) (c .before .before .lines-from .ensures) (omega arith)
@@ -35,7 +35,7 @@ same-length : tie.Need-same-length
 same-length c = search needs
 
 returns-3 : tie.Need-returns-3
-returns-3 c xs i = let a = c .before .before .before .before .before .before .before .before .before in put (a .args .mode) (a .args .number) (a .pre .0) (a .pre .1) xs i (omega arith) refl (c .before .before .before .before .before .lines-from .ensures) (now (a .args .out)) refl (omega arith) (c .before .before .print .ensures xs (i .formed))
+returns-3 c xs i = let a = c .before .before .before .before .before .before .before .before .before in put (a .args .mode) (a .args .page) (a .pre .0) (a .pre .1) xs i (omega arith) refl (c .before .before .before .before .before .lines-from .ensures) (now (a .args .out)) refl (omega arith) (c .before .before .print .ensures xs (i .formed))
 
 pub put-page-spec : {M : Type 1} → statement M
 put-page-spec =

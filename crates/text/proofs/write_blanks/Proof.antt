@@ -1,3 +1,4 @@
+-- `text::write_blanks` meets its contract: what is blank, with what is left, is all. Assumes nothing.
 use mathlib.Core.Path.{refl}
 use Prim.Native.Nat.{_-_}
 use native.Mathlib.Omega.{arith}

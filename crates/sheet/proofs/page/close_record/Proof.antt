@@ -62,9 +62,11 @@ returns : tie.Need-returns
 returns c =
     let t = c .before .before .before .before .before .before .before .before in
     let a = t .before .before .before in
-    let add = c .before .before .before .before .before .add in
-    (rw (back w64 (add .result) (add .ok)) (rw (middle-is (c .before .before .before .before .before .before), figure-is t) at (add .ensures)),
-    c .before .before .put-line .ensures ∙ ap (λ (z : ℤ). linePut (a .args .first) (a .args .lines) (getD (now (a .args .numbers)) (a .args .depth) 0) (a .args .depth) z (now (a .args .out))) (figure-is t), refl)
+    let add = c .before .before .before .before .before .add in (
+      rw (back w64 (add .result) (add .ok)) (rw (middle-is (c .before .before .before .before .before .before), figure-is t) at (add .ensures)),
+      c .before .before .put-line .ensures ∙ ap (λ (z : ℤ). linePut (a .args .first) (a .args .lines) (getD (now (a .args .numbers)) (a .args .depth) 0) (a .args .depth) z (now (a .args .out))) (figure-is t),
+      refl,
+    )
 
 pub close-record-spec : {M : Type 1} → statement M
 close-record-spec =
