@@ -49,8 +49,9 @@ enum tulghimo_refusal {
     TULGHIMO_REFUSED_OPENED_COUNT = 14,     /* the number of opened records asked for is not 1 to 8 */
     TULGHIMO_REFUSED_NOT_A_RUN = 15,        /* the bytes are not exactly one run of a mode in use, or a number in it does not fit */
     TULGHIMO_REFUSED_NO_WAY_BACK = 16,      /* the run is of mode 2 or 5, where there is no way back */
-    TULGHIMO_REFUSED_OUTER_FIGURE = 17      /* the outer figure is out of the range of the run's mode: -10^14 to 10^14 in mode 1, 0
+    TULGHIMO_REFUSED_OUTER_FIGURE = 17,     /* the outer figure is out of the range of the run's mode: -10^14 to 10^14 in mode 1, 0
                                                to 2^32 - 1 in mode 4 */
+    TULGHIMO_REFUSED_NO_SUCH_PAGE = 18      /* the page starts past the last record */
 };
 
 /* Lengths in bytes. A buffer of the longest is never too short; the longest chunk and the longest table taken are lengths of
@@ -68,7 +69,9 @@ enum tulghimo_length {
     TULGHIMO_LONGEST_LOG_WRITTEN = 2730 * (18 + 6),            /* an open and a close for each line */
     TULGHIMO_LONGEST_TABLE_READ = 4096 * TULGHIMO_TABLE_LINE,  /* of a log of 65,536 bytes: 4,096 short opens and their closes */
     TULGHIMO_LONGEST_SMALL_DAYS = 429 * 8 * (10 + 6),          /* 429 logs of 8 short opens and their closes */
-    TULGHIMO_LONGEST_HEAVIEST_LINE = 64 * 4                    /* a number of 32 bits for each depth from 0 to 63 */
+    TULGHIMO_LONGEST_HEAVIEST_LINE = 64 * 4,                   /* a number of 32 bits for each depth from 0 to 63 */
+    TULGHIMO_SHEET_LINE = 27, /* text: number in 6 columns, depth in 2, figure in 16, a blank between, a newline */
+    TULGHIMO_LONGEST_PAGE = 60 * TULGHIMO_SHEET_LINE
 };
 
 /* The first record of a chunk: 0 and kind (1 open, 2 close), length, depth, value, floor, ceiling and batch (the last four 0 for a
@@ -153,6 +156,14 @@ int64_t tulghimo_backwards(const uint8_t *run, size_t n, int64_t y, int64_t x[1]
  * tulghimo_day. At each step the one taken has the greatest figure of those held; of several the earliest. Their length in all, 4 to
  * 256, or -2, -3, -7, -8, -10, -11 or -12. (No log of this length has enough records for -9.) */
 int64_t tulghimo_heaviest_line(const uint8_t *log, size_t n, uint8_t *out, size_t cap);
+
+/* A page of the sheet of a whole log, of the length of a chunk, in a mode: a line for every opened record, 60 to the page in log
+ * order, fewer only on the last. Pages are counted from 0. A line is text of 27 bytes: the record's number in 6 columns, a blank, its
+ * depth in 2, a blank, its figure in 16, all right-aligned and filled with blanks, then a newline; no byte 0 ends the text. Numbers
+ * are those of tulghimo_heaviest_line. A figure is that of the record's own subtree: what tulghimo_day would answer if that alone
+ * were the log. The length of the page, or, in this order, -1, -2, -3, -7, -8, -10, -11, -18 or -12. (No log of this length has
+ * enough records for -9.) -18 where the page starts past the last record, for any 32-bit number: a log has at most 69 pages. */
+int64_t tulghimo_sheet(const uint8_t *log, size_t n, uint32_t mode, uint32_t page, uint8_t *out, size_t cap);
 
 #ifdef __cplusplus
 }

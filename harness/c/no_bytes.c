@@ -63,6 +63,10 @@ static void nothing_in(void) {
     is("backwards, y beyond", tulghimo_backwards(NULL, 0, INT64_MIN, numbers), -15);
     is("heaviest_line", tulghimo_heaviest_line(NULL, 0, NULL, 0), -10);
     is("heaviest_line, a buffer", tulghimo_heaviest_line(NULL, 0, out, sizeof out), -10);
+    is("sheet", tulghimo_sheet(NULL, 0, 1, 0, NULL, 0), -10);
+    is("sheet, a buffer", tulghimo_sheet(NULL, 0, 5, 0, out, sizeof out), -10);
+    is("sheet, mode 3", tulghimo_sheet(NULL, 0, 3, 0, NULL, 0), -1);
+    is("sheet, any page", tulghimo_sheet(NULL, 0, 1, UINT32_MAX, NULL, 0), -10);
     untouched("numbers", numbers, 7);
     is("the blank in the buffer", memcmp(out, blanks, sizeof out), 0);
 }
@@ -83,6 +87,9 @@ static void nowhere_out(void) {
     is("small_days, n = 8", tulghimo_small_days(8, NULL, 0), -12);
     is("small_days, n = 9", tulghimo_small_days(9, NULL, 0), -14);
     is("heaviest_line of a log", tulghimo_heaviest_line(whole_log, sizeof whole_log, NULL, 0), -12);
+    is("sheet of a log", tulghimo_sheet(whole_log, sizeof whole_log, 1, 0, NULL, 0), -12);
+    is("sheet of a log, the next page", tulghimo_sheet(whole_log, sizeof whole_log, 1, 1, NULL, 0), -18);
+    is("sheet of a log, mode 3", tulghimo_sheet(whole_log, sizeof whole_log, 3, 0, NULL, 0), -1);
 }
 
 int main(void) {

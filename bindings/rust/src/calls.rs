@@ -6,7 +6,7 @@ use crate::{raw, Figures, Kind, Line, Mode, Record, Refusal, Run, TableLine, Wor
 fn answer(status: i64) -> Result<usize, Refusal> {
     match usize::try_from(status) {
         Ok(number) => Ok(number),
-        Err(_) => Err(Refusal::from_number(-status).expect("a refusal has a number from 1 to 17")),
+        Err(_) => Err(Refusal::from_number(-status).expect("a refusal has a number from 1 to 18")),
     }
 }
 
@@ -304,4 +304,30 @@ pub fn backwards(run: &[u8], y: i64) -> Result<i64, Refusal> {
 pub fn heaviest_line(log: &[u8]) -> Result<Vec<u32>, Refusal> {
     let numbers = written(raw::LONGEST_HEAVIEST_LINE, |out| raw::heaviest_line(log, out))?;
     Ok(numbers.chunks_exact(4).map(|number| u32::from_le_bytes(number.try_into().expect("4 bytes"))).collect())
+}
+
+/// A page of the sheet of a whole log of at most 65,536 bytes, in a mode: a line for every opened record, 60 to the page in log
+/// order, fewer only on the last. Pages are counted from 0. A line is the record's number in 6 columns, a blank, its depth in 2, a
+/// blank, its figure in 16, all right-aligned and filled with blanks, then a newline. Numbers are those of [`heaviest_line`]. A figure
+/// is that of the record's own subtree: what [`day`] would answer if that alone were the log. Refused: 2, 3, 7, 8, 10, 11, 18; none has
+/// enough records for 9. 18 where the page starts past the last record.
+///
+/// ```
+/// use tulghimo::{example, sheet, Mode, Refusal};
+///
+/// // The site with all that it holds, and its two tanks.
+/// let page = sheet(example::LOG_D, Mode::Net, 0)?;
+/// let lines: Vec<&str> = page.lines().collect();
+/// assert_eq!(lines, ["     0  0               12", "     1  1                5", "     2  1               -3"]);
+/// // Of a stamp the third is -3 modulo 2^32.
+/// assert!(sheet(example::LOG_D, Mode::Stamp, 0)?.ends_with("     2  1       4294967293\n"));
+///
+/// assert_eq!(sheet(example::LOG_D, Mode::Net, 1), Err(Refusal::NoSuchPage));
+/// let (one, _) = example::two_stretches();
+/// assert_eq!(sheet(one, Mode::Net, 0), Err(Refusal::NotWhole));
+/// # Ok::<(), Refusal>(())
+/// ```
+pub fn sheet(log: &[u8], mode: Mode, page: u32) -> Result<String, Refusal> {
+    let text = written(raw::LONGEST_PAGE, |out| raw::sheet(log, mode.number(), page, out))?;
+    Ok(String::from_utf8(text).expect("digits, signs, blanks and newlines"))
 }

@@ -29,6 +29,9 @@ pub const LONGEST_SMALL_DAYS: usize = 429 * 8 * (10 + 6);
 /// No line written by [`heaviest_line`] is longer, in bytes: a number of 4 bytes for each depth from 0 to 63.
 pub const LONGEST_HEAVIEST_LINE: usize = 64 * 4;
 
+/// No page written by [`sheet`] is longer, in bytes: 60 lines of 27.
+pub const LONGEST_PAGE: usize = 60 * 27;
+
 mod ffi {
     extern "C" {
         pub fn tulghimo_read_record(chunk: *const u8, n: usize, fields: *mut i64) -> i64;
@@ -45,6 +48,7 @@ mod ffi {
         pub fn tulghimo_small_days(n: u32, out: *mut u8, cap: usize) -> i64;
         pub fn tulghimo_backwards(run: *const u8, n: usize, y: i64, x: *mut i64) -> i64;
         pub fn tulghimo_heaviest_line(log: *const u8, n: usize, out: *mut u8, cap: usize) -> i64;
+        pub fn tulghimo_sheet(log: *const u8, n: usize, mode: u32, page: u32, out: *mut u8, cap: usize) -> i64;
     }
 }
 
@@ -132,4 +136,11 @@ pub fn backwards(run: &[u8], y: i64, x: &mut [i64; 1]) -> i64 {
 pub fn heaviest_line(log: &[u8], out: &mut [u8]) -> i64 {
     // SAFETY: each slice has as many bytes as it is said to have, and the lent one is not borrowed elsewhere.
     unsafe { ffi::tulghimo_heaviest_line(log.as_ptr(), log.len(), out.as_mut_ptr(), out.len()) }
+}
+
+/// Writes a page of a whole log's sheet in a mode into `out`, 27 bytes a line: the length written, or minus the refusal (1, 2, 3, 7,
+/// 8, 10, 11, 18 or 12).
+pub fn sheet(log: &[u8], mode: u32, page: u32, out: &mut [u8]) -> i64 {
+    // SAFETY: each slice has as many bytes as it is said to have, and the lent one is not borrowed elsewhere.
+    unsafe { ffi::tulghimo_sheet(log.as_ptr(), log.len(), mode, page, out.as_mut_ptr(), out.len()) }
 }

@@ -8,11 +8,11 @@
 //! the sum of each log's best.
 //!
 //! Then merging, the plan, the runs and the work (`rows.rs`), the day table (`tables.rs`), all small days (`small_days.rs`), the way back
-//! through a run (`backwards.rs`), and the records behind the heaviest line (`heaviest_line.rs`). Buffers are lent once and not cleared
-//! between calls.
+//! through a run (`backwards.rs`), the records behind the heaviest line (`heaviest_line.rs`), and pages of the sheet (`sheet.rs`).
+//! Buffers are lent once and not cleared between calls.
 //!
 //! Run with `cargo run --release -p bench`, for one part alone with `cargo run --release -p bench -- rows`, `beside`, `tables`,
-//! `small_days`, `backwards` or `heaviest_line`.
+//! `small_days`, `backwards`, `heaviest_line` or `sheet`.
 
 mod backwards;
 mod beside;
@@ -20,6 +20,7 @@ mod chunks;
 mod heaviest_line;
 mod peer;
 mod rows;
+mod sheet;
 mod small_days;
 mod tables;
 
@@ -32,6 +33,7 @@ fn main() {
         ("small_days", small_days::bench),
         ("backwards", backwards::bench),
         ("heaviest_line", heaviest_line::bench),
+        ("sheet", sheet::bench),
     ];
     for (name, bench) in parts {
         if part.as_ref().is_none_or(|part| part == name) {

@@ -95,11 +95,17 @@ pub fn heaviest_line(log: &[u8]) -> Vec<i64> {
     bytes(calls::heaviest_line(log, AMPLE), |out| raw::heaviest_line(log, out))
 }
 
-/// All calls that take a chunk, summarise in each mode.
+pub fn sheet(log: &[u8], mode: u32, page: u32) -> Vec<i64> {
+    bytes(calls::sheet(log, mode, page, AMPLE), |out| raw::sheet(log, mode, page, out))
+}
+
+/// All calls that take a chunk: summarise in each mode, and of the sheet the first two pages in each.
 pub fn every_call_on_chunk(chunk: &[u8]) {
     read_record(chunk);
-    for mode in MODES {
-        summarise(chunk, mode.into());
+    for mode in MODES.map(u32::from) {
+        summarise(chunk, mode);
+        sheet(chunk, mode, 0);
+        sheet(chunk, mode, 1);
     }
     day(chunk);
     read_table(chunk);
@@ -141,7 +147,8 @@ pub fn batches_only(one: &[u8], other: &[u8], mode: u32) -> Vec<i64> {
     let day = same(library::day, both);
     let table = same(|chunk| library::read_table(chunk, AMPLE), both);
     let line = same(|chunk| library::heaviest_line(chunk, AMPLE), both);
-    vec![read, summary, day, table, line]
+    let sheet = same(|chunk| library::sheet(chunk, mode, 0, AMPLE), both);
+    vec![read, summary, day, table, line, sheet]
 }
 
 /// The library alone, on the row of a log's chunks of which some were summarised while short records had the old floor; in the log

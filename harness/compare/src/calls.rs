@@ -74,6 +74,10 @@ pub fn heaviest_line(log: &[u8], capacity: usize) -> Result<Vec<u8>, u8> {
     LentBytes::new(capacity).lend(|out| raw::heaviest_line(log, out))
 }
 
+pub fn sheet(log: &[u8], mode: u32, page: u32, capacity: usize) -> Result<Vec<u8>, u8> {
+    LentBytes::new(capacity).lend(|out| raw::sheet(log, mode, page, out))
+}
+
 /// The day program, as `rt check day_program` makes it.
 pub fn program() -> PathBuf {
     Path::new(env!("CARGO_MANIFEST_DIR")).join("../../target/bin/day_program")

@@ -6,7 +6,7 @@ use reference::gen::logs::{self, BATCHES};
 use reference::gen::raw::{all_of, batched, close, open, short, MODES};
 use reference::gen::{damage, Rng};
 use std::path::Path;
-use tulghimo::{Figures, Kind, Record, Refusal, TableLine};
+use tulghimo::{Figures, Kind, Mode, Record, Refusal, TableLine};
 
 #[test]
 fn the_safe_functions_answer_the_batch() {
@@ -42,6 +42,8 @@ fn the_other_safe_functions_drop_it() {
         let written = [open(0, 5, 0, 9), open(1, -2, 0, 1_000_000_000), close(1), close(0)].concat();
         assert_eq!(tulghimo::write_log(&lines), Ok(written));
         assert_eq!(tulghimo::heaviest_line(&log), Ok(vec![0, 1]));
+        let sheet = "     0  0                3\n     1  1               -2\n";
+        assert_eq!(tulghimo::sheet(&log, Mode::Net, 0).as_deref(), Ok(sheet));
     }
 }
 
@@ -121,7 +123,7 @@ fn logs_that_differ_in_batches_only() {
         for chunk in [damage::damage(&mut rng, &log), log] {
             let other = logs::rebatched(&mut rng, &chunk);
             let answers = agree::batches_only(&chunk, &other, MODES[round % 4].into());
-            taken += usize::from(chunk != other && answers == [0; 5]);
+            taken += usize::from(chunk != other && answers == [0; 6]);
         }
     }
     assert!(taken > 600, "{taken}");

@@ -26,6 +26,10 @@ mod levels;
 mod round_trips;
 #[path = "../../reference/tests/document_02/sent_before.rs"]
 mod sent_before;
+#[path = "../../reference/tests/document_02/sheet.rs"]
+mod sheet;
+#[path = "../../reference/tests/document_02/sheet_laws.rs"]
+mod sheet_laws;
 #[path = "../../reference/tests/document_02/short_record_laws.rs"]
 mod short_record_laws;
 #[path = "../../reference/tests/document_02/short_records.rs"]

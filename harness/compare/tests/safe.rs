@@ -2,8 +2,9 @@
 
 use reference::calls;
 use reference::gen::raw::{self as by_hand, longest_log};
-use reference::gen::{damage, forged, logs, runs, tables, Rng};
+use reference::gen::{damage, forged, logs, pages, runs, tables, Rng};
 use reference::layout::encode;
+use reference::log::opened;
 use reference::mode;
 use reference::plan::{encode_plan, Line};
 use reference::record::Open;
@@ -70,7 +71,13 @@ fn random_tables_and_refused_ones() {
     agree_on_log(&longest_log());
 }
 
+fn agree_on_page(log: &[u8], mode: Mode, page: u32) {
+    let text = by_number(tulghimo::sheet(log, mode, page)).map(String::into_bytes);
+    assert_eq!(text, calls::sheet(log, mode.number(), page, AMPLE), "page {page}");
+}
+
 fn agree_on_chunk(chunk: &[u8], mode: Mode) {
+    agree_on_page(chunk, mode, 0);
     let summary = by_number(tulghimo::summarise(chunk, mode));
     assert_eq!(summary, calls::summarise(chunk, mode.number(), AMPLE));
     if let Ok(summary) = summary {
@@ -107,6 +114,22 @@ fn heaviest_lines_with_ties_and_long_ones() {
         longest = longest.max(tulghimo::heaviest_line(&bytes).expect("a well-formed log").len());
     }
     assert_eq!(longest, 64);
+}
+
+#[test]
+fn sheets_of_several_pages() {
+    let mut rng = Rng::new(0x5b02);
+    for round in 0..500 {
+        let log = pages::paged_log(&mut rng);
+        let bytes = logs::encode_mixed(&mut rng, &log);
+        let mode = Mode::ALL[round % 4];
+        let page = pages::page(&mut rng, opened(&log) as usize);
+        agree_on_page(&bytes, mode, page);
+        agree_on_page(&damage::damage(&mut rng, &bytes), mode, page);
+    }
+    for page in (0..=70).chain([71_582_789, 1 << 30, u32::MAX]) {
+        agree_on_page(&longest_log(), Mode::Net, page);
+    }
 }
 
 /// The bytes of a run, put together here. It must give the same itself.
@@ -197,7 +220,7 @@ fn the_header_has_the_same_numbers() {
     assert!(header.contains(&format!("TULGHIMO_LONGEST_SUMMARY = {},", raw::LONGEST_SUMMARY)));
     assert_eq!((raw::LONGEST_PLAN, raw::LONGEST_RUNS), (1500, 4750));
     assert_eq!((raw::LONGEST_TABLE_TAKEN, raw::LONGEST_LOG_WRITTEN, raw::LONGEST_TABLE_READ), (38_220, 65_520, 57_344));
-    assert_eq!((raw::LONGEST_SMALL_DAYS, raw::LONGEST_HEAVIEST_LINE), (54_912, 256));
+    assert_eq!((raw::LONGEST_SMALL_DAYS, raw::LONGEST_HEAVIEST_LINE, raw::LONGEST_PAGE), (54_912, 256, 1620));
     for constant in [
         "LONGEST_CHUNK = 65536,",
         "LINE = 12,",
@@ -210,7 +233,9 @@ fn the_header_has_the_same_numbers() {
         "LONGEST_LOG_WRITTEN = 2730 * (18 + 6),",
         "LONGEST_TABLE_READ = 4096 * TULGHIMO_TABLE_LINE,",
         "LONGEST_SMALL_DAYS = 429 * 8 * (10 + 6),",
-        "LONGEST_HEAVIEST_LINE = 64 * 4 ",
+        "LONGEST_HEAVIEST_LINE = 64 * 4,",
+        "SHEET_LINE = 27,",
+        "LONGEST_PAGE = 60 * TULGHIMO_SHEET_LINE\n",
     ] {
         assert!(header.contains(&format!("TULGHIMO_{constant}")), "{constant}");
     }

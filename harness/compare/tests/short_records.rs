@@ -9,7 +9,7 @@ use reference::gen::raw::{all_of, close, nothing, open, short, Hill, MODES};
 use reference::gen::{damage, Rng};
 use reference::record::encode_all_short;
 use std::slice::from_ref;
-use tulghimo::{Figures, Kind, Record, Refusal, TableLine};
+use tulghimo::{Figures, Kind, Mode, Record, Refusal, TableLine};
 
 const LEAST: i32 = -1_000_000_000;
 const GREATEST: i32 = 1_000_000_000;
@@ -37,6 +37,10 @@ fn the_other_safe_functions_take_it() {
     assert_eq!(written, [open(0, 5, 0, GREATEST), open(1, -8, 0, GREATEST), close(1), close(0)].concat());
     assert_eq!(tulghimo::day(&written), tulghimo::day(&log));
     assert_eq!(tulghimo::heaviest_line(&log), Ok(vec![0, 1]));
+    for log in [&log, &written] {
+        let sheet = "     0  0                0\n     1  1               -8\n";
+        assert_eq!(tulghimo::sheet(log, Mode::Eaten, 0).as_deref(), Ok(sheet));
+    }
 }
 
 /// Opens of a depth: of each value a short one, a full one with the new default and one with the old floor.

@@ -108,6 +108,9 @@ fn each_log_by_the_calls_on_a_log() {
             assert!(agree::summarise(&log, mode).contains(&24));
             let summary = calls::summarise(&log, mode, 24).expect("a well-formed log");
             assert_eq!(agree::finish(&summary), [0]);
+            // A line of 27 bytes for each record, of 16 with its close.
+            assert!(agree::sheet(&log, mode, 0).contains(&(log.len() as i64 / 16 * 27)));
+            assert!(agree::sheet(&log, mode, 1).iter().all(|&answer| answer == -18));
         }
         agree::heaviest_line(&log);
         agree::read_table(&log);
@@ -170,6 +173,7 @@ fn one_after_another_they_are_no_log() {
         for mode in MODES.map(u32::from) {
             // Spoilt.
             assert!(agree::summarise(&all, mode).contains(&16));
+            assert!(agree::sheet(&all, mode, 0).iter().all(|&answer| answer == -8));
         }
     }
 }

@@ -25,10 +25,12 @@ pub enum Takes {
     Number,
     /// A run, and an outer figure.
     Run,
+    /// A log, a mode and a page.
+    Page,
 }
 
-/// What a call is given. `second` is the right one of two pieces, the other of two chunks, the row of a log or an outer figure, 64
-/// bits, and empty elsewhere. An n stands in place of the mode, and the length of a buffer, 16 bits, in place of a chunk.
+/// What a call is given. `second` is the right one of two pieces, the other of two chunks, the row of a log, an outer figure, 64 bits,
+/// or a page, 32 bits, and empty elsewhere. An n stands in place of the mode, and the length of a buffer, 16 bits, in place of a chunk.
 #[derive(Clone, Debug, PartialEq, Eq)]
 pub struct Input {
     pub takes: Takes,
@@ -87,6 +89,12 @@ pub const CALLS: &[Call] = &[
         takes: Takes::Chunk,
         refuses: &[2, 3, 7, 8, 10, 11, 12],
         compare: |given| agree::heaviest_line(&given.first),
+    },
+    Call {
+        name: "sheet",
+        takes: Takes::Page,
+        refuses: &[1, 2, 3, 7, 8, 10, 11, 18, 12],
+        compare: |given| agree::sheet(&given.first, given.mode, unsigned(&given.second) as u32),
     },
     Call {
         name: "batches",

@@ -1,10 +1,12 @@
-//! The inputs of a round: logs, cuts, lists of merges, day tables, runs, forged and damaged bytes, from the generators of the reference.
+//! The inputs of a round: logs, cuts, lists of merges, day tables, runs, pages, forged and damaged bytes, from the generators of the
+//! reference.
 
 use crate::calls::{Input, Takes};
 use reference::calls;
 use reference::gen::raw::{run_length, MODES};
-use reference::gen::{damage, forged, logs, runs, tables, Rng};
+use reference::gen::{damage, forged, logs, pages, runs, tables, Rng};
 use reference::layout::encode;
+use reference::log::opened;
 use reference::mode::Mode;
 use reference::record::Record;
 use reference::replay::Stretches;
@@ -54,10 +56,15 @@ fn run(bytes: Vec<u8>, y: i64) -> Input {
     Input { takes: Takes::Run, mode: 0, first: bytes, second: y.to_le_bytes().to_vec() }
 }
 
+/// A log, a mode and a page.
+fn page(mode: u32, log: Vec<u8>, page: u32) -> Input {
+    Input { takes: Takes::Page, mode, first: log, second: page.to_le_bytes().to_vec() }
+}
+
 /// The inputs that a seed gives.
 pub fn inputs(seed: u64) -> Vec<Input> {
     let rng = &mut Rng::new(seed);
-    match rng.below(18) {
+    match rng.below(19) {
         0 => whole_log(rng),
         1 => faulty_log(rng),
         2 | 3 => cut_log(rng),
@@ -73,6 +80,7 @@ pub fn inputs(seed: u64) -> Vec<Input> {
         14 => written_runs(rng),
         15 => log_with_ties(rng),
         16 => old_and_new_chunks(rng),
+        17 => sheets(rng),
         _ => noise(rng),
     }
 }
@@ -127,6 +135,23 @@ fn faulty_log(rng: &mut Rng) -> Vec<Input> {
     let log = logs::with_fault(rng, fault);
     let input = chunk(any_mode(rng), logs::encode_mixed(rng, &log));
     with_damage(rng, input)
+}
+
+/// Pages of a log of a few pages, of a small one or of one with a fault, each as it is and with damage to the log.
+fn sheets(rng: &mut Rng) -> Vec<Input> {
+    let most = size(rng, 60, 4000);
+    let log = match rng.below(8) {
+        0 => logs::log_or_faulty(rng, most),
+        1 => logs::log_with_ties(rng, 60),
+        _ => pages::paged_log(rng),
+    };
+    let bytes = logs::encode_mixed(rng, &log);
+    let mut inputs = Vec::new();
+    for _ in 0..4 {
+        let input = page(any_mode(rng), bytes.clone(), pages::page(rng, opened(&log) as usize));
+        inputs.extend(with_damage(rng, input));
+    }
+    inputs
 }
 
 /// A well-formed log, or one with a fault, cut into chunks.
@@ -347,9 +372,10 @@ fn noise(rng: &mut Rng) -> Vec<Input> {
     let bytes = damage::noise(rng, longest);
     let long = vec![bytes.len() as u8; rng.pick(&[65_535, 65_536, 65_537, 70_000])];
     let mut inputs = vec![piece(bytes.clone()), row(bytes.clone()), pieces(bytes.clone(), damage::noise(rng, longest))];
-    inputs.extend([table(bytes.clone()), run(bytes.clone(), runs::any_y(rng)), chunk(any_mode(rng), bytes)]);
+    inputs.extend([table(bytes.clone()), run(bytes.clone(), runs::any_y(rng)), page(any_mode(rng), bytes.clone(), 0)]);
+    inputs.push(chunk(any_mode(rng), bytes));
     if rng.one_in(50) {
-        inputs.extend([chunk(any_mode(rng), long.clone()), piece(long.clone()), row(long)]);
+        inputs.extend([chunk(any_mode(rng), long.clone()), page(any_mode(rng), long.clone(), 0), piece(long.clone()), row(long)]);
     }
     inputs
 }
@@ -358,6 +384,7 @@ fn noise(rng: &mut Rng) -> Vec<Input> {
 mod tests {
     use super::*;
     use reference::backwards::question_15;
+    use reference::bytes::unsigned;
     use reference::gen::logs::OLD_FLOOR;
     use reference::heaviest_line::line_of;
     use reference::layout::decode;
@@ -463,12 +490,33 @@ mod tests {
     }
 
     #[test]
+    fn pages_are_there_past_the_end_and_wrap() {
+        // In each mode: the first page, a later one, the next after the last, and one that would be there if 60 times it had 32 bits.
+        let mut seen = [[0; 4]; 4];
+        for input in (0..8000).flat_map(inputs).filter(|input| input.takes == Takes::Page) {
+            let log = records_of(&input.first).filter(|log| fault(log).is_none() && input.first.len() <= 65_536);
+            let place = MODES.iter().position(|&mode| u32::from(mode) == input.mode);
+            if let (Some(log), Some(place)) = (log, place) {
+                let (count, page) = (opened(&log), unsigned(&input.second));
+                let past = 60 * page >= count;
+                let found = [page == 0, page > 0 && !past, past && 60 * (page - 1) < count, past && 60 * page % (1 << 32) < count];
+                seen[place].iter_mut().zip(found).for_each(|(count, found)| *count += usize::from(found));
+            }
+        }
+        assert!(seen.iter().flatten().all(|&count| count > 20), "{seen:?}");
+    }
+
+    #[test]
     fn mode_3_is_an_argument_and_within_summaries() {
-        let mut seen = [0; 4];
+        let mut seen = [0; 5];
         for input in (0..4000).flat_map(inputs) {
             let (place, pieces) = match input.takes {
                 Takes::Chunk => {
                     seen[0] += usize::from(input.mode == 3);
+                    continue;
+                }
+                Takes::Page => {
+                    seen[4] += usize::from(input.mode == 3);
                     continue;
                 }
                 Takes::Piece => (1, vec![&input.first[..]]),

@@ -15,6 +15,7 @@ use crate::plan::{encode_plan, plan_by_levels};
 use crate::record::{encode_all, read_first, First, Record, CLOSE, OPEN};
 use crate::row;
 use crate::run::{encode_run, run_of};
+use crate::sheet::{lines_of, question_18};
 use crate::small_days::{self, all_logs, encode_logs};
 use crate::summary::{self, summary_of, Summary};
 use crate::table::{self, encode_table, log_of, table_of};
@@ -145,6 +146,16 @@ pub fn backwards(run: &[u8], y: i64) -> Result<i64, u8> {
 pub fn heaviest_line(log: &[u8], capacity: usize) -> Result<Vec<u8>, u8> {
     let records = whole_log(log)?;
     question_12(encode_numbers(&line_of(&records)), capacity)
+}
+
+/// Document 02, L9: "For a well-formed log of one chunk, a mode and a page". 1; the faults; "18,
+/// after the log's faults and before 12"; 12.
+pub fn sheet(log: &[u8], mode: u32, page: u32, capacity: usize) -> Result<Vec<u8>, u8> {
+    let mode = question_1(mode)?;
+    let records = whole_log(log)?;
+    let lines = lines_of(mode, &records);
+    let page = question_18(&lines, page)?;
+    question_12(page.concat().into_bytes(), capacity)
 }
 
 /// The records of a whole log, by questions 2, 3 and 7 to 11.

@@ -24,8 +24,9 @@
 //! | L6                         | [`backwards`], [`calls`]                 |
 //! | L7                         | [`heaviest_line`], [`calls`]             |
 //! | L8                         | [`record`]                               |
+//! | L9                         | [`sheet`], [`calls`]                     |
 //!
-//! [`gen`] makes the inputs that tests try: logs, cuts, merge lists, day tables, runs,
+//! [`gen`] makes the inputs that tests try: logs, cuts, merge lists, day tables, runs, pages,
 //! damaged bytes and summaries that no chunk makes.
 
 pub mod backwards;
@@ -43,6 +44,7 @@ pub mod record;
 pub mod replay;
 pub mod row;
 pub mod run;
+pub mod sheet;
 pub mod small_days;
 pub mod summary;
 pub mod table;

@@ -1,9 +1,10 @@
-//! Inputs for tests: seeded logs, cuts, merge lists, day tables, runs, damaged bytes and
+//! Inputs for tests: seeded logs, cuts, merge lists, day tables, runs, pages, damaged bytes and
 //! summaries that no chunk makes; and bytes put together field by field.
 
 pub mod damage;
 pub mod forged;
 pub mod logs;
+pub mod pages;
 pub mod raw;
 pub mod runs;
 pub mod tables;

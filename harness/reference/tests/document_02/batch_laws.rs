@@ -3,6 +3,7 @@
 //! 18 and the other 22. `compare` puts this to the library.
 
 use crate::calls::{day, heaviest_line, merge_row, plan, read_record, read_table, runs, summarise, work, write_log};
+use crate::sheet_laws::pages;
 use reference::gen::logs::{any_log, batch, cut, encode_mixed, log_or_faulty, rebatched};
 use reference::gen::raw::{batched, close, open, short, MODES};
 use reference::gen::Rng;
@@ -17,8 +18,9 @@ fn summaries_figures_and_tables_are_equal() {
         let chunk = encode_all(&log_or_faulty(&mut rng, 60));
         for _ in 0..2 {
             let other = rebatched(&mut rng, &chunk);
-            for mode in MODES.map(u32::from) {
-                assert_eq!(summarise(&other, mode, AMPLE), summarise(&chunk, mode, AMPLE));
+            for mode in MODES {
+                assert_eq!(summarise(&other, mode.into(), AMPLE), summarise(&chunk, mode.into(), AMPLE));
+                assert_eq!(pages(&other, mode), pages(&chunk, mode));
             }
             assert_eq!(day(&other), day(&chunk));
             assert_eq!(read_table(&other, AMPLE), read_table(&chunk, AMPLE));

@@ -12,28 +12,28 @@ const LEAST: i32 = -1_000_000_000;
 const GREATEST: i32 = 1_000_000_000;
 
 /// A short record of a depth and a value, around those that it holds.
-fn around(depth: u16, value: i32, held: &[Vec<u8>]) -> Vec<u8> {
+pub fn around(depth: u16, value: i32, held: &[Vec<u8>]) -> Vec<u8> {
     [short(depth, value), held.concat(), close(depth)].concat()
 }
 
 /// One that holds nothing.
-fn leaf(depth: u16, value: i32) -> Vec<u8> {
+pub fn leaf(depth: u16, value: i32) -> Vec<u8> {
     around(depth, value, &[])
 }
 
 /// A log whose first record has 0 grams and holds records of these values.
-fn flat(values: &[i32]) -> Vec<u8> {
+pub fn flat(values: &[i32]) -> Vec<u8> {
     around(0, 0, &values.iter().map(|&value| leaf(1, value)).collect::<Vec<_>>())
 }
 
 /// Records of one value and of the depths from one to another, each held by the one before;
 /// the last holds what is given.
-fn chain_around(from: u16, to: u16, value: i32, held: Vec<u8>) -> Vec<u8> {
+pub fn chain_around(from: u16, to: u16, value: i32, held: Vec<u8>) -> Vec<u8> {
     (from..=to).rev().fold(held, |held, depth| around(depth, value, &[held]))
 }
 
 /// The same, and the last holds nothing.
-fn chain(from: u16, to: u16, value: i32) -> Vec<u8> {
+pub fn chain(from: u16, to: u16, value: i32) -> Vec<u8> {
     chain_around(from, to, value, Vec::new())
 }
 

@@ -4,7 +4,8 @@
 //! `day_table` and `round_trips` (L1), `batch` and `batch_laws` (L2), `drop_at_value` and
 //! `drop_laws` (L3), `levels` (L4), `small_days` (L5), `backwards` and `backwards_laws` (L6),
 //! `heaviest_line` and `heaviest_line_laws` (L7), `short_records`, `sent_before` and
-//! `short_record_laws` (L8) only make calls, and `compare` makes the same ones of the library.
+//! `short_record_laws` (L8), `sheet` and `sheet_laws` (L9) only make calls, and `compare` makes
+//! the same ones of the library.
 
 use reference::calls;
 
@@ -16,6 +17,7 @@ mod day_table;
 mod drawn_batches;
 mod drawn_drops;
 mod drawn_lines;
+mod drawn_sheets;
 mod drawn_short_records;
 mod drop_at_value;
 mod drop_laws;
@@ -24,6 +26,8 @@ mod heaviest_line_laws;
 mod levels;
 mod round_trips;
 mod sent_before;
+mod sheet;
+mod sheet_laws;
 mod short_record_laws;
 mod short_records;
 mod small_days;

@@ -5,6 +5,7 @@
 use crate::calls::{day, finish, heaviest_line, merge, merge_row, plan, read_record, read_table, runs, small_days, summarise};
 use crate::calls::{work, write_log};
 use crate::drop_laws::{eaten, numbers, BETWEEN};
+use crate::sheet_laws::pages;
 use reference::gen::damage::{damage, nearly_a_record};
 use reference::gen::logs::{all_shapes, any_log, changed, cut, encode_mixed, log_or_faulty, log_with_ties, of_shape, Values};
 use reference::gen::logs::{encode_mostly_short, in_full, some_sent_before, OLD_FLOOR};
@@ -30,8 +31,9 @@ fn a_short_record_is_the_full_one_with_floor_0() {
         let log = log_or_faulty(&mut rng, 60);
         for chunk in [encode_all_short(&log), encode_mixed(&mut rng, &log)] {
             let full = in_full(&chunk, 0);
-            for mode in MODES.map(u32::from) {
-                assert_eq!(summarise(&chunk, mode, AMPLE), summarise(&full, mode, AMPLE));
+            for mode in MODES {
+                assert_eq!(summarise(&chunk, mode.into(), AMPLE), summarise(&full, mode.into(), AMPLE));
+                assert_eq!(pages(&chunk, mode), pages(&full, mode));
             }
             assert_eq!(day(&chunk), day(&full));
             assert_eq!(read_table(&chunk, LONG), read_table(&full, LONG));
@@ -71,6 +73,9 @@ fn net_heaviest_and_stamp_do_not_move() {
             }
             eaten_moves += usize::from(now_figures[2] != then_figures[2]);
             assert_eq!(heaviest_line(&chunk, AMPLE), heaviest_line(&before, AMPLE));
+            for mode in [1, 2, 4] {
+                assert_eq!(pages(&chunk, mode), pages(&before, mode));
+            }
         }
     }
     assert!(eaten_moves > 500, "{eaten_moves}");
