@@ -70,7 +70,7 @@ enum tulghimo_length {
     TULGHIMO_LONGEST_TABLE_READ = 4096 * TULGHIMO_TABLE_LINE,  /* of a log of 65,536 bytes: 4,096 short opens and their closes */
     TULGHIMO_LONGEST_SMALL_DAYS = 429 * 8 * (10 + 6),          /* 429 logs of 8 short opens and their closes */
     TULGHIMO_LONGEST_HEAVIEST_LINE = 64 * 4,                   /* a number of 32 bits for each depth from 0 to 63 */
-    TULGHIMO_SHEET_LINE = 27, /* text: number in 6 columns, depth in 2, figure in 16, a blank between, a newline */
+    TULGHIMO_SHEET_LINE = 27, /* text: number in 6 columns, depth in 2, figure in 16, a blank after each of the first two, a newline */
     TULGHIMO_LONGEST_PAGE = 60 * TULGHIMO_SHEET_LINE
 };
 
@@ -160,9 +160,10 @@ int64_t tulghimo_heaviest_line(const uint8_t *log, size_t n, uint8_t *out, size_
 /* A page of the sheet of a whole log, of the length of a chunk, in a mode: a line for every opened record, 60 to the page in log
  * order, fewer only on the last. Pages are counted from 0. A line is text of 27 bytes: the record's number in 6 columns, a blank, its
  * depth in 2, a blank, its figure in 16, all right-aligned and filled with blanks, then a newline; no byte 0 ends the text. Numbers
- * are those of tulghimo_heaviest_line. A figure is that of the record's own subtree: what tulghimo_day would answer if that alone
- * were the log. The length of the page, or, in this order, -1, -2, -3, -7, -8, -10, -11, -18 or -12. (No log of this length has
- * enough records for -9.) -18 where the page starts past the last record, for any 32-bit number: a log has at most 69 pages. */
+ * are those of tulghimo_heaviest_line. A figure is that of the record's own subtree: what tulghimo_day would answer in this mode if
+ * that alone, its depths counted from the record, were the log. The length of the page, or, in this order, -1, -2, -3, -7, -8, -10,
+ * -11, -18 or -12. (No log of this length has enough records for -9.) -18 where the page starts past the last record, for any 32-bit
+ * number: a log has at most 69 pages. */
 int64_t tulghimo_sheet(const uint8_t *log, size_t n, uint32_t mode, uint32_t page, uint8_t *out, size_t cap);
 
 #ifdef __cplusplus

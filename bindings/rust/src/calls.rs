@@ -309,8 +309,8 @@ pub fn heaviest_line(log: &[u8]) -> Result<Vec<u32>, Refusal> {
 /// A page of the sheet of a whole log of at most 65,536 bytes, in a mode: a line for every opened record, 60 to the page in log
 /// order, fewer only on the last. Pages are counted from 0. A line is the record's number in 6 columns, a blank, its depth in 2, a
 /// blank, its figure in 16, all right-aligned and filled with blanks, then a newline. Numbers are those of [`heaviest_line`]. A figure
-/// is that of the record's own subtree: what [`day`] would answer if that alone were the log. Refused: 2, 3, 7, 8, 10, 11, 18; none has
-/// enough records for 9. 18 where the page starts past the last record.
+/// is that of the record's own subtree: what [`day`] would answer in this mode if that alone, its depths counted from the record, were
+/// the log. Refused: 2, 3, 7, 8, 10, 11, 18; none has enough records for 9. 18 where the page starts past the last record.
 ///
 /// ```
 /// use tulghimo::{example, sheet, Mode, Refusal};

@@ -1,7 +1,7 @@
 -- Definitions that a reader must believe: Claim, what demand 3 says; Batches, what is claimed of logs that differ in batches only; Drops, what is claimed of
--- mode 5, in plain numbers, and of mode 3; Finishing, the ways to finish a log; HeaviestSum, what is claimed of the values along the heaviest line and of its faults; ShortRecords, what a
--- short record counts, what is claimed of summaries that were sent while it had another floor, and which figures that floor does not move; and Sheets, what is claimed of the figures of a sheet. Demand3 has the
--- theorem, Table the proved cases of the papers.
+-- mode 5, in plain numbers, and of mode 3; Finishing, the ways to finish a log; HeaviestSum, what is claimed of the values along the heaviest line and of its
+-- faults; ShortRecords, what a short record counts, what is claimed of summaries that were sent while it had another floor, and which figures that floor does
+-- not move; and Sheets, what is claimed of the figures of a sheet. Demand3 has the theorem, Table the proved cases of the papers.
 pub mod Claim
 pub mod Batches
 pub mod Drops

@@ -1,5 +1,6 @@
 -- Definitions that a reader must believe, in reading order: the questions and "the lowest"; records, levels and faults; sorted lists; who closes and who
--- holds whom; the questions by places; trees and the recursion; a record's figure, and its subtree as a log of its own; a chunk's summary; merging; finishing; rows; accepted summaries.
+-- holds whom; the questions by places; trees and the recursion; a record's figure, and its subtree as a log of its own; a chunk's summary; merging; finishing;
+-- rows; accepted summaries.
 pub mod Verdict
 pub mod Log
 pub mod Sorted

@@ -236,7 +236,7 @@ fn no_byte_behind_the_result_or_under_a_refusal() {
 
 #[test]
 fn every_page_of_the_longest_logs() {
-    // 4,096 records under a first one, or in 65 lines of 63 under it, or in the last of 63.
+    // 4,096 records: 4,095 under a first one, in one level or in 65 lines of 63; or 63 down, the last holding 4,033.
     let deep = |value: i32| [short(0, value), chain(1, &[value; 63]).repeat(65), close(0)].concat();
     let at_the_bottom = |value: i32| chain_around(0, &[value; 63], &chain(63, &[value]).repeat(4033));
     let logs = [flat(LIMIT, LIMIT, 4095), at_the_bottom(LIMIT), deep(-LIMIT), deep(LIMIT), flat(-LIMIT, -LIMIT, 4095)];
@@ -340,8 +340,8 @@ fn stamps_on_both_sides_of_2_32() {
 #[test]
 fn a_record_on_any_page_counts_in_the_first_line() {
     let log = longest_log();
-    let before: Vec<Vec<u8>> = (0..69).map(|page| calls::sheet(&log, 1, page, LONGEST_PAGE).expect("a page")).collect();
-    let before = before.concat();
+    let line = |number| format!("{number:>6} {:>2} {:>16}\n", u8::from(number > 0), if number == 0 { 4096 } else { 1 });
+    let before = (0..4096).map(line).collect::<String>().into_bytes();
     // Record k, from 1 on, begins at 10 + 16 × (k - 1), and its value 6 bytes later.
     for number in (1..=4095).step_by(237).chain([59, 60, 61, 4079, 4080, 4094, 4095]) {
         let mut heavier = log.clone();
@@ -361,7 +361,8 @@ fn a_record_on_any_page_counts_in_the_first_line() {
 fn the_sample_logs() {
     let folder = Path::new(env!("CARGO_MANIFEST_DIR")).join("../../samples");
     // How many records each has.
-    for (name, opened) in [("d", 3), ("d-batches", 3), ("weekday", 172), ("returns", 11), ("quiet", 10), ("deep", 64)] {
+    let whole = [("d", 3), ("d-batches", 3), ("weekday", 172), ("returns", 11), ("quiet", 10), ("deep", 64)];
+    for (name, opened) in whole.into_iter().chain([("short-below-zero", 7), ("full-below-zero", 7)]) {
         let log = std::fs::read(folder.join(format!("{name}.log"))).expect(name);
         every_page_agrees(&log, opened);
     }

@@ -52,7 +52,7 @@ pub fn page(rng: &mut Rng, opened: usize) -> u32 {
     }
 }
 
-/// The first page whose 60 times is past so many times 2^32, 1 to 59: modulo 2^32 that is 0 to 59.
+/// The first page whose 60 times is not below so many times 2^32, 1 to 59: modulo 2^32 that is a multiple of 4, 0 to 56.
 pub fn wraps(times: u64) -> u32 {
     (times << 32).div_ceil(60) as u32
 }

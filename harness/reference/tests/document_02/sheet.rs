@@ -386,7 +386,7 @@ fn sixty_times_the_page_does_not_wrap() {
     // 2^32 + 44; 2 × 2^32 + 28; and 15, 30 and 45 times 2^32.
     assert_eq!([71_582_789, 143_165_577].map(|page: u64| 60 * page), [4_294_967_340, 8_589_934_620]);
     assert_eq!([1 << 30, 1 << 31, 3 << 30].map(|page: u64| 60 * page), [15 << 32, 30 << 32, 45 << 32]);
-    // Times 60 these are 2^31 + 52 and 2^32 - 16; 2^16 times 15 and one page more; and the ends.
+    // Times 60 these are 2^31 + 52 and 2^32 - 16; 2^16 times 15 and one page more; 60, 4,080 and 120 modulo 2^32; and the last page.
     let others = [35_791_395, 71_582_788, 1 << 14, (1 << 14) + 1, (1 << 30) + 1, (1 << 30) + 68, (1 << 31) + 2, u32::MAX];
     for log in logs_of_all_lengths() {
         for page in [71_582_789, 143_165_577, 1 << 30, 1 << 31, 3 << 30].into_iter().chain(others) {

@@ -61,7 +61,7 @@ fn cut_out(log: &[Record], place: usize) -> Vec<Record> {
     log[place..=last].iter().map(lowered).collect()
 }
 
-/// What finish gives for a log, in one chunk and cut in two at random.
+/// What finish gives for a log, in one chunk and cut in two in its middle.
 fn finished(rng: &mut Rng, log: &[Record], mode: u16) -> [Result<i64, u8>; 2] {
     let mut summary = |chunk: &[Record]| summarise(&encode_mixed(rng, chunk), mode.into(), 1788).expect("readable records");
     let whole = summary(log);
