@@ -24,12 +24,12 @@ use Rattle.hill.specs.HeldPlaces.{opening-closing}
 use Rattle.hill.specs.OwnLog.{lowered, ownLog}
 use Rattle.hill.specs.Row.{joined}
 use Rattle.chunk.specs.Chunk.{chunkOf, figureIn, IsWellFormed}
-use Rattle.chunk.specs.Laws.{depth-low}
+use Rattle.chunk.specs.Laws.{depth-low, is-log}
 use Rattle.day_table.specs.Outcomes.{logBytes}
 use Rattle.day_table.specs.LogLaws.{RecordsInRange, allFields, chunk-fields, log-read}
 use Rattle.log_records.specs.Formed.{formed}
 use Rattle.day_sheet.specs.Sheet.{sheetLine, linesFrom, pageText, sheetOutcome}
-use Rattle.day_sheet.specs.Claims.{InColumns, readLine, IsOwnFigure}
+use Rattle.day_sheet.specs.Claims.{InColumns, readLine, IsOwnFigure, WritesPage}
 use Rattle.day_sheet.specs.LineLaws.{line-27, line-back}
 use Rattle.day_sheet.specs.PageLaws.{fits}
 use Rattle.day_sheet.specs.CallLaws.{written-page}
@@ -81,11 +81,14 @@ own-bytes {log} {xs} i p q d v =
 alone-leads-to : (mode : ℕ) → modeInUse mode ≡ true → {log : List ℕ} {xs : List (Record Amounts)} → IsWellFormed log xs → (p q d : ℕ) {z : ℤ} → IsOwnFigure mode xs p q d z → AloneLeadsTo mode (ownLog xs p q d) z
 alone-leads-to mode u {xs = xs} i p q d {z} o = record { some = (logBytes (ownLog xs p q d), own-bytes i p q d (o .fine)); all = λ bytes w. leads-to mode u w z (sym (o .of-log)) }
 
+log-of : {log : List ℕ} {mode page cap : ℕ} {w : List ℕ} (s : WritesPage log mode page cap w) → IsWellFormed log (s .records)
+log-of {log} s = is-log log (s .records) (s .let-through) .formed
+
 -- EACH FIGURE is what its record's own subtree leads to.
 pub each-alone : (log : List ℕ) (mode page cap : ℕ) {w : List ℕ} → sheetOutcome log mode page cap ≡ result w → EachAlone log mode page cap w
 each-alone log mode page cap e =
     let s = written-page log mode page cap e in
-    record { writes = s; alone = λ i l. let t = s .is-page .each i l in alone-leads-to mode (s .in-use) (s .is-log .formed) (t .place) (t .close) (t .depth) (t .own) }
+    record { writes = s; alone = λ i l. let t = s .is-page .each i l in alone-leads-to mode (s .in-use) (log-of s) (t .place) (t .close) (t .depth) (t .own) }
 
 -- ---- the root
 
@@ -105,6 +108,6 @@ root-first log mode cap {w} e =
     let s = written-page log mode 0 cap e in
     let xs = s .records in
     let z : ℤ = figureIn mode xs in
-    let root = formed xs (s .is-log .formed .fine) .root in
-    let c : InColumns 0 0 z = fits mode (s .in-use) (s .is-log .formed) 0 0 root in
-    record { figure = z; leads-to = leads-to mode (s .in-use) (s .is-log .formed) z refl; first = ap (λ b. readLine (take 27 b)) (s .bytes-are) ∙ ap readLine (first-line mode xs root c) ∙ line-back c }
+    let root = formed xs (log-of s .fine) .root in
+    let c : InColumns 0 0 z = fits mode (s .in-use) (log-of s) 0 0 root in
+    record { figure = z; leads-to = leads-to mode (s .in-use) (log-of s) z refl; first = ap (λ b. readLine (take 27 b)) (s .bytes-are) ∙ ap readLine (first-line mode xs root c) ∙ line-back c }

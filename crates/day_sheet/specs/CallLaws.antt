@@ -80,7 +80,7 @@ module _ (log : List ℕ) (mode page cap : ℕ) where
           let v : List ℕ = pageText mode page xs in
           dite (decLt cap (length v)) (λ h. absurd (not-result 12 w (sym (too-short cap v h) ∙ sym (starts u e l) ∙ r)))
           (λ h. let s : v ≡ w = result-same (sym (fits cap v (omega arith)) ∙ sym (starts u e l) ∙ r) in
-          record { in-use = u; records = xs; is-log = i; starts = l; bytes-are = sym s; is-page = subst (IsPage mode xs page) s (is-page mode u (i .formed) page l); fits = omega (arith, ap length s) })
+          record { in-use = u; records = xs; let-through = e; starts = l; bytes-are = sym s; is-page = subst (IsPage mode xs page) s (is-page mode u (i .formed) page l); fits = omega (arith, ap length s) })
 
       by-log : modeInUse mode ≡ true → (o : Outcome (List (Record Amounts))) → wholeLog log ≡ o → WritesPage log mode page cap w
       by-log u (refused n) e = absurd (not-result n w (sym (at-fault u e) ∙ r))

@@ -18,7 +18,6 @@ use Rattle.hill.specs.Tree.{Forest, nil, tree, write, value}
 use Rattle.hill.specs.OwnLog.{ownLog}
 use Rattle.hill.specs.Row.{joined}
 use Rattle.chunk.specs.Chunk.{figureIn, wholeLog}
-use Rattle.chunk.specs.Laws.{IsLog}
 use Rattle.log_records.specs.Numbers.{IsRecord}
 use Rattle.log_records.specs.Claims.{CountedFrom0}
 use Rattle.day_sheet.specs.Sheet.{sheetLine, sheetLines, pageLines, pageText, sheetOutcome}
@@ -80,7 +79,7 @@ module _ (mode : ℕ) (xs : List (Record Amounts)) where
   pagesUpTo zero = []
   pagesUpTo (suc n) = pagesUpTo n ++ pageText mode n xs
 
--- All pages of a log put one after another: its lines, one for each opened record, "in log order". There are `count` of them, each of 60 lines but the last; page n
+-- All pages of a log put one after another: its lines, one for each opened record, "in log order". There are `count` pages, each of 60 lines but the last; page n
 -- is one exactly if it does not start past the last record, and then it is what the call prints.
 pub record AllPages (log : List ℕ) (mode : ℕ) (xs : List (Record Amounts)) (count : ℕ) : Type 0 where
   pub whole : pagesUpTo mode xs count ≡ joined (sheetLines mode xs)
@@ -104,7 +103,7 @@ pub record TurnsAway (log : List ℕ) (mode page cap : ℕ) : Type 0 where
 pub record WritesPage (log : List ℕ) (mode page cap : ℕ) (w : List ℕ) : Type 0 where
   pub in-use : modeInUse mode ≡ true
   pub records : List (Record Amounts)
-  pub is-log : IsLog log records
+  pub let-through : wholeLog log ≡ result records
   pub starts : 60 * page < openedOf records
   pub bytes-are : w ≡ pageText mode page records
   pub is-page : IsPage mode records page w
