@@ -53,7 +53,8 @@ def hill(mode, start, peak, end, opened, left, middle, right=()):
 
 def call(name, data, number=0, room=200):
     """A request: the call, its bytes, its number (a mode, where the right piece or
-    an outer figure begins, an n, or 8 times a page and a mode) and how long its buffer is."""
+    an outer figure begins, an n, 8 times a page and a mode, or 2^32 times a record number
+    and another) and how long its buffer is."""
     return f"{name} {number} {room} {data.hex() or '-'}"
 
 
@@ -85,6 +86,10 @@ def sheet(log, mode=1, page=0, room=200, name="sheet::sheet"):
     return call(name, log, 8 * page + mode, room)
 
 
+def common(log, a, b, name="common::common"):
+    return call(name, log, (a << 32) + b)
+
+
 def run(mode, *numbers):
     return struct.pack(f"<HHH{len(numbers)}q", 6 + 8 * len(numbers), 20, mode, *numbers)
 
@@ -114,6 +119,8 @@ def held(*values):
 HEAD, TAIL = halves(1)
 # Of one page, and of two.
 SIXTY, SIXTY_ONE = held(*[7] * 59), held(*[7] * 60)
+# Record 2 holds 3 and 4, and stands beside 1.
+TANK = held(7)[:-6] + short(1, 5) + 2 * (short(2, 7) + close(2)) + close(1) + close(0)
 # The line is of records 0, 1 and 2, and record 3, which stands beside 1, comes next.
 BESIDE = short(0, 1) + short(1, 9) + short(2, 1) + close(2) + close(1) + short(1, 1) + close(1) + close(0)
 # Record 2 is deeper than the line goes, which is of records 0 and 3.
@@ -190,6 +197,33 @@ INPUTS = {
     "codec/floor_lost": merge(SENT_BEFORE, REST),
     "codec/held_over_ceiling": merge(hill(1, 0, 0, 1, 2, [], 0, [(10, 0, 100, 5)]), SHUT),
     "codec/middle_left_out": merge(HEAD, hill(1, 2, 1, 1, 1, [0], 7)),
+    "common/a_one_too_large": common(D, 3, 0),
+    "common/all_but_the_first": common(D, 1, 2),
+    "common/b_not_looked_at": common(D, 1, 2),
+    "common/b_one_too_large": common(D, 0, 3),
+    "common/close_as_open": common(D, 1, 2),
+    "common/closes_not_looked_at": common(D, 1, 2),
+    "common/counted_from_1": common(D, 1, 2),
+    "common/each_fault_11": common(D[:71], 1, 2),
+    "common/each_open_the_first": common(D, 1, 2),
+    "common/earlier_alone": common(D, 1, 2),
+    "common/either_is_enough": common(D, 0, 3),
+    "common/fault_gets_19": common(b"", 0, 0),
+    "common/last_close_alone": common(TANK, 1, 4),
+    "common/later_alone": common(D, 1, 2),
+    "common/later_first": common(D, 1, 2),
+    "common/more_for_fewer": common(D, 1, 2),
+    "common/nineteen_as_18": common(D, 0, 3),
+    "common/one_too_deep": common(D, 1, 2),
+    "common/one_too_high": common(D, 1, 1),
+    "common/one_way_round": common(D, 2, 1),
+    "common/only_a_asked": common(D, 0, 3),
+    "common/only_b_asked": common(D, 3, 0),
+    "common/opens_not_counted": common(D, 1, 1),
+    "common/parent_of_the_first": common(D, 1, 1),
+    "common/root_always": common(D, 2, 2),
+    "common/stops_before_the_last": common(D, 1, 2),
+    "common/up_to_the_first": common(D, 1, 2),
     "day/drop_bound": call("day::figures", D),
     "day/fault_not_told": call("day::figures", short(0, 1)),
     "day/nothing_is_0": call("day::figures", TEN_OVER_MINUS_3),
@@ -432,6 +466,8 @@ INPUTS = {
     "text/zeros_for_blanks": sheet(D),
     "tulghimo/backwards_from_0": backwards(run(1, 12, 0, 0), 13, "tulghimo::tulghimo_backwards"),
     "tulghimo/backwards_refused": backwards(run(1, 12, 0, 0), 13, "tulghimo::tulghimo_backwards"),
+    "tulghimo/common_a_twice": common(D, 1, 2, name="tulghimo::tulghimo_common"),
+    "tulghimo/common_refused": common(D, 1, 2, name="tulghimo::tulghimo_common"),
     "tulghimo/day_always_10": call("tulghimo::tulghimo_day", D[:71]),
     "tulghimo/day_of_a_part": call("tulghimo::tulghimo_day", D),
     "tulghimo/day_stamp_for_eaten": call("tulghimo::tulghimo_day", D),
@@ -445,6 +481,7 @@ INPUTS = {
     "tulghimo/merge_row_always_6": call("tulghimo::tulghimo_merge_row", HEAD + TAIL),
     "tulghimo/merge_row_refused": call("tulghimo::tulghimo_merge_row", HEAD + TAIL),
     "tulghimo/merge_swapped": call("tulghimo::tulghimo_merge", HEAD + TAIL, len(HEAD)),
+    "tulghimo/name_always_19": common(b"", 0, 0, name="tulghimo::tulghimo_common"),
     "tulghimo/plan_always_one_line": call("tulghimo::tulghimo_plan", NESTED),
     "tulghimo/plan_refused": call("tulghimo::tulghimo_plan", HEAD + TAIL),
     "tulghimo/read_no_batch": call("tulghimo::tulghimo_read_record", with_batch(0, 5, 7)),

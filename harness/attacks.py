@@ -32,6 +32,7 @@ from attack_inputs import INPUTS
 WRITTEN = "written({}, &out)"
 RUN_AND_Y = "&input[..number], y(&input[number..])"
 MODE_AND_PAGE = "&input, (number % 8) as u32, (number / 8) as u32"
+TWO_NUMBERS = "&input, (number >> 32) as u32, number as u32"
 ARMS = {
     "record::read_first": """match record::read_first(&input) {
             record::Read::Record(f) => format!("{} {} {} {} {} {} {}", f.kind, f.length, f.depth, f.value, f.floor, f.ceiling, f.batch),
@@ -56,6 +57,10 @@ ARMS = {
     "small_days::small_days": WRITTEN.format("small_days::small_days(number as u32, &mut out)"),
     "heaviest_line::heaviest_line": WRITTEN.format("heaviest_line::heaviest_line(&input, &mut out)"),
     "sheet::sheet": WRITTEN.format(f"sheet::sheet({MODE_AND_PAGE}, &mut out)"),
+    "common::common": f"""match common::common({TWO_NUMBERS}) {{
+            common::Named::Record(n) => format!("record {{n}}"),
+            common::Named::Refused(n) => format!("refused {{n}}"),
+        }}""",
     "backwards::backwards": f"finished(backwards::backwards({RUN_AND_Y}))",
     "day::figures": """match day::figures(&input) {
             day::Day::Figures(f) => format!("{} {} {} {}", f.net, f.heaviest, f.eaten, f.stamp),
@@ -74,6 +79,7 @@ LENGTHS = {"summarise": "&input, number as u32", "merge": "&input[..number], &in
            "small_days": "number as u32", "heaviest_line": "&input", "sheet": MODE_AND_PAGE}
 NUMBERS = {"read_record": ("&input", 7), "finish": ("&input", 1), "work": ("&input", 3), "day": ("&input", 4),
            "backwards": (RUN_AND_Y, 1)}
+ARMS["tulghimo::tulghimo_common"] = f'format!("{{}}", tulghimo::tulghimo_common({TWO_NUMBERS}))'
 ARMS |= {f"tulghimo::tulghimo_{name}": f"""answered(tulghimo::tulghimo_{name}({lent}, &mut out), &out)"""
          for name, lent in LENGTHS.items()}
 ARMS |= {f"tulghimo::tulghimo_{name}": f"""{{

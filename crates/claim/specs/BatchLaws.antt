@@ -23,6 +23,7 @@ use Rattle.outcome.specs.Day.{dayOutcome}
 use Rattle.day_table.specs.Outcomes.{readTableOutcome}
 use Rattle.log_records.specs.Line.{heaviestLineOutcome}
 use Rattle.day_sheet.specs.Sheet.{sheetOutcome}
+use Rattle.common_record.specs.Common.{commonOutcome}
 use Rattle.claim.specs.Claim.{recordsRead, parts, cutAt, stretchBytes, logSays, IsCut, Lent, byCalls, onStretches, startRow, AreMerges, Claimed}
 use Rattle.claim.specs.Stretches.{found}
 use Rattle.claim.specs.Cut.{cut-reads, cut-records}
@@ -65,7 +66,7 @@ module _ (a b : List ℕ) (r : SameRecords a b) where
   summarise-same m n mode cap = rw (le-leb (length a) 65_536 m, le-leb (length b) 65_536 n, r .left-read, r .right-read, r .holds)
 
   pub same-answers : length a ≤ 65_536 → length b ≤ 65_536 → SameAnswers a b
-  unfolding dayOutcome readTableOutcome heaviestLineOutcome sheetOutcome
+  unfolding dayOutcome readTableOutcome heaviestLineOutcome sheetOutcome commonOutcome
   same-answers m n = record {
     summarise = summarise-same m n;
     whole = same-log r m n;
@@ -73,6 +74,7 @@ module _ (a b : List ℕ) (r : SameRecords a b) where
     read-table = λ cap. rw (same-log r m n);
     heaviest-line = λ cap. rw (same-log r m n);
     sheet = λ mode page cap. rw (same-log r m n);
+    common = λ x y. rw (same-log r m n);
   }
 
   says-same : (mode : ℕ) → logSays mode a ≡ logSays mode b

@@ -9,6 +9,7 @@ use Rattle.outcome.specs.Day.{dayOutcome}
 use Rattle.day_table.specs.Outcomes.{readTableOutcome}
 use Rattle.log_records.specs.Line.{heaviestLineOutcome}
 use Rattle.day_sheet.specs.Sheet.{sheetOutcome}
+use Rattle.common_record.specs.Common.{commonOutcome}
 use Rattle.claim.specs.Claim.{recordsRead, stretchBytes, logSays, IsCut, Lent, byCalls, startRow, AreMerges}
 
 -- "All other calls drop it": what summarise and every call on a whole log come to is the same for both, whatever room they are lent.
@@ -20,6 +21,7 @@ pub record SameAnswers (a b : List ℕ) : Type 0 where
   pub read-table : (cap : ℕ) → readTableOutcome a cap ≡ readTableOutcome b cap
   pub heaviest-line : (cap : ℕ) → heaviestLineOutcome a cap ≡ heaviestLineOutcome b cap
   pub sheet : (mode page cap : ℕ) → sheetOutcome a mode page cap ≡ sheetOutcome b mode page cap
+  pub common : (x y : ℕ) → commonOutcome a x y ≡ commonOutcome b x y
 
 -- What demand 3 says of one it says of the other, however long they are.
 pub record SameClaim (mode : ℕ) (a b : List ℕ) : Type 0 where

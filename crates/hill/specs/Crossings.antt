@@ -67,7 +67,7 @@ module _ {R : Type 0} where
             ⊎-elim (λ (e : k ≡ b). omega (arith, meets b i, ap endLevel (rw e at x))) (λ f. none k c f x) (eq-or-lt-of-le le)
 
   -- A close at depth d is among the records exactly if it stands at some place.
-  closedIn-at : (d : ℕ) (xs : List (Record R)) → closedIn d xs ≡ true → (k : ℕ) × (k < length xs) × (at xs k ≡ closing d)
+  pub closedIn-at : (d : ℕ) (xs : List (Record R)) → closedIn d xs ≡ true → (k : ℕ) × (k < length xs) × (at xs k ≡ closing d)
   closedIn-at d [] e = absurd (let z : _≡_ {A = ℕ} 0 1 = cc in omega arith)
   closedIn-at d (opening c r ∷ xs) e = let w = closedIn-at d xs e in (suc (w .0), omega (arith, w .1), w .2)
   closedIn-at d (closing c ∷ xs) e = go (eqb c d) refl (closedIn-at d xs) e
@@ -77,7 +77,7 @@ module _ {R : Type 0} where
       go true t ih e = (0, omega arith, ap closing (eqb-true c d t))
       go false t ih e = let w = ih e in (suc (w .0), omega (arith, w .1), w .2)
 
-  at-closedIn : (d : ℕ) (xs : List (Record R)) (k : ℕ) → k < length xs → at xs k ≡ closing d → closedIn d xs ≡ true
+  pub at-closedIn : (d : ℕ) (xs : List (Record R)) (k : ℕ) → k < length xs → at xs k ≡ closing d → closedIn d xs ≡ true
   at-closedIn d [] k l e = absurd (omega arith)
   at-closedIn d (opening c r ∷ xs) zero l e = absurd (opening-closing (opening c r) c d r refl e)
   at-closedIn d (opening c r ∷ xs) (suc k) l e = at-closedIn d xs k (omega arith) e

@@ -26,8 +26,7 @@ use Rattle.log_records.specs.Numbers.{numberAt}
 use Rattle.log_records.specs.NumberLaws.{number-most}
 use Rattle.log_records.specs.Line.{linePlaces, lineNumbers, numberBytes, heaviestLineOutcome}
 use Rattle.log_records.specs.Claims.{recordValue, Down, TakesGreatest, LineBytes, TurnsAway}
-use Rattle.log_records.specs.Formed.{formed}
-use Rattle.log_records.specs.GreatestLaws.{depth-once}
+use Rattle.log_records.specs.Formed.{depth-once, formed}
 use Rattle.log_records.specs.LineLaws.{one-line}
 
 pub bytes-length : (ns : List ℕ) → length (numberBytes ns) ≡ 4 * length ns

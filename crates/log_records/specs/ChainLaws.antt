@@ -20,7 +20,8 @@ use Rattle.hill.specs.Figure.{figureAt}
 use Rattle.hill.specs.HeldPlaces.{opens-inside, first-close}
 use Rattle.hill.specs.Crossings.{Meeting, falls}
 use Rattle.log_records.specs.Claims.{recordValue, sumOf, Reaches, Step, Down, TakesGreatest, TakesWhole}
-use Rattle.log_records.specs.GreatestLaws.{depth-once, has-figure, alone, under}
+use Rattle.log_records.specs.Formed.{depth-once}
+use Rattle.log_records.specs.GreatestLaws.{has-figure, alone, under}
 
 -- What a chain of places ends with.
 abbrev pub chainEnd : (p : ℕ) (below : List ℕ) → ℕ

@@ -23,6 +23,9 @@ pub record Formed {R : Type 0} (log : List (Record R)) : Type 0 where
   pub few : openedOf log ≤ 100_000
 
 module _ {R : Type 0} where
+  pub depth-once : (log : List (Record R)) (p d e : ℕ) → OpensAt log p d → OpensAt log p e → d ≡ e
+  depth-once log p d e a b = ap startLevel (sym (a .1) ∙ b .1)
+
   starts : (x : Record R) → startLevel x ≡ 0 → (r : R) × (x ≡ opening 0 r)
   starts (opening d r) e = (r, ap (λ k. opening k r) e)
   starts (closing d) e = absurd (omega (arith, e))

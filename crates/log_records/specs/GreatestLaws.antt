@@ -13,7 +13,7 @@ use Rattle.figure.specs.FourModes.{Amounts, heaviest, lift, lineOf}
 use Rattle.figure.specs.RunUnique.{figure-same}
 use Rattle.figure.specs.declared.Held.{Held}
 use Rattle.figure.specs.declared.Held.the-variants.{Nothing, Figure}
-use Rattle.hill.specs.Log.{Record, startLevel}
+use Rattle.hill.specs.Log.{Record}
 use Rattle.hill.specs.Closing.{OpensAt, Holds, Places}
 use Rattle.hill.specs.Sorted.{Sorted}
 use Rattle.hill.specs.Figure.{figureAt, combined}
@@ -92,9 +92,6 @@ first-some f (k ∷ qs) b r e = go (f k) refl (combined heaviest (map f qs)) ref
 -- ---- a record's figure and what it holds
 
 module _ (xs : List (Record Amounts)) where
-  pub depth-once : (p d e : ℕ) → OpensAt xs p d → OpensAt xs p e → d ≡ e
-  depth-once p d e a b = ap startLevel (sym (a .1) ∙ b .1)
-
   module _ (p d : ℕ) (o : OpensAt xs p d) where
     value-is : o .0 .value ≡ recordValue xs p
     value-is = ap valueOf (sym (o .1))

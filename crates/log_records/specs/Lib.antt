@@ -11,6 +11,7 @@ pub mod ChainLaws
 pub mod LineLaws
 -- What a pass over the log keeps, where it ends, and the figure that it has at a close.
 pub mod StackLaws
+pub mod OpenNumbers
 pub mod CloseFigure
 -- What the call comes to.
 pub mod CallLaws

@@ -11,7 +11,7 @@ use Rattle.hill.specs.Log.{Record, opening, closing, openedOf, opens}
 use Rattle.hill.specs.Closing.{at, OpensAt}
 use Rattle.hill.specs.HeldPlaces.{opening-closing}
 use Rattle.hill.specs.OwnLogLaws.{opened-take}
-use Rattle.log_records.specs.Numbers.{numberAt, IsRecord}
+use Rattle.log_records.specs.Numbers.{numberAt, placeOf, IsRecord}
 use Rattle.log_records.specs.Claims.{CountedFrom0}
 
 module _ {R : Type 0} where
@@ -35,12 +35,12 @@ module _ {R : Type 0} where
       (λ l. absurd (omega (arith, number-less log p q d (a .opens) l, a .number, b .number)))
       (λ l. dite (decLt q p) (λ m. absurd (omega (arith, number-less log q p e (b .opens) m, a .number, b .number))) (λ m. omega arith))
 
-  -- Every number below the opened count names one.
-  record-some : (log : List (Record R)) (n : ℕ) → n < openedOf log → (p : ℕ) × (d : ℕ) × IsRecord log n p d
-  record-some [] n l = absurd (omega arith)
-  record-some (opening d r ∷ xs) zero l = (0, d, record { opens = (r, refl); number = refl })
-  record-some (opening d r ∷ xs) (suc n) l = let w = record-some xs n (omega arith) in (suc (w .0), w .1, record { opens = w .2 .opens; number = omega (arith, w .2 .number) })
-  record-some (closing d ∷ xs) n l = let w = record-some xs n (omega arith) in (suc (w .0), w .1, record { opens = w .2 .opens; number = omega (arith, w .2 .number) })
+  -- Every number below the opened count names one, at its place.
+  pub record-at : (log : List (Record R)) (n : ℕ) → n < openedOf log → (d : ℕ) × IsRecord log n (placeOf log n) d
+  record-at [] n l = absurd (omega arith)
+  record-at (opening d r ∷ xs) zero l = (d, record { opens = (r, refl); number = refl })
+  record-at (opening d r ∷ xs) (suc n) l = let w = record-at xs n (omega arith) in (w .0, record { opens = w .1 .opens; number = omega (arith, w .1 .number) })
+  record-at (closing d ∷ xs) n l = let w = record-at xs n (omega arith) in (w .0, record { opens = w .1 .opens; number = omega (arith, w .1 .number) })
 
   -- one more after an open, as many after a close
   pub number-next : (log : List (Record R)) (k : ℕ) → k < length log → numberAt log (suc k) ≡ opens (at log k) + numberAt log k
@@ -70,7 +70,7 @@ module _ {R : Type 0} where
   -- COUNTED FROM 0 IN LOG ORDER.
   pub counted-from-0 : (log : List (Record R)) → CountedFrom0 log
   counted-from-0 log = record {
-    some = record-some log;
+    some = λ n l. let w = record-at log n l in (placeOf log n, w .0, w .1);
     once = record-once log;
     few = λ n p d r. omega (arith, r .number, number-few log p d (r .opens));
     in-order = order log;

@@ -148,7 +148,7 @@ module _ {R : Type 0} (xs : List (Record R)) where
 
   -- ---- a stack is a chain from the root
 
-  open-holds : {q p d : ℕ} → OpenBefore q p d → OpensAt xs q (suc d) → Holds xs p q d
+  pub open-holds : {q p d : ℕ} → OpenBefore q p d → OpensAt xs q (suc d) → Holds xs p q d
   open-holds {q} {p} {d} w o = record {
     holder = w .opens;
     held = o;

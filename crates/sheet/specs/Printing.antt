@@ -1,10 +1,10 @@
 -- What the pass over a log keeps that prints the lines of a page. Definitions only.
 use mathlib.Core.Path.{_≡_}
 use mathlib.Core.Logic.{_⊎_}
-use mathlib.Core.List.{List, [], _∷_, List·Memᴰ}
+use mathlib.Core.List.{List, List·Memᴰ}
 use Prim.Native.Nat.{ℕ, suc, _+_, _-_, _*_, _≤_, _<_}
 use lib.IntN.{ℤ}
-use lib.ListN.{length, getD, take, drop}
+use lib.ListN.{length, take, drop}
 use Rattle.figure.specs.FourModes.{Amounts, InRange}
 use Rattle.figure.specs.Mode.{modeOf}
 use Rattle.figure.specs.Stored.{amounts}
@@ -18,6 +18,7 @@ use Rattle.slopes.specs.Rising.{Stands}
 use Rattle.log_records.specs.Numbers.{numberAt}
 use Rattle.log_records.specs.Formed.{Formed}
 use Rattle.log_records.specs.StackLaws.{StackBefore}
+use Rattle.log_records.specs.OpenNumbers.{Numbered}
 use Rattle.log_records.specs.CloseFigure.{Carried}
 use Rattle.day_sheet.specs.Sheet.{sheetLine}
 use Rattle.day_sheet.specs.Claims.{InColumns}
@@ -29,17 +30,12 @@ abbrev pub row : (out : List ℕ) (i : ℕ) → List ℕ
 row out i = take 27 (drop (27 * i) out)
 
 module _ (xs : List (Record Amounts)) where
-  -- The number of each open record stands at its depth.
-  abbrev pub Numbered : (ns : List ℕ) (stack : List ℕ) → Type 0
-  Numbered ns [] = Unit {0}
-  Numbered ns (p ∷ ps) = (getD ns (length ps) 0 ≡ numberAt xs p) × Numbered ns ps
-
   -- Of the log's records xs, k are read; the arrays have those of them that are open.
   pub record OpenRecords (mode k : ℕ) (stack : List ℕ) (s : Progress) (vs fs cs hs : List ℤ) (ns : List ℕ) : Type 0 where
     pub stands : StackBefore xs k stack
     pub carried : Carried (modeOf mode .algebra) (modeOf mode .laws) xs k stack (rights (hillOf (modeOf mode .algebra) (take k xs)))
     pub arrays : Stands (take k xs) (length stack) vs fs cs mode hs (s .middle)
-    pub numbered : Numbered ns stack
+    pub numbered : Numbered xs ns stack
     pub size : length ns ≡ 64
     pub counted : s .opened ≡ numberAt xs k
 

@@ -11,7 +11,7 @@ use lib.Dec.{leb}
 use borrow.Author.Tests.{le-leb, lt-leb, lt-ltb, le-ltb}
 use lib.IntN.{ℤ}
 use lib.ListN.{length, getD, set, take, drop, take-append-drop, length-set, length-take, length-drop}
-use lib.Seq.{sets, length-sets, length-take-le, take-suc, getD-take, getD-drop, getD-set-same, getD-set-other}
+use lib.Seq.{sets, length-sets, length-take-le, take-suc, getD-take, getD-drop}
 use Rattle.gate.specs.Outcome.{result, bufferAfter}
 use Rattle.record.specs.Record.{readOf}
 use Rattle.record.specs.Laws.{sound}
@@ -38,6 +38,7 @@ use Rattle.log_records.specs.Numbers.{numberAt, IsRecord}
 use Rattle.log_records.specs.NumberLaws.{counted-from-0, number-next, number-most}
 use Rattle.log_records.specs.Formed.{Formed, formed}
 use Rattle.log_records.specs.StackLaws.{OpenStack, stack-start, open-level, stack-open, Left, stack-close, stack-end}
+use Rattle.log_records.specs.OpenNumbers.{Numbered, numbered-open}
 use Rattle.log_records.specs.CloseFigure.{Carried, carried-open, carried-close, close-figure}
 use Rattle.day_sheet.specs.Sheet.{sheetLine, sheetLines}
 use Rattle.day_sheet.specs.Claims.{InColumns}
@@ -45,7 +46,7 @@ use Rattle.day_sheet.specs.LineLaws.{line-27}
 use Rattle.day_sheet.specs.PageLaws.{printed, lines-length, line-is, fits}
 use Rattle.sheet.specs.declared.page.Progress.{Progress}
 use Rattle.sheet.specs.Contracts.{linesAt, linePut, oneMore, Closes, PageFits}
-use Rattle.sheet.specs.Printing.{row, Numbered, LinesSoFar, Printing, Ready, Noted}
+use Rattle.sheet.specs.Printing.{row, LinesSoFar, Printing, Ready, Noted}
 use Rattle.sheet.specs.RowLaws.{row-same, row-other, after-same, rows-joined}
 
 -- ---- a line is put at its place
@@ -64,15 +65,9 @@ module _ (first lines n d : ℕ) (z : ℤ) (out : List ℕ) where
   pub on-page : first ≤ n → n < first + lines → sets out (27 * (n - first)) (sheetLine n d z) ≡ linePut first lines n d z out
   on-page a b = rw (le-leb first n a, lt-ltb n (first + lines) b)
 
--- ---- numbers by depth
+-- ---- one record
 
 module _ (xs : List (Record Amounts)) where
-  numbers-kept : (ns : List ℕ) (i v : ℕ) (ps : List ℕ) → length ps ≤ i → Numbered xs ns ps → Numbered xs (set ns i v) ps
-  numbers-kept ns i v [] l h = tt
-  numbers-kept ns i v (p ∷ ps) l h = (getD-set-other ns i (length ps) v 0 (λ e. absurd (omega arith)) ∙ h .0, numbers-kept ns i v ps (omega arith) (h .1))
-
-  -- ---- one record
-
   module _ {mode first lines k : ℕ} {before : List ℕ} {s : Progress} {vs fs cs hs : List ℤ} {ns out : List ℕ} (i : Printing xs mode first lines k before s vs fs cs hs ns out) (inside : k < length xs) where
     few : openedOf (take k xs) ≤ 100_000
     few = omega (arith, number-most xs k, i .formed .few)
@@ -116,7 +111,7 @@ module _ (xs : List (Record Amounts)) where
           carried = subst (λ (h : Hill (modeOf mode .algebra .Fig) Amounts). Carried (modeOf mode .algebra) (modeOf mode .laws) xs (suc k) (k ∷ i .stack) (rights h)) (hill-next (opening d r) e)
               (carried-open (modeOf mode .algebra) (modeOf mode .laws) xs k (i .stack) (hillOf (modeOf mode .algebra) (take k xs)) e level (i .open-records .carried));
           arrays = arrays-open lt g p;
-          numbered = (ap (λ n. getD (set ns d (s .opened)) n 0) (sym level) ∙ getD-set-same ns d (s .opened) 0 (omega (arith, i .open-records .size)) ∙ i .open-records .counted, numbers-kept ns d (s .opened) (i .stack) (omega (arith, level)) (i .open-records .numbered));
+          numbered = numbered-open xs ns k d (s .opened) (i .stack) level (omega (arith, i .open-records .size)) (i .open-records .counted) (i .open-records .numbered);
           size = length-set ns d (s .opened) ∙ i .open-records .size;
           counted = omega (arith, i .open-records .counted, number-next xs k inside, ap opens e);
         };

@@ -17,6 +17,10 @@ abbrev pub lengthStatus : Outcome ℕ → ℤ
 lengthStatus (refused n) = negℤ (pos n)
 lengthStatus (result n) = pos n
 
+-- .. or, where it names a record, that record's number, in the same way.
+abbrev pub recordStatus : Outcome ℕ → ℤ
+recordStatus o = lengthStatus o
+
 -- A length that is a signed 64-bit number.
 abbrev pub Short : Outcome ℕ → Type 0
 Short (refused n) = Unit {0}

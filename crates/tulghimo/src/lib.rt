@@ -13,8 +13,11 @@ ghost use Rattle.day_list.specs.Days.{smallDaysOutcome};
 ghost use Rattle.run_back.specs.Backwards.{backwardsOutcome};
 ghost use Rattle.log_records.specs.Line.{heaviestLineOutcome};
 ghost use Rattle.day_sheet.specs.Sheet.{sheetOutcome};
+ghost use Rattle.common_record.specs.Common.{commonOutcome};
+ghost use Rattle.common.specs.Answers.{namedAnswer};
 ghost use Rattle.work.specs.Answers.{workIn};
-ghost use Rattle.tulghimo.specs.Interface.{statusOf, lengthStatus, Short, fieldsAfter, figureAfter, figuresAfter, workAfter};
+ghost use Rattle.tulghimo.specs.Interface.{statusOf, lengthStatus, recordStatus, Short, fieldsAfter, figureAfter, figuresAfter, workAfter};
+use common::Named;
 use day::Day;
 use gate::Finished;
 use gate::Written;
@@ -38,6 +41,16 @@ fn status(w: Written) -> i64
     match w {
         Written::Bytes(n) => n as i64,
         Written::Refused(n) => refusal(n),
+    }
+}
+
+// What a call that names a record answers, as one number.
+fn name_status(d: Named) -> i64
+    ensures { λ r. ⌜ r ≡ recordStatus (namedAnswer d) ⌝ }
+{
+    match d {
+        Named::Record(n) => n as i64,
+        Named::Refused(n) => refusal(n),
     }
 }
 
@@ -244,4 +257,13 @@ pub extern "C" fn tulghimo_sheet(log: &[u8], mode: u32, page: u32, out: &mut [u8
 {
     let printed = sheet::sheet(log, mode, page, out);
     status(printed)
+}
+
+// The record that records a and b of a whole log have in common: its number, or -2, -3, -7 to -11 or -19.
+#[no_mangle]
+pub extern "C" fn tulghimo_common(log: &[u8], a: u32, b: u32) -> i64
+    ensures { λ r. ⌜ r ≡ recordStatus (commonOutcome (now (log .entry)) a b) ⌝ }
+{
+    let named = common::common(log, a, b);
+    name_status(named)
 }
