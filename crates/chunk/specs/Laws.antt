@@ -1,11 +1,11 @@
 -- Laws of a chunk's records, and of a call on a whole log, question by question. Assumes nothing.
-use mathlib.Core.Path.{_≡_, refl, sym, ap, _∙_}
-use mathlib.Core.Bool.{Bool, true, false}
+use mathlib.Core.Path.{_≡_, refl, sym, ap, subst, _∙_}
+use mathlib.Core.Bool.{Bool, true, false, cond}
 use mathlib.Core.List.{List, [], _∷_, _++_, map}
 use mathlib.Core.Logic.{inl, inr}
-use Prim.Native.Nat.{ℕ, _≤_, _<_}
+use Prim.Native.Nat.{ℕ, zero, suc, _≤_, _<_}
 use native.Mathlib.Omega.{arith}
-use lib.Dec.{leb}
+use lib.Dec.{leb, eqb}
 use lib.ListN.{length}
 use borrow.Author.Tests.{le-leb, lt-leb, leb-true, eq-eqb, ne-eqb}
 use Rattle.gate.specs.Outcome.{Outcome, refused, result, question, onward}
@@ -13,11 +13,14 @@ use Rattle.gate.specs.Laws.{not-result, one-number}
 use Rattle.record.specs.Record.{inRange, recordsOf}
 use Rattle.record.specs.Laws.{records-3}
 use Rattle.record.specs.RangeLaws.{range-parts}
+use Rattle.record.specs.Ranged.{AllInRange, records-in-range}
 use Rattle.record.specs.declared.Fields.{Fields}
 use Rattle.figure.specs.FourModes.{Amounts}
 use Rattle.figure.specs.Stored.{amounts}
 use Rattle.hill.specs.Verdict.{Verdict, pass, refuse}
-use Rattle.hill.specs.Log.{Record, opening, closing, logFault}
+use Rattle.hill.specs.Log.{Record, opening, closing, depth, logFault}
+use Rattle.hill.specs.Closing.{OpensAt}
+use Rattle.hill.specs.HeldPlaces.{opening-closing}
 use Rattle.hill.specs.Questions.{NoOfLog}
 use Rattle.hill.specs.Faults.{lowest-log}
 use Rattle.hill.specs.Finish.{outcome}
@@ -33,6 +36,19 @@ is-close f e = rw (ne-eqb (f .kind) 1 e)
 
 pub depth-low : (f : Fields) → inRange (f .depth) (f .value) (f .floor) (f .ceiling) ≡ true → f .depth ≤ 63
 depth-low f e = range-parts (f .depth) (f .value) (f .floor) (f .ceiling) e .depth
+
+-- no record that was read is deeper than 63
+opens-low : (fs : List Fields) → AllInRange fs → (p d : ℕ) → OpensAt (chunkOf fs) p d → d ≤ 63
+opens-low [] h p d o = absurd (opening-closing (closing 0) d 0 (o .0) (o .1) refl)
+opens-low (f ∷ fs) h zero d o = go (eqb (f .kind) 1) (o .1)
+  where
+    go : (t : Bool) → cond t (opening (f .depth) (record { value = f .value; floor = f .floor; ceiling = f .ceiling })) (closing (f .depth)) ≡ opening d (o .0) → d ≤ 63
+    go true e = omega (arith, ap depth e, depth-low f (h .0))
+    go false e = absurd (opening-closing (closing (f .depth)) d (f .depth) (o .0) e refl)
+opens-low (f ∷ fs) h (suc p) d o = opens-low fs (h .1) p d o
+
+pub low-log : {log : List ℕ} {xs : List (Record Amounts)} → IsWellFormed log xs → (p d : ℕ) → OpensAt xs p d → d ≤ 63
+low-log {log} i p d o = opens-low (i .fields) (records-in-range log (i .fields) (i .read)) p d (subst (λ ys. OpensAt ys p d) (sym (i .records-are)) o)
 
 pub chunk-append : (fs gs : List Fields) → chunkOf (fs ++ gs) ≡ chunkOf fs ++ chunkOf gs
 chunk-append [] gs = refl

@@ -47,8 +47,8 @@ module _ {log : List ℕ} {opened : ℕ} (a b : ℕ) (w : Opens log opened) wher
     asked : {t : Bool} → ltb a opened && ltb b opened ≡ t → numbersOutcome a b xs ≡ question 19 t (result (commonNumber xs a b))
     asked e = ap (λ t. question 19 t (result (commonNumber xs a b))) (ap (λ n. ltb a n && ltb b n) (sym (w .count ∙ ap openedOf (one-log (w .is .formed) (i .formed)))) ∙ e)
 
-    pub named : {n : ℕ} → ltb a opened && ltb b opened ≡ true → ((ys : List (Record Amounts)) → IsWellFormed log ys → n ≡ commonNumber ys a b) → result n ≡ numbersOutcome a b xs
-    named e f = ap result (f xs (i .formed)) ∙ sym (asked e)
+    pub record-named : {n : ℕ} → ltb a opened && ltb b opened ≡ true → ((ys : List (Record Amounts)) → IsWellFormed log ys → n ≡ commonNumber ys a b) → result n ≡ numbersOutcome a b xs
+    record-named e f = ap result (f xs (i .formed)) ∙ sym (asked e)
 
     pub not-there : ltb a opened && ltb b opened ≡ false → refused 19 ≡ numbersOutcome a b xs
     not-there e = sym (asked e)

@@ -16,19 +16,19 @@ ghost use Rattle.common.specs.Walk.{Walked, InOrder};
 use record::Fields;
 use record::Read;
 
-// What the pass keeps beside the numbers of the open records: how many are opened so far; and how many of the open ones are or hold the first of the two, once
+// What the pass keeps beside the numbers of the open records: how many are opened so far; and how many of the open ones are or hold the earlier of the two, once
 // that is opened.
 pub struct Progress {
     pub opened: u32,
     pub shared: u16,
 }
 
-// How many are shared after an open: all that are open then, where it is the first of the two.
-fn shared_after_open(first: u32, number: u32, shared: u16, depth: u16) -> u16
+// How many are shared after an open: all that are open then, where it is the earlier of the two.
+fn shared_after_open(earlier: u32, number: u32, shared: u16, depth: u16) -> u16
     requires { ⌜ depth ≤ 63 ⌝ }
-    ensures { λ r. ⌜ r ≡ cond (eqb number first) (depth + 1) shared ⌝ }
+    ensures { λ r. ⌜ r ≡ cond (eqb number earlier) (depth + 1) shared ⌝ }
 {
-    if number == first { depth + 1 } else { shared }
+    if number == earlier { depth + 1 } else { shared }
 }
 
 // .. and after a close at this depth: no more than are open then.
@@ -39,15 +39,15 @@ fn shared_after_close(shared: u16, depth: u16) -> u16
 }
 
 // One record more.
-fn note(first: u32, f: Fields, s: Progress, numbers: &mut [u32; 64]) -> Progress
+fn note(earlier: u32, f: Fields, s: Progress, numbers: &mut [u32; 64]) -> Progress
     requires { ⌜ (f .depth ≤ 63) × (s .opened ≤ 100000) ⌝ }
-    ensures { λ r. ⌜ ((xs : List (Record Amounts)) (k : ℕ) → Walked xs first k s (now (numbers .entry)) → k < length xs → at xs k ≡ recordOf f → Walked xs first (suc k) r (now (numbers .exit))) ⌝ }
+    ensures { λ r. ⌜ ((xs : List (Record Amounts)) (k : ℕ) → Walked xs earlier k s (now (numbers .entry)) → k < length xs → at xs k ≡ recordOf f → Walked xs earlier (suc k) r (now (numbers .exit))) ⌝ }
 {
     if f.kind == 1 {
         numbers[f.depth as usize] = s.opened;
         return Progress {
             opened: s.opened + 1,
-            shared: shared_after_open(first, s.opened, s.shared, f.depth),
+            shared: shared_after_open(earlier, s.opened, s.shared, f.depth),
         };
     }
     Progress {
@@ -56,11 +56,10 @@ fn note(first: u32, f: Fields, s: Progress, numbers: &mut [u32; 64]) -> Progress
     }
 }
 
-// The number of the record that two have in common, the first of which is not opened after the last, in a log that was let through, so that the reader cannot
-// refuse.
-pub fn find(log: &[u8], first: u32, last: u32) -> u32
-    requires { ⌜ InOrder (now log) first last ⌝ }
-    ensures { λ r. ⌜ ((xs : List (Record Amounts)) → IsWellFormed (now (log .entry)) xs → r ≡ commonNumber xs first last) ⌝ }
+// The number of the record that two have in common, the earlier given before the later, in a log that was let through, so that the reader cannot refuse.
+pub fn find(log: &[u8], earlier: u32, later: u32) -> u32
+    requires { ⌜ InOrder (now log) earlier later ⌝ }
+    ensures { λ r. ⌜ ((xs : List (Record Amounts)) → IsWellFormed (now (log .entry)) xs → r ≡ commonNumber xs earlier later) ⌝ }
 {
     let mut numbers = [0u32; 64];
     let mut s = Progress {
@@ -68,12 +67,12 @@ pub fn find(log: &[u8], first: u32, last: u32) -> u32
         shared: 0,
     };
     let mut rest = log;
-    while s.opened <= last {
+    while s.opened <= later {
         let Read::Record(f) = record::read_first(rest) else {
             return 0;
         };
         let length = f.length as usize;
-        s = note(first, f, s, &mut numbers);
+        s = note(earlier, f, s, &mut numbers);
         rest = &rest[length..];
     }
     let deepest = s.shared - 1;

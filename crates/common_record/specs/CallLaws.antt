@@ -1,6 +1,6 @@
 -- What asking for the record in common comes to: its number, or a fault or 19, each exactly where it is due. Assumes nothing.
 use mathlib.Core.Path.{_≡_, refl, sym, ap, subst, _∙_}
-use mathlib.Core.Bool.{Bool, true, false, _&&_}
+use mathlib.Core.Bool.{Bool, true, false, _&&_, and-false}
 use mathlib.Core.Logic.{_⊎_, inl, inr, ⊎-elim, dite}
 use mathlib.Core.List.{List}
 use Prim.Native.Nat.{ℕ, _≤_, _<_}
@@ -24,21 +24,17 @@ module _ (a b : ℕ) (xs : List (Record Amounts)) where
   asked : Bool → Outcome ℕ
   asked t = question 19 t (result (commonNumber xs a b))
 
-  pub one-not-below : (openedOf xs ≤ a) ⊎ (openedOf xs ≤ b) → numbersOutcome a b xs ≡ refused 19
+  one-not-below : (openedOf xs ≤ a) ⊎ (openedOf xs ≤ b) → numbersOutcome a b xs ≡ refused 19
   unfolding asked
   one-not-below h = ap asked (⊎-elim not-a not-b h)
     where
-      and-false : (t : Bool) → t && false ≡ false
-      and-false true = refl
-      and-false false = refl
-
       not-a : openedOf xs ≤ a → ltb a (openedOf xs) && ltb b (openedOf xs) ≡ false
       not-a l = rw (le-ltb a (openedOf xs) l)
 
       not-b : openedOf xs ≤ b → ltb a (openedOf xs) && ltb b (openedOf xs) ≡ false
       not-b l = rw (le-ltb b (openedOf xs) l) (and-false (ltb a (openedOf xs)))
 
-  pub both-below : a < openedOf xs → b < openedOf xs → numbersOutcome a b xs ≡ result (commonNumber xs a b)
+  both-below : a < openedOf xs → b < openedOf xs → numbersOutcome a b xs ≡ result (commonNumber xs a b)
   unfolding asked
   both-below la lb = let e : ltb a (openedOf xs) && ltb b (openedOf xs) ≡ true = rw (lt-ltb a (openedOf xs) la, lt-ltb b (openedOf xs) lb) in ap asked e
 

@@ -12,12 +12,12 @@ use Rattle.log_records.specs.Numbers.{IsRecord}
 use Rattle.common_record.specs.Common.{commonNumber, commonOutcome}
 
 -- "Is each of them or holds it", at any depth: the record opened at p is the one opened at q, or directly holds one that is it or holds it. It is the smallest
--- such relation (`HoldingLaws.smallest`).
+-- such relation (`HoldingLaws.smallest-relation`).
 pub data IsOrHolds {R : Type 0} (log : List (Record R)) : (p q : ℕ) → Type 0 where
   itself : (p d : ℕ) → OpensAt log p d → IsOrHolds log p p
   through : (p m q d : ℕ) → Holds log p m d → IsOrHolds log m q → IsOrHolds log p q
 
--- The same on a well-formed log (`HoldingLaws.is-or-holds`): the record opened at p is opened not after place q and closed after it.
+-- The same on a well-formed log (`HoldingLaws.is-or-holds`), of a record opened at q: the one opened at p is opened not after it and closed after it.
 pub record Encloses {R : Type 0} (log : List (Record R)) (p q : ℕ) : Type 0 where
   pub depth : ℕ
   pub close : ℕ

@@ -14,22 +14,23 @@ use Rattle.chunk.specs.Chunk.{wholeLog}
 use Rattle.log_records.specs.Numbers.{numberAt, placeOf}
 
 module _ {R : Type 0} where
-  -- "Is each of them or holds it", as a test: a record is opened at p, not after q, and not closed up to q (`HoldingLaws.is-or-holds`).
+  -- An open, and no close at its depth among the records after it.
   abbrev pub staysOpen : Record R → (after : List (Record R)) → Bool
   staysOpen (opening d r) after = not (closedIn d after)
   staysOpen (closing d) after = false
 
+  -- "Is each of them or holds it", as a test: a record is opened at p, not after q, and not closed up to q (`HoldingLaws.is-or-holds`).
   abbrev pub openUpTo : List (Record R) → (p q : ℕ) → Bool
   openUpTo log p q = leb p q && staysOpen (at log p) (take (q - p) (drop (suc p) log))
 
   -- Of the records at two places, the deeper one; the first where neither is.
-  abbrev pub deeper : List (Record R) → (p q : ℕ) → ℕ
-  deeper log p q = cond (ltb (depth (at log p)) (depth (at log q))) q p
+  abbrev pub deeperOf : List (Record R) → (p q : ℕ) → ℕ
+  deeperOf log p q = cond (ltb (depth (at log p)) (depth (at log q))) q p
 
   -- "The deepest record that is each of them or holds it", of the two opened at p and q, among those up to place n. The root, at place 0, is or holds any.
   unfoldable pub deepestUpTo : List (Record R) → (p q n : ℕ) → ℕ
   deepestUpTo log p q zero = 0
-  deepestUpTo log p q (suc n) = cond (openUpTo log (suc n) p && openUpTo log (suc n) q) (deeper log (deepestUpTo log p q n) (suc n)) (deepestUpTo log p q n)
+  deepestUpTo log p q (suc n) = cond (openUpTo log (suc n) p && openUpTo log (suc n) q) (deeperOf log (deepestUpTo log p q n) (suc n)) (deepestUpTo log p q n)
 
   -- THE RECORD THAT RECORDS a AND b HAVE IN COMMON, by its number.
   unfoldable pub commonNumber : List (Record R) → (a b : ℕ) → ℕ

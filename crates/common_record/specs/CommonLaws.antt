@@ -17,15 +17,15 @@ use Rattle.hill.specs.HeldPlaces.{opening-closing, opens-inside}
 use Rattle.log_records.specs.Numbers.{placeOf, IsRecord}
 use Rattle.log_records.specs.NumberLaws.{counted-from-0, record-at}
 use Rattle.log_records.specs.Formed.{Formed, depth-once, formed}
-use Rattle.common_record.specs.Common.{openUpTo, deeper, deepestUpTo, commonNumber}
+use Rattle.common_record.specs.Common.{openUpTo, deeperOf, deepestUpTo, commonNumber}
 use Rattle.common_record.specs.Claims.{IsOrHolds, itself, InCommon, OneInCommon}
-use Rattle.common_record.specs.HoldingLaws.{OpenAt, open-earlier, open-once, open-order, open-depth, unclosed-open, holding-open, open-holding, test-open, open-test}
+use Rattle.common_record.specs.HoldingLaws.{StillOpen, open-earlier, open-once, open-order, open-depth, unclosed-open, holding-open, open-holding, test-open, open-test}
 
 module _ {R : Type 0} where
   module _ (log : List (Record R)) where
     -- ---- two records have one in common at most, the same either way round
 
-    pub common-swap : {a b n : ℕ} → InCommon log a b n → InCommon log b a n
+    common-swap : {a b n : ℕ} → InCommon log a b n → InCommon log b a n
     common-swap x = record {
       place-a = x .place-b;
       depth-a = x .depth-b;
@@ -42,7 +42,7 @@ module _ {R : Type 0} where
     }
 
     module _ (f : Formed log) where
-      pub common-once : {a b m n : ℕ} → InCommon log a b m → InCommon log a b n → m ≡ n
+      common-once : {a b m n : ℕ} → InCommon log a b m → InCommon log a b n → m ≡ n
       common-once {a} {b} {m} {n} x y =
           let same-a : x .place-a ≡ y .place-a = counted-from-0 log .once a (x .place-a) (y .place-a) (x .depth-a) (y .depth-a) (x .record-a) (y .record-a) in
           let same-b : x .place-b ≡ y .place-b = counted-from-0 log .once b (x .place-b) (y .place-b) (x .depth-b) (y .depth-b) (x .record-b) (y .record-b) in
@@ -55,11 +55,11 @@ module _ {R : Type 0} where
           let w = holding-open log (f .meets) (y .with-a) in
           let eu : u .0 ≡ y .depth = depth-once log (x .place) (u .0) (x .depth) (u .1 .opens) (x .is-record .opens) ∙ deep in
           let ew : w .0 ≡ y .depth = depth-once log (y .place) (w .0) (y .depth) (w .1 .opens) (y .is-record .opens) in
-          let s : x .place ≡ y .place = open-once log (subst (λ d. OpenAt log (x .place) d (y .place-a)) eu (u .1)) (subst (λ d. OpenAt log (y .place) d (y .place-a)) ew (w .1)) in
+          let s : x .place ≡ y .place = open-once log (subst (λ d. StillOpen log (x .place) d (y .place-a)) eu (u .1)) (subst (λ d. StillOpen log (y .place) d (y .place-a)) ew (w .1)) in
           sym (x .is-record .number) ∙ ap (λ p. openedOf (take p log)) s ∙ y .is-record .number
 
       -- one that is the other or holds it is what they have in common
-      pub common-holder : {a b p q d e : ℕ} → IsRecord log a p d → IsRecord log b q e → IsOrHolds log p q → InCommon log a b a
+      common-holder : {a b p q d e : ℕ} → IsRecord log a p d → IsRecord log b q e → IsOrHolds log p q → InCommon log a b a
       common-holder {a} {b} {p} {q} {d} {e} ra rb i = record {
         place-a = p;
         depth-a = d;
@@ -84,7 +84,7 @@ module _ {R : Type 0} where
             let l : w .0 ≤ c .0 = omega (arith, x .deepest k (w .0) (w .1 .opens) u v, depth-once log (x .place) (c .0) (x .depth) (c .1 .opens) (x .is-record .opens)) in
             open-holding log (f .meets) (x .is-record .opens) (open-earlier log (w .1) (open-order log (w .1) (c .1) l) (omega (arith, c .1 .before)))
 
-        pub own-number : (n ≡ a) ↔ IsOrHolds log (x .place-a) (x .place-b)
+        own-number : (n ≡ a) ↔ IsOrHolds log (x .place-a) (x .place-b)
         own-number = (
           (λ e.
               let s : x .place ≡ x .place-a = counted-from-0 log .once a (x .place) (x .place-a) (x .depth) (x .depth-a) (subst (λ m. IsRecord log m (x .place) (x .depth)) e (x .is-record)) (x .record-a) in
@@ -98,8 +98,8 @@ module _ {R : Type 0} where
 
       -- ---- the one computed
 
-      -- no record but the root is less than 1 deep
-      root-open : {q e : ℕ} → OpensAt log q e → OpenAt log 0 0 q
+      -- the root is open at every record
+      root-open : {q e : ℕ} → OpensAt log q e → StillOpen log 0 0 q
       root-open {q} {e} o = unclosed-open log (f .meets) (f .root) (omega arith) i none
         where
           i : q < length log
@@ -113,13 +113,13 @@ module _ {R : Type 0} where
       -- of the records up to place n that are open at a and at b, c is the deepest
       record Deepest (a b n c : ℕ) : Type 0 where
         pub deep : ℕ
-        pub at-a : OpenAt log c deep a
-        pub at-b : OpenAt log c deep b
-        pub most : (k e : ℕ) → k ≤ n → OpenAt log k e a → OpenAt log k e b → e ≤ deep
+        pub at-a : StillOpen log c deep a
+        pub at-b : StillOpen log c deep b
+        pub most : (k e : ℕ) → k ≤ n → StillOpen log k e a → StillOpen log k e b → e ≤ deep
 
       module _ (a b : ℕ) {da db : ℕ} (oa : OpensAt log a da) (ob : OpensAt log b db) where
         -- one more that is open at both
-        further : (n c : ℕ) → Deepest a b n c → (d : ℕ) → OpenAt log (suc n) d a → OpenAt log (suc n) d b → Deepest a b (suc n) (deeper log c (suc n))
+        further : (n c : ℕ) → Deepest a b n c → (d : ℕ) → StillOpen log (suc n) d a → StillOpen log (suc n) d b → Deepest a b (suc n) (deeperOf log c (suc n))
         further n c w d u v = go (ltb (depth (at log c)) (depth (at log (suc n)))) refl
           where
             old : depth (at log c) ≡ w .deep
@@ -128,7 +128,7 @@ module _ {R : Type 0} where
             new : depth (at log (suc n)) ≡ d
             new = ap depth (u .opens .1)
 
-            here : (k e : ℕ) → k ≡ suc n → OpenAt log k e a → e ≡ d
+            here : (k e : ℕ) → k ≡ suc n → StillOpen log k e a → e ≡ d
             here k e s x = depth-once log (suc n) e d (subst (λ j. OpensAt log j e) s (x .opens)) (u .opens)
 
             go : (t : Bool) → ltb (depth (at log c)) (depth (at log (suc n))) ≡ t → Deepest a b (suc n) (cond t (suc n) c)
@@ -150,11 +150,11 @@ module _ {R : Type 0} where
         deepest-is (suc n) = go (openUpTo log (suc n) a && openUpTo log (suc n) b) refl (deepest-is n)
           where
             go : (t : Bool) → openUpTo log (suc n) a && openUpTo log (suc n) b ≡ t → Deepest a b n (deepestUpTo log a b n)
-                → Deepest a b (suc n) (cond t (deeper log (deepestUpTo log a b n) (suc n)) (deepestUpTo log a b n))
+                → Deepest a b (suc n) (cond t (deeperOf log (deepestUpTo log a b n) (suc n)) (deepestUpTo log a b n))
             go true t w =
                 let u = test-open log (f .meets) (opens-inside log a da oa) (and-left (openUpTo log (suc n) a) (openUpTo log (suc n) b) t) in
                 let v = test-open log (f .meets) (opens-inside log b db ob) (and-right (openUpTo log (suc n) a) (openUpTo log (suc n) b) t) in
-                further n (deepestUpTo log a b n) w (u .0) (u .1) (subst (λ d. OpenAt log (suc n) d b) (depth-once log (suc n) (v .0) (u .0) (v .1 .opens) (u .1 .opens)) (v .1))
+                further n (deepestUpTo log a b n) w (u .0) (u .1) (subst (λ d. StillOpen log (suc n) d b) (depth-once log (suc n) (v .0) (u .0) (v .1 .opens) (u .1 .opens)) (v .1))
             go false t w = record {
               deep = w .deep;
               at-a = w .at-a;
@@ -164,7 +164,7 @@ module _ {R : Type 0} where
                   (λ s. w .most k e (omega arith) x y) (eq-or-lt-of-le h);
             }
               where
-                at-next : (k e q : ℕ) → k ≡ suc n → OpenAt log k e q → openUpTo log (suc n) q ≡ true
+                at-next : (k e q : ℕ) → k ≡ suc n → StillOpen log k e q → openUpTo log (suc n) q ≡ true
                 at-next k e q s x = ap (λ j. openUpTo log j q) (sym s) ∙ open-test log x
 
                 two : {s t : Bool} → s ≡ true → t ≡ true → s && t ≡ true
@@ -193,7 +193,7 @@ module _ {R : Type 0} where
                 let q = holding-open log (f .meets) v in
                 let ep : p .0 ≡ e = depth-once log k (p .0) e (p .1 .opens) o in
                 let eq : q .0 ≡ e = depth-once log k (q .0) e (q .1 .opens) o in
-                w .most k e (omega (arith, opens-inside log k e o)) (subst (λ d. OpenAt log k d (placeOf log a)) ep (p .1)) (subst (λ d. OpenAt log k d (placeOf log b)) eq (q .1));
+                w .most k e (omega (arith, opens-inside log k e o)) (subst (λ d. StillOpen log k d (placeOf log a)) ep (p .1)) (subst (λ d. StillOpen log k d (placeOf log b)) eq (q .1));
           }
 
   -- EXACTLY ONE RECORD is what two records of a log without fault have in common, and it is the one computed.

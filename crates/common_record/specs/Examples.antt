@@ -10,6 +10,8 @@ use Rattle.hill.specs.Verdict.{joint, count, ends}
 use Rattle.hill.specs.Log.{Record, opening, closing}
 use Rattle.chunk.specs.Chunk.{wholeLog}
 use Rattle.common_record.specs.Common.{deepestUpTo, commonNumber, commonOutcome}
+use Rattle.common_record.specs.Claims.{IsOrHolds}
+use Rattle.common_record.specs.HoldingLaws.{is-or-holds}
 
 -- D: "open 0 ..; open 1 ..; close 1; open 1 ..; close 1; close 0": records 1 and 2 have the root in common, ..
 D-siblings : commonOutcome logD 1 2 ≡ result 0
@@ -55,3 +57,8 @@ tank-and-drop = refl
 drop-and-tank : commonNumber two-tanks 5 4 ≡ 4
 unfolding deepestUpTo commonNumber
 drop-and-tank = refl
+
+-- The root holds the last drop, which is opened at place 8, through its tank.
+through-the-tank : IsOrHolds two-tanks 0 8
+unfolding joint count ends
+through-the-tank = is-or-holds two-tanks refl 0 8 2 (7, refl) .1 .1 refl

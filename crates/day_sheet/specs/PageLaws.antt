@@ -20,12 +20,12 @@ use Rattle.hill.specs.OwnLogLaws.{own-fine, own-figure, figure-size}
 use Rattle.hill.specs.Row.{joined}
 use Rattle.hill.specs.RowLaws.{joined-append, joined-long}
 use Rattle.chunk.specs.Chunk.{figureIn, IsWellFormed}
+use Rattle.chunk.specs.Laws.{low-log}
 use Rattle.summary.specs.MergeBytes.{Readables}
 use Rattle.summary.specs.OutcomeLaws.{chunk-readable}
 use Rattle.log_records.specs.Numbers.{numberAt, IsRecord}
 use Rattle.log_records.specs.NumberLaws.{counted-from-0, number-most}
 use Rattle.log_records.specs.Formed.{Formed, formed, closed-some}
-use Rattle.log_records.specs.CallLaws.{low-log}
 use Rattle.day_sheet.specs.Sheet.{sheetLine, linesFrom, sheetLines, pageLines, pageText}
 use Rattle.day_sheet.specs.Claims.{InColumns, readLine, IsOwnFigure, TellsOf, IsPage, pagesUpTo}
 use Rattle.day_sheet.specs.LineLaws.{line-27, line-back, most, in-columns, stored-within}

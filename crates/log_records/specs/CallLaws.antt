@@ -1,27 +1,22 @@
 -- What naming the records behind the heaviest line comes to: their numbers, or a fault, or 12, each exactly where it is due. Assumes nothing.
 use mathlib.Core.Path.{_≡_, refl, sym, ap, subst, _∙_}
-use mathlib.Core.Bool.{Bool, true, false, cond}
 use mathlib.Core.Logic.{dite}
 use mathlib.Core.List.{List, [], _∷_, map}
 use Prim.Native.Nat.{ℕ, zero, suc, _+_, _-_, _*_, _≤_, _<_}
 use native.Mathlib.Nat.{zero-add, add-zero}
 use native.Mathlib.Decide.{decLt}
 use native.Mathlib.Omega.{arith}
-use lib.Dec.{eqb}
 use lib.IntN.{ℤ, _+ℤ_}
 use lib.ListN.{length, getD, length-append, length-map}
 use Rattle.gate.specs.Outcome.{Outcome, refused, result, written}
 use Rattle.gate.specs.Laws.{not-result, result-same, fits, too-short}
 use Rattle.number.specs.Bytes.{leAt, bytesOf}
 use Rattle.number.specs.Laws.{length-bytesOf, field-here, field-past}
-use Rattle.record.specs.Ranged.{AllInRange, records-in-range}
-use Rattle.record.specs.declared.Fields.{Fields}
 use Rattle.figure.specs.FourModes.{Amounts}
-use Rattle.hill.specs.Log.{Record, opening, closing, depth}
+use Rattle.hill.specs.Log.{Record, depth}
 use Rattle.hill.specs.Closing.{OpensAt}
-use Rattle.hill.specs.HeldPlaces.{opening-closing}
-use Rattle.chunk.specs.Chunk.{chunkOf, wholeLog, IsWellFormed}
-use Rattle.chunk.specs.Laws.{depth-low, IsLog, is-log}
+use Rattle.chunk.specs.Chunk.{wholeLog, IsWellFormed}
+use Rattle.chunk.specs.Laws.{low-log, IsLog, is-log}
 use Rattle.log_records.specs.Numbers.{numberAt}
 use Rattle.log_records.specs.NumberLaws.{number-most}
 use Rattle.log_records.specs.Line.{linePlaces, lineNumbers, numberBytes, heaviestLineOutcome}
@@ -52,23 +47,9 @@ module _ (xs : List (Record Amounts)) where
       let e : suc (w .0 .depth) + i ≡ d + suc i = omega (arith, depth-once xs p d (w .0 .depth) o (w .0 .holds .holder)) in
       subst (OpensAt xs (getD (q ∷ qs) i 0)) e (down-opens qs (s +ℤ recordValue xs q) q (suc (w .0 .depth)) (w .0 .holds .held) (w .1) i (omega arith))
 
--- ---- at most 64: no record is deeper than 63
-
-opens-low : (fs : List Fields) → AllInRange fs → (p d : ℕ) → OpensAt (chunkOf fs) p d → d ≤ 63
-opens-low [] h p d o = absurd (opening-closing (closing 0) d 0 (o .0) (o .1) refl)
-opens-low (f ∷ fs) h zero d o = go (eqb (f .kind) 1) (o .1)
-  where
-    go : (t : Bool) → cond t (opening (f .depth) (record { value = f .value; floor = f .floor; ceiling = f .ceiling })) (closing (f .depth)) ≡ opening d (o .0) → d ≤ 63
-    go true e = omega (arith, ap depth e, depth-low f (h .0))
-    go false e = absurd (opening-closing (closing (f .depth)) d (f .depth) (o .0) e refl)
-opens-low (f ∷ fs) h (suc p) d o = opens-low fs (h .1) p d o
-
 -- ---- what is written
 
 module _ {log : List ℕ} {xs : List (Record Amounts)} (i : IsWellFormed log xs) where
-  pub low-log : (p d : ℕ) → OpensAt xs p d → d ≤ 63
-  low-log p d o = opens-low (i .fields) (records-in-range log (i .fields) (i .read)) p d (subst (λ ys. OpensAt ys p d) (sym (i .records-are)) o)
-
   line-opens : (k : ℕ) → k < length (linePlaces xs) → OpensAt xs (getD (linePlaces xs) k 0) k
   line-opens k l =
       let a = one-line xs (i .fine) .is in
@@ -76,7 +57,7 @@ module _ {log : List ℕ} {xs : List (Record Amounts)} (i : IsWellFormed log xs)
       subst (λ ps. OpensAt xs (getD ps k 0) k) (sym (a .from-root)) (subst (OpensAt xs (getD (0 ∷ a .below) k 0)) (zero-add k) o)
 
   few : length (linePlaces xs) ≤ 64
-  few = dite (decLt 64 (length (linePlaces xs))) (λ l. absurd (omega (arith, low-log (getD (linePlaces xs) 64 0) 64 (line-opens 64 l)))) (λ l. omega arith)
+  few = dite (decLt 64 (length (linePlaces xs))) (λ l. absurd (omega (arith, low-log i (getD (linePlaces xs) 64 0) 64 (line-opens 64 l)))) (λ l. omega arith)
 
   -- WHAT IS WRITTEN: the numbers of the line's records.
   pub line-bytes : LineBytes xs (numberBytes (lineNumbers xs))

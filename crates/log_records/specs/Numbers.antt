@@ -10,7 +10,7 @@ use Rattle.hill.specs.Closing.{OpensAt}
 abbrev pub numberAt : {R : Type 0} → List (Record R) → (p : ℕ) → ℕ
 numberAt log p = openedOf (take p log)
 
--- The place where record n is opened.
+-- The place where record n is opened (`NumberLaws.record-at`).
 abbrev pub placeOf : {R : Type 0} → List (Record R) → (n : ℕ) → ℕ
 placeOf [] n = 0
 placeOf (opening d r ∷ xs) zero = 0

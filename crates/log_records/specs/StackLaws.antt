@@ -42,6 +42,15 @@ module _ {R : Type 0} (xs : List (Record R)) where
     pub before : p < k
     pub deeper : (j : ℕ) → p < j → j < k → d < depth (at xs j)
 
+  -- What is open at a deeper record that is open is open itself.
+  pub open-through : {k q p d e : ℕ} → OpenBefore q p d → OpenBefore k q e → d < e → OpenBefore k p d
+  open-through {k} {q} {p} {d} {e} u w l = record { opens = u .opens; before = omega (arith, u .before, w .before); deeper = deep }
+    where
+      deep : (j : ℕ) → p < j → j < k → d < depth (at xs j)
+      deep j a b =
+          dite (decLt j q) (λ m. u .deeper j a m)
+          (λ m. dite (decLt q j) (λ n. omega (arith, w .deeper j n b)) (λ n. let g : j ≡ q = omega arith in omega (arith, ap (λ i. depth (at xs i)) g, ap depth (w .opens .1))))
+
   -- The records open before place k, deepest first.
   abbrev pub OpenStack : (k : ℕ) (ps : List ℕ) → Type 0
   OpenStack k [] = Unit {0}
@@ -81,14 +90,9 @@ module _ {R : Type 0} (xs : List (Record R)) where
 
   under-top : (k p : ℕ) (ps : List ℕ) → OpenStack k (p ∷ ps) → at xs k ≡ closing (length ps) → OpenStack (suc k) ps
   under-top k p [] w e = tt
-  under-top k p (q ∷ qs) w e = (record { opens = w .1 .0 .opens; before = omega (arith, w .1 .0 .before, w .0 .before); deeper = deep }, w .1 .1)
-    where
-      deep : (j : ℕ) → q < j → j < suc k → length qs < depth (at xs j)
-      deep j a b =
-          dite (decLt j p) (λ l. w .1 .0 .deeper j a l)
-          (λ m. dite (decLt p j)
-          (λ n. dite (decLt j k) (λ l. omega (arith, w .0 .deeper j n l)) (λ l. let g : j ≡ k = omega arith in omega (arith, ap (λ i. depth (at xs i)) g, ap depth e)))
-          (λ n. let g : j ≡ p = omega arith in omega (arith, ap (λ i. depth (at xs i)) g, ap depth (w .0 .opens .1))))
+  under-top k p (q ∷ qs) w e =
+      let u : OpenBefore k q (length qs) = open-through (w .1 .0) (w .0) (omega arith) in
+      (record { opens = u .opens; before = omega (arith, u .before); deeper = λ j a b. dite (decLt j k) (λ l. u .deeper j a l) (λ l. let g : j ≡ k = omega arith in omega (arith, ap (λ i. depth (at xs i)) g, ap depth e)) }, w .1 .1)
 
   ended-low : (x : Record R) → endLevel x ≡ 0 → depth x ≡ 0
   ended-low (opening c r) e = absurd (omega (arith, e))

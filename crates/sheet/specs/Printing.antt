@@ -17,8 +17,7 @@ use Rattle.chunk.specs.Chunk.{recordOf}
 use Rattle.slopes.specs.Rising.{Stands}
 use Rattle.log_records.specs.Numbers.{numberAt}
 use Rattle.log_records.specs.Formed.{Formed}
-use Rattle.log_records.specs.StackLaws.{StackBefore}
-use Rattle.log_records.specs.OpenNumbers.{Numbered}
+use Rattle.log_records.specs.OpenNumbers.{OpenNumbers}
 use Rattle.log_records.specs.CloseFigure.{Carried}
 use Rattle.day_sheet.specs.Sheet.{sheetLine}
 use Rattle.day_sheet.specs.Claims.{InColumns}
@@ -32,12 +31,9 @@ row out i = take 27 (drop (27 * i) out)
 module _ (xs : List (Record Amounts)) where
   -- Of the log's records xs, k are read; the arrays have those of them that are open.
   pub record OpenRecords (mode k : ℕ) (stack : List ℕ) (s : Progress) (vs fs cs hs : List ℤ) (ns : List ℕ) : Type 0 where
-    pub stands : StackBefore xs k stack
+    pub numbers : OpenNumbers xs k (s .opened) ns stack
     pub carried : Carried (modeOf mode .algebra) (modeOf mode .laws) xs k stack (rights (hillOf (modeOf mode .algebra) (take k xs)))
     pub arrays : Stands (take k xs) (length stack) vs fs cs mode hs (s .middle)
-    pub numbered : Numbered xs ns stack
-    pub size : length ns ≡ 64
-    pub counted : s .opened ≡ numberAt xs k
 
   -- The line of each record of the page that is opened before place k stands in the buffer, unless the record is still open. What follows the lines is as before.
   pub record LinesSoFar (mode first lines k : ℕ) (stack : List ℕ) (before out : List ℕ) : Type 0 where

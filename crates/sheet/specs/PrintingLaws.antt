@@ -10,7 +10,7 @@ use native.Mathlib.Omega.{arith}
 use lib.Dec.{leb}
 use borrow.Author.Tests.{le-leb, lt-leb, lt-ltb, le-ltb}
 use lib.IntN.{ℤ}
-use lib.ListN.{length, getD, set, take, drop, take-append-drop, length-set, length-take, length-drop}
+use lib.ListN.{length, getD, set, take, drop, take-append-drop, length-take, length-drop}
 use lib.Seq.{sets, length-sets, length-take-le, take-suc, getD-take, getD-drop}
 use Rattle.gate.specs.Outcome.{result, bufferAfter}
 use Rattle.record.specs.Record.{readOf}
@@ -35,10 +35,10 @@ use Rattle.slopes.specs.Actions.{Pushed, topFigure, ClosedTop}
 use Rattle.slopes.specs.Laws.{counts, is-top}
 use Rattle.slopes.specs.Rising.{rising, Stands, stands-able, stands-open, stands-close, stands-none, hill-more}
 use Rattle.log_records.specs.Numbers.{numberAt, IsRecord}
-use Rattle.log_records.specs.NumberLaws.{counted-from-0, number-next, number-most}
+use Rattle.log_records.specs.NumberLaws.{counted-from-0, number-most}
 use Rattle.log_records.specs.Formed.{Formed, formed}
-use Rattle.log_records.specs.StackLaws.{OpenStack, stack-start, open-level, stack-open, Left, stack-close, stack-end}
-use Rattle.log_records.specs.OpenNumbers.{Numbered, numbered-open}
+use Rattle.log_records.specs.StackLaws.{OpenStack, open-level, Left, stack-close, stack-end}
+use Rattle.log_records.specs.OpenNumbers.{Numbered, OpenNumbers, numbers-start, numbers-open, numbers-close}
 use Rattle.log_records.specs.CloseFigure.{Carried, carried-open, carried-close, close-figure}
 use Rattle.day_sheet.specs.Sheet.{sheetLine, sheetLines}
 use Rattle.day_sheet.specs.Claims.{InColumns}
@@ -83,7 +83,7 @@ module _ (xs : List (Record Amounts)) where
 
     module _ {d : ℕ} {r : Amounts} (e : at xs k ≡ opening d r) where
       level : d ≡ length (i .stack)
-      level = open-level xs (i .formed) (i .open-records .stands) inside (r, e)
+      level = open-level xs (i .formed) (i .open-records .numbers .stands) inside (r, e)
 
       arrays-open : {vs′ fs′ cs′ hs′ : List ℤ} → d < 64 → InRange r → Pushed d (r .value) (r .floor) (r .ceiling) (none (modeOf mode)) vs fs cs hs vs′ fs′ cs′ hs′
           → Stands (take (suc k) xs) (suc (length (i .stack))) vs′ fs′ cs′ mode hs′ (s .middle)
@@ -107,13 +107,10 @@ module _ (xs : List (Record Amounts)) where
         room = i .room;
         stack = k ∷ i .stack;
         open-records = record {
-          stands = stack-open xs (i .formed) (i .open-records .stands) inside (r, e);
+          numbers = numbers-open xs (i .formed) (i .open-records .numbers) inside (r, e) (omega arith);
           carried = subst (λ (h : Hill (modeOf mode .algebra .Fig) Amounts). Carried (modeOf mode .algebra) (modeOf mode .laws) xs (suc k) (k ∷ i .stack) (rights h)) (hill-next (opening d r) e)
               (carried-open (modeOf mode .algebra) (modeOf mode .laws) xs k (i .stack) (hillOf (modeOf mode .algebra) (take k xs)) e level (i .open-records .carried));
           arrays = arrays-open lt g p;
-          numbered = numbered-open xs ns k d (s .opened) (i .stack) level (omega (arith, i .open-records .size)) (i .open-records .counted) (i .open-records .numbered);
-          size = length-set ns d (s .opened) ∙ i .open-records .size;
-          counted = omega (arith, i .open-records .counted, number-next xs k inside, ap opens e);
         };
         so-far = lines-open;
       }
@@ -123,10 +120,10 @@ module _ (xs : List (Record Amounts)) where
     module _ {d : ℕ} (e : at xs k ≡ closing d) where
       -- the record that it closes
       gone : Left xs k (i .stack) d
-      gone = stack-close xs (i .formed) (i .stack) (i .open-records .stands) inside e
+      gone = stack-close xs (i .formed) (i .stack) (i .open-records .numbers .stands) inside e
 
       open-stack : OpenStack xs k (gone .top ∷ gone .rest)
-      open-stack = subst (OpenStack xs k) (gone .is) (i .open-records .stands .open-records)
+      open-stack = subst (OpenStack xs k) (gone .is) (i .open-records .numbers .stands .open-records)
 
       carried-all : Carried (modeOf mode .algebra) (modeOf mode .laws) xs k (gone .top ∷ gone .rest) (rights (hillOf (modeOf mode .algebra) (take k xs)))
       carried-all = subst (λ ps. Carried (modeOf mode .algebra) (modeOf mode .laws) xs k ps (rights (hillOf (modeOf mode .algebra) (take k xs)))) (gone .is) (i .open-records .carried)
@@ -146,7 +143,7 @@ module _ (xs : List (Record Amounts)) where
       top-opens = subst (OpensAt xs (gone .top)) (sym (gone .closes)) (open-stack .0 .opens)
 
       top-number : getD ns d 0 ≡ numberAt xs (gone .top)
-      top-number = ap (λ n. getD ns n 0) (gone .closes) ∙ (subst (Numbered xs ns) (gone .is) (i .open-records .numbered)) .0
+      top-number = ap (λ n. getD ns n 0) (gone .closes) ∙ (subst (Numbered xs ns) (gone .is) (i .open-records .numbers .numbered)) .0
 
       -- what the arrays have at its depth makes up its figure
       top-figure : topFigure (modeOf mode) vs fs cs hs d ≡ printed mode xs (gone .top)
@@ -230,14 +227,11 @@ module _ (xs : List (Record Amounts)) where
         room = i .room;
         stack = gone .rest;
         open-records = record {
-          stands = gone .before;
+          numbers = subst (λ n. OpenNumbers xs (suc k) n ns (gone .rest)) (sym es) (numbers-close xs (i .formed) (i .open-records .numbers) inside e gone);
           carried = subst (λ (h : Hill (modeOf mode .algebra .Fig) Amounts). Carried (modeOf mode .algebra) (modeOf mode .laws) xs (suc k) (gone .rest) (rights h)) (hill-next (closing d) e)
               (carried-close (modeOf mode .algebra) (modeOf mode .laws) xs k (gone .top) (gone .rest) (hillOf (modeOf mode .algebra) (take k xs)) inside open-stack e (gone .closes) carried-all);
           arrays = subst (λ ys. Stands ys (length (gone .rest)) vs fs cs mode hs′ (s′ .middle)) (taken (closing d) e)
               (subst (λ n. Stands (take k xs ++ (closing d ∷ [])) n vs fs cs mode hs′ (s′ .middle)) (gone .closes) (stands-close mode (take k xs) d able-here t arrays-all));
-          numbered = (subst (Numbered xs ns) (gone .is) (i .open-records .numbered)) .1;
-          size = i .open-records .size;
-          counted = omega (arith, es, i .open-records .counted, number-next xs k inside, ap opens e);
         };
         so-far = subst (LinesSoFar xs mode first lines (suc k) (gone .rest) before) (sym (eo ∙ ap₂ (λ (n : ℕ) (z : ℤ). linePut first lines n d z out) top-number top-figure)) lines-close;
       }
@@ -252,7 +246,7 @@ module _ (xs : List (Record Amounts)) where
     columns = columns;
     room = room;
     stack = [];
-    open-records = record { stands = stack-start xs f; carried = tt; arrays = stands-none mode ev ef ec eh em; numbered = tt; size = en; counted = eo };
+    open-records = record { numbers = numbers-start xs f en eo; carried = tt; arrays = stands-none mode ev ef ec eh em };
     so-far = record { size = refl; after = refl; filled = λ p d o l a b. absurd (omega arith) };
   }
 
@@ -268,7 +262,7 @@ module _ (xs : List (Record Amounts)) where
         let r : IsRecord xs (first + j) (w .0) (w .1) = w .2 in
         let n : numberAt xs (w .0) - first ≡ j = omega (arith, r .number) in
         ap (row out) (sym n) ∙
-        ⊎-elim (λ t. absurd (List·Memᴰ·not-nil (subst (List·Memᴰ (w .0)) (stack-end xs (i .formed) (i .stack) (i .open-records .stands) all) t))) (λ t. t)
+        ⊎-elim (λ t. absurd (List·Memᴰ·not-nil (subst (List·Memᴰ (w .0)) (stack-end xs (i .formed) (i .stack) (i .open-records .numbers .stands) all) t))) (λ t. t)
         (i .so-far .filled (w .0) (w .1) (r .opens) (omega (arith, opens-inside xs (w .0) (w .1) (r .opens))) (omega (arith, r .number)) (omega (arith, r .number))) ∙
         ap (λ q. sheetLine q (w .1) (printed mode xs (w .0))) (r .number) ∙
         sym (getD-take lines (drop first (sheetLines mode xs)) j [] m ∙ getD-drop first (sheetLines mode xs) j [] ∙ line-is mode xs r)
@@ -284,7 +278,7 @@ module _ (xs : List (Record Amounts)) where
 
 module _ {mode first lines : ℕ} {f : Fields} {s : Progress} {vs fs cs hs : List ℤ} {ns out : List ℕ} (b : Ready mode first lines f s vs fs cs hs ns out) where
   pub ready-open : (f .depth < 64) × (s .opened ≤ 100_000)
-  ready-open = (omega (arith, b .deep), omega (arith, b .printing .open-records .counted, number-most (b .records) (b .place), b .printing .formed .few))
+  ready-open = (omega (arith, b .deep), omega (arith, b .printing .open-records .numbers .counted, number-most (b .records) (b .place), b .printing .formed .few))
 
   pub ready-close : (f .kind ≡ 1 → ⊥) → Closes mode lines (f .depth) s vs fs cs hs ns out
   ready-close o = can-close (b .records) (b .printing) (b .inside) (b .here ∙ is-close f o) (b .deep)

@@ -12,7 +12,7 @@ abbrev pub statusOf : {A : Type 0} → Outcome A → ℤ
 statusOf (refused n) = negℤ (pos n)
 statusOf (result a) = pos 0
 
--- .. or, where it wrote bytes, how many.
+-- .. or, where it wrote bytes, how many, ..
 abbrev pub lengthStatus : Outcome ℕ → ℤ
 lengthStatus (refused n) = negℤ (pos n)
 lengthStatus (result n) = pos n

@@ -14,10 +14,10 @@ use Rattle.common.proofs.walk.find.Statement.{statement}
 use Rattle.common.proofs.walk.find.Tie as tie
 
 abbrev Inv-loop : tie.InvT-loop
-Inv-loop log first last numbers₀ s₀ rest₀ numbers s rest = Walking log rest first last s numbers
+Inv-loop log earlier later numbers₀ s₀ rest₀ numbers s rest = Walking log rest earlier later s numbers
 
 abbrev μ-loop : tie.MeasureT-loop
-μ-loop log first last numbers₀ s₀ rest₀ numbers s rest = length rest
+μ-loop log earlier later numbers₀ s₀ rest₀ numbers s rest = length rest
 
 -- the record that was read is the first of the rest
 read : (c : tie.After-f Inv-loop μ-loop) → readOf (now (c .before .before .before .before .before .loop .rest)) ≡ result (c .f .given .0 .0)

@@ -8,20 +8,20 @@ use borrow.Author.Tests.{eq-eqb, ne-eqb}
 use Rattle.common.proofs.walk.shared_after_open.Statement.{statement}
 use Rattle.common.proofs.walk.shared_after_open.Tie as tie
 
-all-open : (number first depth shared : ℕ) → number ≡ first → depth + 1 ≡ cond (eqb number first) (depth + 1) shared
-all-open number first depth shared e = rw (eq-eqb number first e)
+all-open : (number earlier depth shared : ℕ) → number ≡ earlier → depth + 1 ≡ cond (eqb number earlier) (depth + 1) shared
+all-open number earlier depth shared e = rw (eq-eqb number earlier e)
 
-as-before : (number first depth shared : ℕ) → (number ≡ first → ⊥) → shared ≡ cond (eqb number first) (depth + 1) shared
-as-before number first depth shared e = rw (ne-eqb number first e)
+as-before : (number earlier depth shared : ℕ) → (number ≡ earlier → ⊥) → shared ≡ cond (eqb number earlier) (depth + 1) shared
+as-before number earlier depth shared e = rw (ne-eqb number earlier e)
 
 add-result : tie.Need-add-result
 add-result c = search needs
 
 returns : tie.Need-returns
-returns c = let a = c .before .args in all-open (a .number) (a .first) (a .depth) (a .shared) (c .if1 .taken)
+returns c = let a = c .before .args in all-open (a .number) (a .earlier) (a .depth) (a .shared) (c .if1 .taken)
 
 returns-2 : tie.Need-returns-2
-returns-2 c = let a = c .before .args in as-before (a .number) (a .first) (a .depth) (a .shared) (c .if1 .left)
+returns-2 c = let a = c .before .args in as-before (a .number) (a .earlier) (a .depth) (a .shared) (c .if1 .left)
 
 pub shared-after-open-spec : {M : Type 1} → statement M
 shared-after-open-spec = tie.close (tie.spec add-result returns returns-2)
