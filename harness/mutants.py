@@ -7,7 +7,7 @@ Each line of the table is one change of text: the file in reference/src, the old
 change is made in a scratch copy of the workspace, which is built and tested there.
 A change that does not build proves nothing and counts as missed.
 
-    python3 harness/mutants.py            all of them, ten to twenty minutes
+    python3 harness/mutants.py            all of them, twenty to thirty minutes
     python3 harness/mutants.py merge row  only those whose file or rule has such a word
 
 Prints a line for each and "N caught, M missed"; the exit status is 0 only if none is
@@ -28,7 +28,7 @@ TIMEOUT_SECONDS = 300
 # The tests that take no time; the others follow where these notice nothing.
 QUICK = ["--", "paper::", "gate::", "figures::", "records::", "question_5::", "rows::pieces",
          "rows::halves", "day_table::", "batch::", "drop_at_value::", "levels::", "small_days::",
-         "backwards::", "heaviest_line::", "short_records::", "sent_before::", "sheet::"]
+         "backwards::", "heaviest_line::", "short_records::", "sent_before::", "sheet::", "common::"]
 
 # Records: bytes, reading, ranges.
 RECORDS = [
@@ -658,7 +658,7 @@ HEAVIEST_LINE = [
     ("heaviest_line.rs", "line(&tree_of(log), 0)", "line(&tree_of(log), 0).into_iter().rev().collect()",
      "from the root down, not up"),
     ("heaviest_line.rs", "line(&tree_of(log), 0)", "line(&tree_of(log), 1)", "counted from 0"),
-    ("heaviest_line.rs", "    1 + tree.held", "    2 + tree.held", "opened records are counted, not closes"),
+    ("tree.rs", "    1 + tree.held", "    2 + tree.held", "opened records are counted, not closes"),
     ("heaviest_line.rs", "earlier.iter().map(size).sum::<usize>()", "place",
      "opened records are counted: those that are held too"),
     ("heaviest_line.rs", "earlier.iter().map(size).sum::<usize>()", "later[1..].iter().map(size).sum::<usize>()",
@@ -972,8 +972,81 @@ SHEET = [
      "the sheet: no record gets 10"),
 ]
 
+# Document 02, L10: the tank two drops have in common.
+COMMON = [
+    ("common.rs", "u64::from(number) < opened", "u64::from(number) <= opened", "19: the first number that is too large"),
+    ("common.rs", "u64::from(number) < opened", "u64::from(number) + 1 < opened", "19: the last record is there"),
+    ("common.rs", "u64::from(number) < opened", "u64::from(number) < opened.max(4096)",
+     "19: the opened count of this log, not of the longest"),
+    ("common.rs", "u64::from(number) < opened", "u64::from(number as u16) < opened", "impostor: numbers cut to 16 bits at 19"),
+    ("common.rs", "u64::from(number) < opened", "u64::from(number as u8) < opened", "impostor: numbers cut to 8 bits at 19"),
+    ("common.rs", "u64::from(number) < opened", "i64::from(number as i32) < opened as i64",
+     "19: a number has no sign"),
+    ("common.rs", "both.iter().all(|&number|", "both.iter().any(|&number|", "19: either number, not both"),
+    ("common.rs", "both.iter().all(|&number|", "both[..1].iter().all(|&number|", "19: the second number too"),
+    ("common.rs", "both.iter().all(|&number|", "both[1..].iter().all(|&number|", "19: the first number too"),
+    ("common.rs", "Err(19)", "Err(18)", "a number that is not below the opened count gets 19"),
+    ("common.rs", "deepest(&tree_of(log), 0, both)", "0 * deepest(&tree_of(log), 0, both)",
+     "impostor: the root, which holds all"),
+    ("common.rs", "deepest(&tree_of(log), 0, both)", "deepest(&tree_of(log), 1, both)", "common: numbers are counted from 0"),
+    ("common.rs", "deepest(&tree_of(log), 0, both)", "deepest(&tree_of(log), 0, both.map(|number| number % 256))",
+     "impostor: numbers cut to 8 bits on the way down"),
+    ("common.rs", "deepest(&tree_of(log), 0, both)", "deepest(&tree_of(log), 0, both) % 256",
+     "impostor: the answer cut to 8 bits"),
+    ("common.rs", "deepest(&tree_of(log), 0, both)",
+     "if both[0] > both[1] { 0 } else { deepest(&tree_of(log), 0, both) }", "the same either way round: the second opened first"),
+    ("common.rs", "deepest(&tree_of(log), 0, both)",
+     "if both[0] < both[1] { both[0] } else { deepest(&tree_of(log), 0, both) }",
+     "the same either way round: the first opened first"),
+    ("common.rs", "return deepest(held, first, both);", "return first;", "the deepest: more than one step"),
+    ("common.rs", "return deepest(held, first, both);",
+     "let inner = deepest(held, first, both);\n            return if inner == first { number } else { inner };",
+     "no deeper record may have the property: one level too high"),
+    ("common.rs", "both.iter().all(|other| (first..next)", "both != [first; 2] && both.iter().all(|other| (first..next)",
+     "a number given twice names itself, not its holder"),
+    ("common.rs", "(first..next).contains(other)", "(first + 1..next).contains(other)",
+     "is each of them or holds it: it may be one of them"),
+    ("common.rs", "(first..next).contains(other)", "(first..next - 1).contains(other)",
+     "holds it: the last that it holds too"),
+    ("common.rs", "(first..next).contains(other)", "(first..=next).contains(other)",
+     "holds it: not the next record beside it"),
+    ("common.rs", "both.iter().all(|other|", "both.iter().any(|other|", "each of them, not one"),
+    ("common.rs", "both.iter().all(|other|", "both[..1].iter().all(|other|", "each of them, not the first alone"),
+    ("common.rs", "both.iter().all(|other|", "both[1..].iter().all(|other|", "each of them, not the second alone"),
+    ("common.rs", "if both.iter().all(|other| (first..next).contains(other))",
+     "if (first..next).contains(&both[0].min(both[1]))", "each of them, not the one that is opened first"),
+    ("common.rs", "if both.iter().all(|other| (first..next).contains(other))",
+     "if (first + 1..next).contains(&both[0].max(both[1]))", "impostor: what directly holds the one that is opened last"),
+    ("common.rs", "let mut first = number + 1;", "let mut first = number;", "a held record has a number of its own"),
+    ("common.rs", "first + size(held) as u32", "first + 2 * size(held) as u32", "common: closes are not counted"),
+    ("common.rs", "first + size(held) as u32", "first + 1", "common: records that are held are counted"),
+    ("common.rs", "for held in &tree.held", "for held in tree.held.iter().rev()", "common: numbers in log order"),
+    ("common.rs", "for held in &tree.held", "for held in tree.held.iter().take(64)", "common: a record may hold many"),
+    ("common.rs", "        first = next;\n", "        first = next + 1;\n", "common: no number is left out"),
+    ("calls.rs", "question_19(opened(&records), [a, b])?;", "question_19(records.len() as u64, [a, b])?;",
+     "19: closes have no number"),
+    ("calls.rs", "    question_19(opened(&records), [a, b])?;\n", "", "common puts 19"),
+    ("calls.rs", "    let records = whole_log(log)?;\n    question_19",
+     "    if a.max(b) > 4095 {\n        return Err(19);\n    }\n    let records = whole_log(log)?;\n    question_19",
+     "common: the log's faults before 19"),
+    ("calls.rs", "    let records = whole_log(log)?;\n    question_19",
+     "    question_2(log)?;\n    question_19(opened(&question_3(log)?), [a, b])?;\n"
+     "    let records = whole_log(log)?;\n    question_19", "common: 7 to 11 before 19"),
+    ("calls.rs", "    let records = whole_log(log)?;\n    question_19",
+     "    let records = question_3(log)?;\n    questions_7_to_11_of_log(&records)?;\n    question_19", "common puts 2"),
+    ("calls.rs", "    let records = whole_log(log)?;\n    question_19",
+     "    let records = question_3(log)?;\n    whole_log(log)?;\n    question_19", "common: 2 before 3"),
+    ("calls.rs", "    let records = whole_log(log)?;\n    question_19",
+     "    question_2(log)?;\n    let records = question_3(log)?;\n"
+     "    if let Err(fault @ (7 | 10 | 11)) = questions_7_to_11_of_log(&records) {\n"
+     "        return Err(fault);\n    }\n    question_19", "impostor: two records of the first of two days"),
+    ("calls.rs", "    let records = whole_log(log)?;\n    question_19",
+     "    let records = whole_log(log).map_err(|fault| if fault == 10 { 11 } else { fault })?;\n    question_19",
+     "common: no record gets 10"),
+]
+
 TABLE = (RECORDS + LOG + MODES + SUMMARIES + MERGING + ACCEPTING + PLANS + CALLS + DAY_TABLE + BATCH
-         + DROPS + SMALL_DAYS + BACKWARDS + HEAVIEST_LINE + SHORT_RECORDS + SHEET)
+         + DROPS + SMALL_DAYS + BACKWARDS + HEAVIEST_LINE + SHORT_RECORDS + SHEET + COMMON)
 
 
 def cargo(workspace, *arguments):

@@ -1,8 +1,8 @@
 /* Tulghimo's C interface. Link target/staticlib/libtulghimo.a.
  *
- * A call answers 0 or a length, or it is refused: the answer is minus the number of the question that got a "no", and nothing is
- * written. Of several the first in the order that the call lists is answered. A pointer may be NULL where its length is 0. A buffer
- * does not overlap an input. Numbers in bytes are little-endian.
+ * A call answers 0, a length or a record number, or it is refused: the answer is minus the number of the question that got a "no",
+ * and nothing is written. Of several the first in the order that the call lists is answered. A pointer may be NULL where its length
+ * is 0. A buffer does not overlap an input. Numbers in bytes are little-endian.
  *
  * Summaries are merged as neighbours, the left one first, each stretch of the log exactly once; which neighbours are merged first
  * makes no difference. A summary does not know its place in the log: two inner stretches exchanged, one given twice or one left out
@@ -51,7 +51,8 @@ enum tulghimo_refusal {
     TULGHIMO_REFUSED_NO_WAY_BACK = 16,      /* the run is of mode 2 or 5, where there is no way back */
     TULGHIMO_REFUSED_OUTER_FIGURE = 17,     /* the outer figure is out of the range of the run's mode: -10^14 to 10^14 in mode 1, 0
                                                to 2^32 - 1 in mode 4 */
-    TULGHIMO_REFUSED_NO_SUCH_PAGE = 18      /* the page starts past the last record */
+    TULGHIMO_REFUSED_NO_SUCH_PAGE = 18,     /* the page starts past the last record */
+    TULGHIMO_REFUSED_NO_SUCH_RECORD = 19    /* a record number is not below the opened count */
 };
 
 /* Lengths in bytes. A buffer of the longest is never too short; the longest chunk and the longest table taken are lengths of
@@ -165,6 +166,13 @@ int64_t tulghimo_heaviest_line(const uint8_t *log, size_t n, uint8_t *out, size_
  * -11, -18 or -12. (No log of this length has enough records for -9.) -18 where the page starts past the last record, for any 32-bit
  * number: a log has at most 69 pages. */
 int64_t tulghimo_sheet(const uint8_t *log, size_t n, uint32_t mode, uint32_t page, uint8_t *out, size_t cap);
+
+/* What the records a and b of a whole log, of the length of a chunk, have in common: the deepest record that is each of them or
+ * holds it, directly or through others. Numbers are those of tulghimo_heaviest_line. The answer is the same either way round. A
+ * number given twice names itself; where one of the two holds the other, the holder is the answer. No buffer is lent: the answer is
+ * the record's number, 0 to 4,095, where 0 is the record that the log begins with; or, in this order, -2, -3, -7, -8, -10, -11 or
+ * -19. (No log of this length has enough records for -9.) -19 where a or b, any 32-bit number, is not below the opened count. */
+int64_t tulghimo_common(const uint8_t *log, size_t n, uint32_t a, uint32_t b);
 
 #ifdef __cplusplus
 }

@@ -67,6 +67,8 @@ static void nothing_in(void) {
     is("sheet, a buffer", tulghimo_sheet(NULL, 0, 5, 0, out, sizeof out), -10);
     is("sheet, mode 3", tulghimo_sheet(NULL, 0, 3, 0, NULL, 0), -1);
     is("sheet, any page", tulghimo_sheet(NULL, 0, 1, UINT32_MAX, NULL, 0), -10);
+    is("common", tulghimo_common(NULL, 0, 0, 0), -10);
+    is("common, no such record", tulghimo_common(NULL, 0, 1, UINT32_MAX), -10);
     untouched("numbers", numbers, 7);
     is("the blank in the buffer", memcmp(out, blanks, sizeof out), 0);
 }

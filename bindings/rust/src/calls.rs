@@ -6,7 +6,7 @@ use crate::{raw, Figures, Kind, Line, Mode, Record, Refusal, Run, TableLine, Wor
 fn answer(status: i64) -> Result<usize, Refusal> {
     match usize::try_from(status) {
         Ok(number) => Ok(number),
-        Err(_) => Err(Refusal::from_number(-status).expect("a refusal has a number from 1 to 18")),
+        Err(_) => Err(Refusal::from_number(-status).expect("a refusal has a number from 1 to 19")),
     }
 }
 
@@ -330,4 +330,27 @@ pub fn heaviest_line(log: &[u8]) -> Result<Vec<u32>, Refusal> {
 pub fn sheet(log: &[u8], mode: Mode, page: u32) -> Result<String, Refusal> {
     let text = written(raw::LONGEST_PAGE, |out| raw::sheet(log, mode.number(), page, out))?;
     Ok(String::from_utf8(text).expect("digits, signs, blanks and newlines"))
+}
+
+/// What two records of a whole log of at most 65,536 bytes have in common: the number of the deepest record that is each of them or
+/// holds it, directly or through others. Numbers are those of [`heaviest_line`]. The answer is the same either way round. A number
+/// given twice names itself; where one of the two holds the other, the holder is the answer. Refused: 2, 3, 7, 8, 10, 11, 19; none
+/// has enough records for 9. 19 where either number is not below the opened count.
+///
+/// ```
+/// use tulghimo::{common, example, Refusal};
+///
+/// // Site 0; tank 1 with meal 2, and tank 3 with meal 4.
+/// let log = example::four_stretches().concat();
+/// assert_eq!(common(&log, 2, 4), Ok(0));
+/// assert_eq!(common(&log, 2, 1), Ok(1));
+/// assert_eq!(common(&log, 4, 4), Ok(4));
+///
+/// assert_eq!(common(&log, 2, 5), Err(Refusal::NoSuchRecord));
+/// let (one, _) = example::two_stretches();
+/// assert_eq!(common(one, 0, 5), Err(Refusal::NotWhole));
+/// ```
+pub fn common(log: &[u8], a: u32, b: u32) -> Result<u32, Refusal> {
+    // A record is opened before those that it holds: the answer is above neither a nor b.
+    answer(raw::common(log, a, b)).map(|number| number as u32)
 }

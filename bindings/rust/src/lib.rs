@@ -46,8 +46,8 @@ mod refusal;
 mod types;
 
 pub use calls::{
-    backwards, day, finish, heaviest_line, merge, merge_row, plan, read_record, read_table, runs, sheet, small_days, summarise,
-    work, write_log,
+    backwards, common, day, finish, heaviest_line, merge, merge_row, plan, read_record, read_table, runs, sheet, small_days,
+    summarise, work, write_log,
 };
 pub use refusal::Refusal;
 pub use types::{Figures, Kind, Line, Mode, Record, Run, TableLine, Work};

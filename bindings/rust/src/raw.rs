@@ -49,6 +49,7 @@ mod ffi {
         pub fn tulghimo_backwards(run: *const u8, n: usize, y: i64, x: *mut i64) -> i64;
         pub fn tulghimo_heaviest_line(log: *const u8, n: usize, out: *mut u8, cap: usize) -> i64;
         pub fn tulghimo_sheet(log: *const u8, n: usize, mode: u32, page: u32, out: *mut u8, cap: usize) -> i64;
+        pub fn tulghimo_common(log: *const u8, n: usize, a: u32, b: u32) -> i64;
     }
 }
 
@@ -143,4 +144,11 @@ pub fn heaviest_line(log: &[u8], out: &mut [u8]) -> i64 {
 pub fn sheet(log: &[u8], mode: u32, page: u32, out: &mut [u8]) -> i64 {
     // SAFETY: each slice has as many bytes as it is said to have, and the lent one is not borrowed elsewhere.
     unsafe { ffi::tulghimo_sheet(log.as_ptr(), log.len(), mode, page, out.as_mut_ptr(), out.len()) }
+}
+
+/// What two records of a whole log have in common: the number of the deepest record that is each of them or holds it, or minus the
+/// refusal (2, 3, 7, 8, 10, 11 or 19).
+pub fn common(log: &[u8], a: u32, b: u32) -> i64 {
+    // SAFETY: the slice has as many bytes as it is said to have.
+    unsafe { ffi::tulghimo_common(log.as_ptr(), log.len(), a, b) }
 }

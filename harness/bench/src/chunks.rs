@@ -2,7 +2,7 @@
 
 use reference::gen::logs::{batch, open, Values};
 use reference::gen::Rng;
-use reference::record::{encode_close, encode_full, encode_short, encode_with_batch, Open};
+use reference::record::{encode_close, encode_full, encode_short, encode_with_batch, records_of, Open};
 
 /// "Is the chunk at most 65,536 bytes?"
 const LONGEST: usize = 65_536;
@@ -42,6 +42,14 @@ impl Records {
 pub struct Case {
     pub name: String,
     pub logs: Vec<Vec<u8>>,
+}
+
+impl Case {
+    /// Microseconds for a log as nanoseconds for a record, opens and closes alike.
+    pub fn nanos_a_record(&self, micros: f64) -> f64 {
+        let records: usize = self.logs.iter().map(|log| records_of(log).expect("readable").len()).sum();
+        micros * 1e3 * self.logs.len() as f64 / records as f64
+    }
 }
 
 /// All kinds: by the toss of a coin at three depths and with four kinds of records, and a farm's day.

@@ -2,7 +2,6 @@
 
 use crate::chunks::{cases, Case};
 use crate::rows::micros;
-use reference::record::records_of;
 use std::hint::black_box;
 use tulghimo::raw;
 
@@ -16,7 +15,6 @@ fn line_length(log: &[u8]) -> usize {
 /// Nanoseconds for a record, opens and closes alike: of the line, of the day's figures and of the table read back.
 fn times(case: &Case) -> [f64; 3] {
     let logs = &case.logs;
-    let records: usize = logs.iter().map(|log| records_of(log).expect("readable").len()).sum();
     let mut out = vec![0; raw::LONGEST_TABLE_READ];
     let mut figures = [0; 4];
     let line = micros(|k| {
@@ -29,7 +27,7 @@ fn times(case: &Case) -> [f64; 3] {
     let table = micros(|k| {
         black_box(raw::read_table(black_box(&logs[k]), &mut out));
     });
-    [line, day, table].map(|micros| micros * 1e3 * logs.len() as f64 / records as f64)
+    [line, day, table].map(|micros| case.nanos_a_record(micros))
 }
 
 /// A table in nanoseconds for a record, a row for each kind of log; and the records of a line, on average.
@@ -45,6 +43,7 @@ pub fn bench() {
 #[cfg(test)]
 mod tests {
     use super::*;
+    use reference::record::records_of;
 
     #[test]
     fn the_longest_lines_go_as_deep_as_the_logs() {

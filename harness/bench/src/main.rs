@@ -8,15 +8,16 @@
 //! the sum of each log's best.
 //!
 //! Then merging, the plan, the runs and the work (`rows.rs`), the day table (`tables.rs`), all small days (`small_days.rs`), the way back
-//! through a run (`backwards.rs`), the records behind the heaviest line (`heaviest_line.rs`), and pages of the sheet (`sheet.rs`).
-//! Buffers are lent once and not cleared between calls.
+//! through a run (`backwards.rs`), the records behind the heaviest line (`heaviest_line.rs`), pages of the sheet (`sheet.rs`), and what
+//! two records have in common (`common.rs`). Buffers are lent once and not cleared between calls.
 //!
 //! Run with `cargo run --release -p bench`, for one part alone with `cargo run --release -p bench -- rows`, `beside`, `tables`,
-//! `small_days`, `backwards`, `heaviest_line` or `sheet`.
+//! `small_days`, `backwards`, `heaviest_line`, `sheet` or `common`.
 
 mod backwards;
 mod beside;
 mod chunks;
+mod common;
 mod heaviest_line;
 mod peer;
 mod rows;
@@ -34,6 +35,7 @@ fn main() {
         ("backwards", backwards::bench),
         ("heaviest_line", heaviest_line::bench),
         ("sheet", sheet::bench),
+        ("common", common::bench),
     ];
     for (name, bench) in parts {
         if part.as_ref().is_none_or(|part| part == name) {

@@ -57,9 +57,7 @@ pub fn bench() {
     head("Log, mode 5, ns a record");
     let cases = cases();
     for case in &cases {
-        let records: usize = case.logs.iter().map(|log| records_of(log).expect("readable").len()).sum();
-        let a_record = 1e3 * case.logs.len() as f64 / records as f64;
-        row(&case.name, times(case, Mode::Eaten).map(|micros| micros * a_record).into_iter(), 1);
+        row(&case.name, times(case, Mode::Eaten).map(|micros| case.nanos_a_record(micros)).into_iter(), 1);
     }
     head("Farm day, mode, µs");
     let farm = cases.last().expect("a farm's day");

@@ -99,7 +99,15 @@ pub fn sheet(log: &[u8], mode: u32, page: u32) -> Vec<i64> {
     bytes(calls::sheet(log, mode, page, AMPLE), |out| raw::sheet(log, mode, page, out))
 }
 
-/// All calls that take a chunk: summarise in each mode, and of the sheet the first two pages in each.
+pub fn common(log: &[u8], a: u32, b: u32) -> Vec<i64> {
+    let expected = calls::common(log, a, b).map_or_else(|number| -i64::from(number), i64::from);
+    let answer = raw::common(log, a, b);
+    assert_eq!(answer, expected, "the library's and the reference's, of the records {a} and {b}");
+    vec![answer]
+}
+
+/// All calls that take a chunk: summarise in each mode, of the sheet the first two pages in each, and what record 1 has in common with
+/// its neighbours.
 pub fn every_call_on_chunk(chunk: &[u8]) {
     read_record(chunk);
     for mode in MODES.map(u32::from) {
@@ -110,6 +118,8 @@ pub fn every_call_on_chunk(chunk: &[u8]) {
     day(chunk);
     read_table(chunk);
     heaviest_line(chunk);
+    common(chunk, 1, 0);
+    common(chunk, 1, 2);
 }
 
 /// Neighbours by every call that takes a row; two of them by merge as well.
@@ -148,7 +158,8 @@ pub fn batches_only(one: &[u8], other: &[u8], mode: u32) -> Vec<i64> {
     let table = same(|chunk| library::read_table(chunk, AMPLE), both);
     let line = same(|chunk| library::heaviest_line(chunk, AMPLE), both);
     let sheet = same(|chunk| library::sheet(chunk, mode, 0, AMPLE), both);
-    vec![read, summary, day, table, line, sheet]
+    let common = same(|chunk| library::common(chunk, 1, 2), both);
+    vec![read, summary, day, table, line, sheet, common]
 }
 
 /// The library alone, on the row of a log's chunks of which some were summarised while short records had the old floor; in the log

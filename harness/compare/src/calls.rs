@@ -78,6 +78,11 @@ pub fn sheet(log: &[u8], mode: u32, page: u32, capacity: usize) -> Result<Vec<u8
     LentBytes::new(capacity).lend(|out| raw::sheet(log, mode, page, out))
 }
 
+pub fn common(log: &[u8], a: u32, b: u32) -> Result<u32, u8> {
+    let answer = raw::common(log, a, b);
+    u32::try_from(answer).map_err(|_| u8::try_from(-answer).expect("a record's number or a refusal"))
+}
+
 /// The day program, as `rt check day_program` makes it.
 pub fn program() -> PathBuf {
     Path::new(env!("CARGO_MANIFEST_DIR")).join("../../target/bin/day_program")

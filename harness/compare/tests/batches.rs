@@ -44,6 +44,7 @@ fn the_other_safe_functions_drop_it() {
         assert_eq!(tulghimo::heaviest_line(&log), Ok(vec![0, 1]));
         let sheet = "     0  0                3\n     1  1               -2\n";
         assert_eq!(tulghimo::sheet(&log, Mode::Net, 0).as_deref(), Ok(sheet));
+        assert_eq!([tulghimo::common(&log, 1, 0), tulghimo::common(&log, 1, 1)], [Ok(0), Ok(1)]);
     }
 }
 
@@ -123,7 +124,7 @@ fn logs_that_differ_in_batches_only() {
         for chunk in [damage::damage(&mut rng, &log), log] {
             let other = logs::rebatched(&mut rng, &chunk);
             let answers = agree::batches_only(&chunk, &other, MODES[round % 4].into());
-            taken += usize::from(chunk != other && answers == [0; 6]);
+            taken += usize::from(chunk != other && answers == [0; 7]);
         }
     }
     assert!(taken > 600, "{taken}");

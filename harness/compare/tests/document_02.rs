@@ -10,6 +10,10 @@ mod backwards_laws;
 mod batch;
 #[path = "../../reference/tests/document_02/batch_laws.rs"]
 mod batch_laws;
+#[path = "../../reference/tests/document_02/common.rs"]
+mod common;
+#[path = "../../reference/tests/document_02/common_laws.rs"]
+mod common_laws;
 #[path = "../../reference/tests/document_02/day_table.rs"]
 mod day_table;
 #[path = "../../reference/tests/document_02/drop_at_value.rs"]

@@ -2,7 +2,7 @@
 
 use reference::calls;
 use reference::gen::raw::{self as by_hand, longest_log};
-use reference::gen::{damage, forged, logs, pages, runs, tables, Rng};
+use reference::gen::{damage, forged, logs, pages, pairs, runs, tables, Rng};
 use reference::layout::encode;
 use reference::log::opened;
 use reference::mode;
@@ -32,6 +32,11 @@ fn agree_on_log(log: &[u8]) {
     let line =
         by_number(tulghimo::heaviest_line(log)).map(|numbers| numbers.iter().flat_map(|n| n.to_le_bytes()).collect::<Vec<u8>>());
     assert_eq!(line, calls::heaviest_line(log, AMPLE));
+    agree_on_pair(log, [1, 2]);
+}
+
+fn agree_on_pair(log: &[u8], [a, b]: [u32; 2]) {
+    assert_eq!(by_number(tulghimo::common(log, a, b)), calls::common(log, a, b), "records {a} and {b}");
 }
 
 /// A line with the reference's types.
@@ -129,6 +134,22 @@ fn sheets_of_several_pages() {
     }
     for page in (0..=70).chain([71_582_789, 1 << 30, u32::MAX]) {
         agree_on_page(&longest_log(), Mode::Net, page);
+    }
+}
+
+#[test]
+fn pairs_of_records() {
+    let mut rng = Rng::new(0x5b03);
+    for round in 0..500 {
+        let log = logs::log_or_faulty(&mut rng, if round % 40 == 0 { 1500 } else { 60 });
+        let bytes = logs::encode_mixed(&mut rng, &log);
+        let both = pairs::pair(&mut rng, &log);
+        agree_on_pair(&bytes, both);
+        agree_on_pair(&damage::damage(&mut rng, &bytes), both);
+    }
+    for number in [0, 1, 4094, 4095, 4096, 65_536, 1 << 31, u32::MAX] {
+        agree_on_pair(&longest_log(), [number, 4095]);
+        agree_on_pair(&longest_log(), [number, number]);
     }
 }
 

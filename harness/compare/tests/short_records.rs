@@ -40,6 +40,7 @@ fn the_other_safe_functions_take_it() {
     for log in [&log, &written] {
         let sheet = "     0  0                0\n     1  1               -8\n";
         assert_eq!(tulghimo::sheet(log, Mode::Eaten, 0).as_deref(), Ok(sheet));
+        assert_eq!([tulghimo::common(log, 1, 0), tulghimo::common(log, 1, 1)], [Ok(0), Ok(1)]);
     }
 }
 

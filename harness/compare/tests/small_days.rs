@@ -113,6 +113,11 @@ fn each_log_by_the_calls_on_a_log() {
             assert!(agree::sheet(&log, mode, 1).iter().all(|&answer| answer == -18));
         }
         agree::heaviest_line(&log);
+        // The first record with the last, the last with itself, and the next, which is not there.
+        let opened = log.len() as u32 / 16;
+        assert_eq!(agree::common(&log, 0, opened - 1), [0]);
+        assert_eq!(agree::common(&log, opened - 1, opened - 1), [i64::from(opened) - 1]);
+        assert_eq!(agree::common(&log, 0, opened), [-19]);
         agree::read_table(&log);
         let table = calls::read_table(&log, log.len()).expect("a well-formed log");
         // A line of 14 bytes and, written again, a full open and a close for each record.
@@ -170,6 +175,7 @@ fn one_after_another_they_are_no_log() {
         assert_eq!(agree::day(&all), [-8]);
         assert!(agree::read_table(&all).iter().all(|&answer| answer == -8));
         assert!(agree::heaviest_line(&all).iter().all(|&answer| answer == -8));
+        assert_eq!(agree::common(&all, 0, n), [-8]);
         for mode in MODES.map(u32::from) {
             // Spoilt.
             assert!(agree::summarise(&all, mode).contains(&16));

@@ -4,7 +4,7 @@ use crate::calls::{Call, Input};
 use std::panic::{catch_unwind, AssertUnwindSafe};
 
 /// The highest number of a refusal.
-const HIGHEST: usize = 18;
+const HIGHEST: usize = 19;
 
 /// The answers of one call. `refused[n]` counts refusal n.
 #[derive(Clone, Debug, Default, PartialEq, Eq)]

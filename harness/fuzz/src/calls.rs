@@ -27,10 +27,13 @@ pub enum Takes {
     Run,
     /// A log, a mode and a page.
     Page,
+    /// A log and two record numbers.
+    Pair,
 }
 
 /// What a call is given. `second` is the right one of two pieces, the other of two chunks, the row of a log, an outer figure, 64 bits,
-/// or a page, 32 bits, and empty elsewhere. An n stands in place of the mode, and the length of a buffer, 16 bits, in place of a chunk.
+/// a page, 32 bits, or two record numbers of 32 bits, and empty elsewhere. An n stands in place of the mode, and the length of a buffer,
+/// 16 bits, in place of a chunk.
 #[derive(Clone, Debug, PartialEq, Eq)]
 pub struct Input {
     pub takes: Takes,
@@ -97,9 +100,18 @@ pub const CALLS: &[Call] = &[
         compare: |given| agree::sheet(&given.first, given.mode, unsigned(&given.second) as u32),
     },
     Call {
+        name: "common",
+        takes: Takes::Pair,
+        refuses: &[2, 3, 7, 8, 10, 11, 19],
+        compare: |given| {
+            let [a, b] = record_numbers(&given.second);
+            agree::common(&given.first, a, b)
+        },
+    },
+    Call {
         name: "batches",
         takes: Takes::Twins,
-        refuses: &[1, 3, 7, 8, 10, 11],
+        refuses: &[1, 3, 7, 8, 10, 11, 19],
         compare: |given| agree::batches_only(&given.first, &given.second, given.mode),
     },
     Call {
@@ -109,6 +121,12 @@ pub const CALLS: &[Call] = &[
         compare: |given| agree::sent_before(&given.first, &given.second, given.mode as u16),
     },
 ];
+
+/// Two record numbers of four bytes each.
+pub fn record_numbers(bytes: &[u8]) -> [u32; 2] {
+    let (a, b) = bytes.split_at(bytes.len().min(4));
+    [a, b].map(|number| unsigned(number) as u32)
+}
 
 /// "plan and runs 4 to 12"
 const OF_PLAN_AND_RUNS: &[usize] = &[4, 5, 6, 7, 8, 9, 10, 11, 12];

@@ -1,10 +1,10 @@
-//! The inputs of a round: logs, cuts, lists of merges, day tables, runs, pages, forged and damaged bytes, from the generators of the
-//! reference.
+//! The inputs of a round: logs, cuts, lists of merges, day tables, runs, pages, pairs of records, forged and damaged bytes, from the
+//! generators of the reference.
 
 use crate::calls::{Input, Takes};
 use reference::calls;
 use reference::gen::raw::{run_length, MODES};
-use reference::gen::{damage, forged, logs, pages, runs, tables, Rng};
+use reference::gen::{damage, forged, logs, pages, pairs, runs, tables, Rng};
 use reference::layout::encode;
 use reference::log::opened;
 use reference::mode::Mode;
@@ -61,10 +61,15 @@ fn page(mode: u32, log: Vec<u8>, page: u32) -> Input {
     Input { takes: Takes::Page, mode, first: log, second: page.to_le_bytes().to_vec() }
 }
 
+/// A log and two record numbers.
+fn pair(log: Vec<u8>, numbers: [u32; 2]) -> Input {
+    Input { takes: Takes::Pair, mode: 0, first: log, second: numbers.map(u32::to_le_bytes).concat() }
+}
+
 /// The inputs that a seed gives.
 pub fn inputs(seed: u64) -> Vec<Input> {
     let rng = &mut Rng::new(seed);
-    match rng.below(19) {
+    match rng.below(20) {
         0 => whole_log(rng),
         1 => faulty_log(rng),
         2 | 3 => cut_log(rng),
@@ -81,6 +86,7 @@ pub fn inputs(seed: u64) -> Vec<Input> {
         15 => log_with_ties(rng),
         16 => old_and_new_chunks(rng),
         17 => sheets(rng),
+        18 => pairs_of_records(rng),
         _ => noise(rng),
     }
 }
@@ -150,6 +156,20 @@ fn sheets(rng: &mut Rng) -> Vec<Input> {
     for _ in 0..4 {
         let input = page(any_mode(rng), bytes.clone(), pages::page(rng, opened(&log) as usize));
         inputs.extend(with_damage(rng, input));
+    }
+    inputs
+}
+
+/// Pairs of records of a log, or of one with a fault, either way round, and with damage to the log.
+fn pairs_of_records(rng: &mut Rng) -> Vec<Input> {
+    let most = size(rng, 60, 4000);
+    let log = logs::log_or_faulty(rng, most);
+    let bytes = logs::encode_mixed(rng, &log);
+    let mut inputs = Vec::new();
+    for _ in 0..8 {
+        let [a, b] = pairs::pair(rng, &log);
+        inputs.push(pair(bytes.clone(), [b, a]));
+        inputs.extend(with_damage(rng, pair(bytes.clone(), [a, b])));
     }
     inputs
 }
@@ -373,9 +393,10 @@ fn noise(rng: &mut Rng) -> Vec<Input> {
     let long = vec![bytes.len() as u8; rng.pick(&[65_535, 65_536, 65_537, 70_000])];
     let mut inputs = vec![piece(bytes.clone()), row(bytes.clone()), pieces(bytes.clone(), damage::noise(rng, longest))];
     inputs.extend([table(bytes.clone()), run(bytes.clone(), runs::any_y(rng)), page(any_mode(rng), bytes.clone(), 0)]);
-    inputs.push(chunk(any_mode(rng), bytes));
+    inputs.extend([pair(bytes.clone(), [0, 1]), chunk(any_mode(rng), bytes)]);
     if rng.one_in(50) {
-        inputs.extend([chunk(any_mode(rng), long.clone()), page(any_mode(rng), long.clone(), 0), piece(long.clone()), row(long)]);
+        inputs.extend([chunk(any_mode(rng), long.clone()), page(any_mode(rng), long.clone(), 0)]);
+        inputs.extend([pair(long.clone(), [0, u32::MAX]), piece(long.clone()), row(long)]);
     }
     inputs
 }
@@ -383,8 +404,10 @@ fn noise(rng: &mut Rng) -> Vec<Input> {
 #[cfg(test)]
 mod tests {
     use super::*;
+    use crate::calls::record_numbers;
     use reference::backwards::question_15;
     use reference::bytes::unsigned;
+    use reference::common::common_of;
     use reference::gen::logs::OLD_FLOOR;
     use reference::heaviest_line::line_of;
     use reference::layout::decode;
@@ -409,7 +432,7 @@ mod tests {
     #[test]
     fn nothing_is_inside_on_every_side_of_floor_and_ceiling() {
         let (mut above, mut below, mut bound, mut free) = (0, 0, 0, 0);
-        for input in (0..2500).flat_map(inputs).filter(|input| input.takes == Takes::Row) {
+        for input in (0..4000).flat_map(inputs).filter(|input| input.takes == Takes::Row) {
             for run in with_nothing_inside(&input.first) {
                 let Run::Eaten { z, l, h, .. } = run else { panic!("a run of mode 5") };
                 above += usize::from(z > h);
@@ -444,7 +467,7 @@ mod tests {
     #[test]
     fn every_n_from_0_to_9_is_tried_and_some_with_more_bits() {
         let (mut tried, mut with_more_bits) = ([0; 10], 0);
-        for input in (0..8000).flat_map(inputs).filter(|input| input.takes == Takes::Number) {
+        for input in (0..12_000).flat_map(inputs).filter(|input| input.takes == Takes::Number) {
             match tried.get_mut(input.mode as usize) {
                 Some(count) => *count += 1,
                 None => with_more_bits += usize::from((1..=8).contains(&(input.mode % 256))),
@@ -504,6 +527,41 @@ mod tests {
             }
         }
         assert!(seen.iter().flatten().all(|&count| count > 20), "{seen:?}");
+    }
+
+    #[test]
+    fn pairs_are_equal_held_apart_and_not_there() {
+        // Of logs without a fault: equal; the first holds the second, or the other way round; neither does; the first is not there, the
+        // second, both; and one would be there if it had 16 bits. Of logs with a fault: both are there, or not.
+        let mut seen = [0; 10];
+        for input in (0..8000).flat_map(inputs).filter(|input| input.takes == Takes::Pair) {
+            let log = records_of(&input.first).filter(|log| !log.is_empty() && input.first.len() <= 65_536);
+            if let Some(log) = log {
+                let kinds = kinds_of_pair(&log, record_numbers(&input.second));
+                seen.iter_mut().zip(kinds).for_each(|(count, found)| *count += usize::from(found));
+            }
+        }
+        assert!(seen.iter().all(|&count| count > 20), "{seen:?}");
+    }
+
+    fn kinds_of_pair(log: &[Record], [a, b]: [u32; 2]) -> [bool; 10] {
+        let there = |number: u32| u64::from(number) < opened(log);
+        let (good, both) = (fault(log).is_none(), there(a) && there(b));
+        let common = (good && both).then(|| common_of(log, [a, b]));
+        let is = |number: u32| common == Some(number) && a != b;
+        let wraps = |number: u32| !there(number) && there(number % (1 << 16));
+        [
+            common.is_some() && a == b,
+            is(a),
+            is(b),
+            common.is_some_and(|number| number != a && number != b),
+            good && !there(a) && there(b),
+            good && there(a) && !there(b),
+            good && !there(a) && !there(b),
+            good && (wraps(a) || wraps(b)),
+            !good && both,
+            !good && !both,
+        ]
     }
 
     #[test]

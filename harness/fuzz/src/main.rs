@@ -6,8 +6,8 @@
 //!     cargo run --release -p fuzz -- --replay CALL MODE BYTES BYTES
 //!
 //! For small_days MODE is n, and the first BYTES are the length of a buffer, the low byte first; for backwards the second BYTES are y,
-//! eight of them, likewise, and for sheet the page, four of them; for sent_before the two BYTES are a log and the row of its chunks. A
-//! dash stands for no bytes.
+//! eight of them, likewise, for sheet the page, four of them, and for common the two record numbers, four of each; for sent_before the
+//! two BYTES are a log and the row of its chunks. A dash stands for no bytes.
 //!
 //! Rounds go by rising seed from S on until N seconds have passed, R rounds are made or too many differences are found. A
 //! difference is printed with the words that replay it, and makes the exit status 1.

@@ -3,12 +3,14 @@
 //! untouched, a result is written at its front and "bytes after it stay".
 
 use crate::backwards;
+use crate::common::{common_of, question_19};
 use crate::gate::{
     question_1, question_12, question_2, question_3, question_4, question_5, question_6, questions_7_to_11_of_log,
     questions_7_to_11_of_row,
 };
 use crate::heaviest_line::{encode_numbers, line_of};
 use crate::layout::encode;
+use crate::log::opened;
 use crate::merge;
 use crate::mode::{stored, Mode};
 use crate::plan::{encode_plan, plan_by_levels};
@@ -156,6 +158,14 @@ pub fn sheet(log: &[u8], mode: u32, page: u32, capacity: usize) -> Result<Vec<u8
     let lines = lines_of(mode, &records);
     let page = question_18(&lines, page)?;
     question_12(page.concat().into_bytes(), capacity)
+}
+
+/// Document 02, L10: "For a well-formed log of one chunk and two record numbers, give the deepest
+/// record that is each of them or holds it." The faults; "19, after the log's faults".
+pub fn common(log: &[u8], a: u32, b: u32) -> Result<u32, u8> {
+    let records = whole_log(log)?;
+    question_19(opened(&records), [a, b])?;
+    Ok(common_of(&records, [a, b]))
 }
 
 /// The records of a whole log, by questions 2, 3 and 7 to 11.

@@ -8,7 +8,7 @@
 use crate::bytes::put;
 use crate::mode::Mode;
 use crate::record::Record;
-use crate::tree::{figure, tree_of, Tree};
+use crate::tree::{figure, size, tree_of, Tree};
 
 /// The numbers of a well-formed log, "counted from 0 in log order".
 pub fn line_of(log: &[Record]) -> Vec<usize> {
@@ -33,12 +33,6 @@ fn heaviest(trees: &[Tree]) -> Option<usize> {
     let figures: Vec<i64> = trees.iter().map(|tree| figure(Mode::Heaviest, tree)).collect();
     let greatest = *figures.iter().max()?;
     figures.iter().position(|&figure| figure == greatest)
-}
-
-/// How many records a tree has, which stand between its root's number and that of the next
-/// tree beside it.
-fn size(tree: &Tree) -> usize {
-    1 + tree.held.iter().map(size).sum::<usize>()
 }
 
 /// "32-bit numbers"

@@ -25,13 +25,15 @@
 //! | L7                         | [`heaviest_line`], [`calls`]             |
 //! | L8                         | [`record`]                               |
 //! | L9                         | [`sheet`], [`calls`]                     |
+//! | L10                        | [`common`], [`calls`]                    |
 //!
 //! [`gen`] makes the inputs that tests try: logs, cuts, merge lists, day tables, runs, pages,
-//! damaged bytes and summaries that no chunk makes.
+//! pairs of records, damaged bytes and summaries that no chunk makes.
 
 pub mod backwards;
 pub mod bytes;
 pub mod calls;
+pub mod common;
 pub mod gate;
 pub mod gen;
 pub mod heaviest_line;

@@ -63,6 +63,12 @@ pub fn write(tree: &Tree, depth: usize) -> Vec<Record> {
     records
 }
 
+/// How many records a tree has, which stand between its root's number in log order and that of
+/// the next tree beside it.
+pub fn size(tree: &Tree) -> usize {
+    1 + tree.held.iter().map(size).sum::<usize>()
+}
+
 /// METR 2006-64, Definition 2: "h (Node a [t1, .., tn]) = a ⊕ (h t1 ⊗ .. ⊗ h tn)".
 pub fn figure(mode: Mode, tree: &Tree) -> i64 {
     let parts: Vec<Held> = tree.held.iter().map(|part| Some(figure(mode, part))).collect();

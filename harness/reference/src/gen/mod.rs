@@ -1,10 +1,11 @@
-//! Inputs for tests: seeded logs, cuts, merge lists, day tables, runs, pages, damaged bytes and
-//! summaries that no chunk makes; and bytes put together field by field.
+//! Inputs for tests: seeded logs, cuts, merge lists, day tables, runs, pages, pairs of records,
+//! damaged bytes and summaries that no chunk makes; and bytes put together field by field.
 
 pub mod damage;
 pub mod forged;
 pub mod logs;
 pub mod pages;
+pub mod pairs;
 pub mod raw;
 pub mod runs;
 pub mod tables;

@@ -2,7 +2,7 @@
 //! only have equal summaries." Of random logs and cuts, where one record may have length
 //! 18 and the other 22. `compare` puts this to the library.
 
-use crate::calls::{day, heaviest_line, merge_row, plan, read_record, read_table, runs, summarise, work, write_log};
+use crate::calls::{common, day, heaviest_line, merge_row, plan, read_record, read_table, runs, summarise, work, write_log};
 use crate::sheet_laws::pages;
 use reference::gen::logs::{any_log, batch, cut, encode_mixed, log_or_faulty, rebatched};
 use reference::gen::raw::{batched, close, open, short, MODES};
@@ -25,6 +25,7 @@ fn summaries_figures_and_tables_are_equal() {
             assert_eq!(day(&other), day(&chunk));
             assert_eq!(read_table(&other, AMPLE), read_table(&chunk, AMPLE));
             assert_eq!(heaviest_line(&other, AMPLE), heaviest_line(&chunk, AMPLE));
+            assert_eq!(common(&other, 1, 2), common(&chunk, 1, 2));
         }
     }
 }

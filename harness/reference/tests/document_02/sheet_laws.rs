@@ -46,12 +46,12 @@ fn lines(log: &[u8], mode: u16) -> Vec<Line> {
 }
 
 /// The figures of a log's sheet, in log order.
-fn figures(log: &[u8], mode: u16) -> Vec<i64> {
+pub fn figures(log: &[u8], mode: u16) -> Vec<i64> {
     lines(log, mode).into_iter().map(|(_, _, figure)| figure).collect()
 }
 
 /// The record opened at a place, to its close, as a log of its own: its depths lowered.
-fn cut_out(log: &[Record], place: usize) -> Vec<Record> {
+pub fn cut_out(log: &[Record], place: usize) -> Vec<Record> {
     let last = closer(log, place).expect("a record that is closed");
     let above = log[place].depth();
     let lowered = |record: &Record| match record {

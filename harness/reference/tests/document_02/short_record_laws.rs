@@ -2,8 +2,8 @@
 //! and old and new summaries in one row, each record by the floor of the stretch that opened it.
 //! Of every small log and of random ones. `compare` puts this to the library.
 
-use crate::calls::{day, finish, heaviest_line, merge, merge_row, plan, read_record, read_table, runs, small_days, summarise};
-use crate::calls::{work, write_log};
+use crate::calls::{common, day, finish, heaviest_line, merge, merge_row, plan, read_record, read_table, runs, small_days};
+use crate::calls::{summarise, work, write_log};
 use crate::drop_laws::{eaten, numbers, BETWEEN};
 use crate::sheet_laws::pages;
 use reference::gen::damage::{damage, nearly_a_record};
@@ -38,6 +38,7 @@ fn a_short_record_is_the_full_one_with_floor_0() {
             assert_eq!(day(&chunk), day(&full));
             assert_eq!(read_table(&chunk, LONG), read_table(&full, LONG));
             assert_eq!(heaviest_line(&chunk, AMPLE), heaviest_line(&full, AMPLE));
+            assert_eq!(common(&chunk, 1, 2), common(&full, 1, 2));
         }
     }
 }
@@ -73,6 +74,7 @@ fn net_heaviest_and_stamp_do_not_move() {
             }
             eaten_moves += usize::from(now_figures[2] != then_figures[2]);
             assert_eq!(heaviest_line(&chunk, AMPLE), heaviest_line(&before, AMPLE));
+            assert_eq!(common(&chunk, 1, 2), common(&before, 1, 2));
             for mode in [1, 2, 4] {
                 assert_eq!(pages(&chunk, mode), pages(&before, mode));
             }
