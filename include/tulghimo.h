@@ -52,7 +52,7 @@ enum tulghimo_refusal {
     TULGHIMO_REFUSED_OUTER_FIGURE = 17,     /* the outer figure is out of the range of the run's mode: -10^14 to 10^14 in mode 1, 0
                                                to 2^32 - 1 in mode 4 */
     TULGHIMO_REFUSED_NO_SUCH_PAGE = 18,     /* the page starts past the last record */
-    TULGHIMO_REFUSED_NO_SUCH_RECORD = 19    /* a record number is not below the opened count */
+    TULGHIMO_REFUSED_NO_SUCH_RECORD = 19    /* a record number is not below the number of opened records */
 };
 
 /* Lengths in bytes. A buffer of the longest is never too short; the longest chunk and the longest table taken are lengths of
@@ -171,7 +171,8 @@ int64_t tulghimo_sheet(const uint8_t *log, size_t n, uint32_t mode, uint32_t pag
  * holds it, directly or through others. Numbers are those of tulghimo_heaviest_line. The answer is the same either way round. A
  * number given twice names itself; where one of the two holds the other, the holder is the answer. No buffer is lent: the answer is
  * the record's number, 0 to 4,095, where 0 is the record that the log begins with; or, in this order, -2, -3, -7, -8, -10, -11 or
- * -19. (No log of this length has enough records for -9.) -19 where a or b, any 32-bit number, is not below the opened count. */
+ * -19. (No log of this length has enough records for -9.) -19 where a or b is not below the number of opened records; any 32-bit
+ * numbers may be given. */
 int64_t tulghimo_common(const uint8_t *log, size_t n, uint32_t a, uint32_t b);
 
 #ifdef __cplusplus

@@ -92,6 +92,8 @@ static void nowhere_out(void) {
     is("sheet of a log", tulghimo_sheet(whole_log, sizeof whole_log, 1, 0, NULL, 0), -12);
     is("sheet of a log, the next page", tulghimo_sheet(whole_log, sizeof whole_log, 1, 1, NULL, 0), -18);
     is("sheet of a log, mode 3", tulghimo_sheet(whole_log, sizeof whole_log, 3, 0, NULL, 0), -1);
+    is("common of a log", tulghimo_common(whole_log, sizeof whole_log, 0, 0), 0);
+    is("common of a log, no such record", tulghimo_common(whole_log, sizeof whole_log, 0, UINT32_MAX), -19);
 }
 
 int main(void) {

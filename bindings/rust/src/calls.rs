@@ -2,7 +2,7 @@
 
 use crate::{raw, Figures, Kind, Line, Mode, Record, Refusal, Run, TableLine, Work};
 
-/// The number that a C function answers, or the refusal that it stands for.
+/// The number that a C function answers (0, a length or a record number), or the refusal that it stands for.
 fn answer(status: i64) -> Result<usize, Refusal> {
     match usize::try_from(status) {
         Ok(number) => Ok(number),
@@ -352,5 +352,5 @@ pub fn sheet(log: &[u8], mode: Mode, page: u32) -> Result<String, Refusal> {
 /// ```
 pub fn common(log: &[u8], a: u32, b: u32) -> Result<u32, Refusal> {
     // A record is opened before those that it holds: the answer is above neither a nor b.
-    answer(raw::common(log, a, b)).map(|number| number as u32)
+    answer(raw::common(log, a, b)).map(|number| u32::try_from(number).expect("a number not above a"))
 }

@@ -1,8 +1,8 @@
 //! The C functions on slices, with the buffers that the caller lends.
 //!
-//! Each function passes its slices on as they are and answers what the C function answers: nothing is checked, copied or hidden
-//! here, so that a test sees every byte that the library writes. A refusal is the negative number of its question. A buffer of the
-//! longest length below is never too short; [`LONGEST_TABLE_TAKEN`] is the length of an input.
+//! Each function passes its slices on as they are and answers what the C function answers, 0, a length or a record number: nothing
+//! is checked, copied or hidden here, so that a test sees every byte that the library writes. A refusal is the negative number of
+//! its question. A buffer of the longest length below is never too short; [`LONGEST_TABLE_TAKEN`] is the length of an input.
 
 /// No summary is longer, in bytes.
 pub const LONGEST_SUMMARY: usize = 1_788;

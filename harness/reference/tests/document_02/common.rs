@@ -328,7 +328,6 @@ fn a_fault_behind_both_records_counts() {
         (after(leaf(0, 9)), 8),
         (after(short(0, 9)), 8),
         (log[..log.len() - 6].to_vec(), 11),
-        (log[18..].to_vec(), 11),
     ];
     for (log, number) in spoilt {
         for (a, b) in ASKED {
