@@ -57,7 +57,7 @@ refusals! {
         "Is the outer figure within ±10^14 in mode 1, or 0 to 2^32 - 1 in mode 4?",
         "the outer figure is out of the range of the run's mode";
     NoSuchPage = 18, "Does the page start with a record of the log?", "the page starts past the last record";
-    NoSuchRecord = 19, "Are both numbers below the opened count?", "a record number is not below the opened count";
+    NoSuchRecord = 19, "Are both numbers below the opened count?", "a record number is not below the number of opened records";
 }
 
 impl Refusal {
