@@ -53,15 +53,13 @@ module _ {R : Type 0} where
     open-unclosed : {p d q : ℕ} → StillOpen p d q → (k : ℕ) → p < k → k ≤ q → at log k ≢ closing d
     open-unclosed w k a b e = omega (arith, w .deeper k a (omega arith), ap depth e)
 
-    -- of one depth only one record is open
-    pub open-once : {p r d q : ℕ} → StillOpen p d q → StillOpen r d q → p ≡ r
-    open-once {p} {r} {d} {q} u w =
-        dite (decLt p r) (λ l. absurd (omega (arith, u .deeper r l (w .before), ap depth (w .opens .1))))
-        (λ l. dite (decLt r p) (λ m. absurd (omega (arith, w .deeper p m (u .before), ap depth (u .opens .1)))) (λ m. omega arith))
-
     -- a less deep one is not opened after a deeper one
     pub open-order : {p r d e q : ℕ} → StillOpen p d q → StillOpen r e q → d ≤ e → p ≤ r
     open-order {p} {r} {d} {e} {q} u w h = dite (decLt r p) (λ m. absurd (omega (arith, w .deeper p m (u .before), ap depth (u .opens .1)))) (λ m. omega arith)
+
+    -- of one depth only one record is open
+    pub open-once : {p r d q : ℕ} → StillOpen p d q → StillOpen r d q → p ≡ r
+    open-once u w = omega (arith, open-order u w (omega arith), open-order w u (omega arith))
 
     -- what is open at a record is not deeper
     pub open-depth : {p d q f : ℕ} → StillOpen p d q → OpensAt log q f → d ≤ f
