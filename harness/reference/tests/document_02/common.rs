@@ -4,6 +4,7 @@
 
 use crate::calls::{common, day};
 use crate::heaviest_line::{around, chain, chain_around, flat, leaf};
+use crate::sheet::spoilt_at_its_end;
 use reference::gen::logs::BATCHES;
 use reference::gen::raw::{batched, close, faulty_logs, log_d, longest_log, open, short};
 
@@ -317,19 +318,7 @@ fn a_log_with_a_fault_gets_its_number_whatever_is_asked() {
 
 #[test]
 fn a_fault_behind_both_records_counts() {
-    let log = log_d().concat();
-    let after = |record: Vec<u8>| [log.clone(), record].concat();
-    let spoilt = [
-        (after(vec![6]), 3),
-        (after(close(64)), 3),
-        (log[..log.len() - 1].to_vec(), 3),
-        (after(close(1)), 7),
-        (after(short(1, 9)), 7),
-        (after(leaf(0, 9)), 8),
-        (after(short(0, 9)), 8),
-        (log[..log.len() - 6].to_vec(), 11),
-    ];
-    for (log, number) in spoilt {
+    for (log, number) in spoilt_at_its_end(&log_d().concat()) {
         for (a, b) in ASKED {
             assert_refused(&log, a, b, number);
         }

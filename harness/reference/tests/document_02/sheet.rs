@@ -423,13 +423,10 @@ fn a_log_with_a_fault_gets_its_number_on_every_page() {
     }
 }
 
-#[test]
-fn a_fault_behind_the_page_counts() {
-    // 100 records: the first page has all its lines before the fault.
-    let log = flat(&[1; 99]);
-    assert_pages(&log, 1, 100, |number| if number == 0 { (0, 99) } else { (1, 1) });
-    let after = |record: Vec<u8>| [log.clone(), record].concat();
-    let spoilt = [
+/// A whole log with a fault behind all its opens, and the fault's number.
+pub fn spoilt_at_its_end(log: &[u8]) -> [(Vec<u8>, u8); 8] {
+    let after = |record: Vec<u8>| [log.to_vec(), record].concat();
+    [
         (after(vec![6]), 3),
         (after(close(64)), 3),
         (log[..log.len() - 1].to_vec(), 3),
@@ -438,9 +435,15 @@ fn a_fault_behind_the_page_counts() {
         (after(leaf(0, 9)), 8),
         (after(short(0, 9)), 8),
         (log[..log.len() - 6].to_vec(), 11),
-        (log[10..].to_vec(), 11),
-    ];
-    for (log, number) in spoilt {
+    ]
+}
+
+#[test]
+fn a_fault_behind_the_page_counts() {
+    // 100 records: the first page has all its lines before the fault.
+    let log = flat(&[1; 99]);
+    assert_pages(&log, 1, 100, |number| if number == 0 { (0, 99) } else { (1, 1) });
+    for (log, number) in spoilt_at_its_end(&log) {
         for (page, capacity) in [(0, AMPLE), (1, AMPLE), (2, AMPLE), (0, 0), (1, 1079), (2, 0)] {
             assert_eq!(sheet(&log, 1, page, capacity), Err(number), "{} bytes, page {page}", log.len());
         }
