@@ -443,7 +443,9 @@ fn a_fault_behind_the_page_counts() {
     // 100 records: the first page has all its lines before the fault.
     let log = flat(&[1; 99]);
     assert_pages(&log, 1, 100, |number| if number == 0 { (0, 99) } else { (1, 1) });
-    for (log, number) in spoilt_at_its_end(&log) {
+    // And one that is before it, at the front.
+    let headless = (log[10..].to_vec(), 11);
+    for (log, number) in spoilt_at_its_end(&log).into_iter().chain([headless]) {
         for (page, capacity) in [(0, AMPLE), (1, AMPLE), (2, AMPLE), (0, 0), (1, 1079), (2, 0)] {
             assert_eq!(sheet(&log, 1, page, capacity), Err(number), "{} bytes, page {page}", log.len());
         }
