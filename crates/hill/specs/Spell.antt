@@ -33,7 +33,7 @@ module _ {R : Type 0} where
   spell-step p (hill u m d) (opening c r) l =
       let q : min p c ≡ p = omega arith in
       let k : c ≡ p + length d = omega arith in
-      rw (q, k) (simp append_assoc)
+      ap (λ t. spell t (step (free R) (hill u m d) (opening c r))) q ∙ rw k (simp append_assoc)
   spell-step p (hill u m []) (closing c) l =
       let q : min p c ≡ c = omega arith in
       let k : p ≡ suc c = omega arith in

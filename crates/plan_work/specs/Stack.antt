@@ -92,7 +92,7 @@ module _ {R : Type 0} (𝒜 : Algebra R) where
     -- A stack that is closed by left values: what comes from the levels above the peak p joins the record at p.
     closes-stack : (m : Fig) (d : List (R × Fig)) (p : ℕ) (u : List Fig) (c : Fig) (r : List (R × Fig)) → p + length u ≡ length d →
         closes 𝒜 (hill [] m d) u ≡ join 𝒜 (fold (closing (length d) d p (hill u c r)) p (length u) ι) (hill [] m (drop (length u) d))
-    closes-stack m d p [] c r e = rw (fold-zero (closing (length d) d p (hill [] c r)) p ι) (sym (join-unit 𝒜 ℒ (hill [] m d)))
+    closes-stack m d p [] c r e = sym (join-unit 𝒜 ℒ (hill [] m d)) ∙ ap (λ (y : Fig). join 𝒜 y (hill [] m d)) (sym (fold-zero (closing (length d) d p (hill [] c r)) p ι))
     closes-stack m d p (v ∷ u) c r e =
         let i : length d - suc p ≡ length u = omega arith in
         let z : suc p - suc p ≡ 0 = omega arith in
