@@ -1,4 +1,6 @@
 // Little-endian numbers at a position of a byte slice, and arithmetic on numbers. Each caller shows that the bytes are there, and that a sum fits.
+#![tactic(auto)]
+
 ghost use Rattle.std.specs.Prelude.{◌≡◌, ◌+◌, ◌*◌, ◌%◌, ◌^◌, ◌≤◌, ◌<◌, length, pos, ◌+ℤ◌, nat_abs, ◌≤ℤ◌, ◌<ℤ◌};
 ghost use Rattle.std.specs.Int.{w32, w64};
 ghost use Rattle.std.proofs.Common.{to_z, of_z};

@@ -1,4 +1,6 @@
 // How a row is cut into its pieces: document 01, "A row is lent as one slice, its summaries end to end, cut by their length fields".
+#![tactic(auto)]
+
 ghost use Rattle.std.specs.Prelude.{◌≡◌, ◌<◌, min, length, take};
 ghost use Rattle.row.specs.Row.{first_length, row_pieces, end_to_end};
 

@@ -1,0 +1,12 @@
+-- The min by a test.
+use Rattle.std.proofs.Common.{to_z-of_z}
+use Rattle.number.specs.Integer.{min_z}
+use Rattle.number.proofs.min.Goals as goal
+
+pub returns-then-a-b : goal.returns-then-a-b
+unfolding min_z
+returns-then-a-b c = cc (to_z-of_z c.ranges.a, to_z-of_z c.ranges.b)
+
+pub returns-else-a-b : goal.returns-else-a-b
+unfolding min_z
+returns-else-a-b c = cc (to_z-of_z c.ranges.a, to_z-of_z c.ranges.b)

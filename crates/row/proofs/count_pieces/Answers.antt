@@ -1,0 +1,21 @@
+-- `row::count_pieces` meets its contract: each turn passes one piece, and 65 is enough.
+use mathlib.Core.Path.{◌≡◌, sym, ap, subst}
+use native.Mathlib.Omega.{arith}
+use borrow.Author.Rules.{rules}
+use Prim.Native.Nat.{◌+◌, ◌-◌, ◌≤◌, min}
+use lib.ListN.{length}
+use Rattle.row.specs.Row.{row_pieces}
+use Rattle.row.specs.Laws.{first-within, count_next, count-done}
+use Rattle.row.proofs.count_pieces.Goals as goal
+
+pub slice_bounds-rest-count : goal.slice_bounds-rest-count
+slice_bounds-rest-count c = subst (λ k. k ≤ length c.loop-rest.rest.now) (sym c.first_length-first.ensures) (first-within c.loop-rest.rest.now).inside
+
+pub slice_bounds-rest-start : goal.slice_bounds-rest-start
+slice_bounds-rest-start c = slice_bounds-rest-count c
+
+pub loop-rest-preserved : goal.loop-rest-preserved
+loop-rest-preserved c = (count_next _ _ _ _ c.first_length-first.ensures c.loop-rest-test.true c.loop-rest.invariant.0, omega arith)
+
+pub returns : goal.returns
+returns c = omega (arith, count-done c.loop-rest.rest.now c.loop-rest-test.false)
