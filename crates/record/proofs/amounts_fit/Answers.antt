@@ -6,11 +6,10 @@ use Rattle.record.proofs.amounts_fit.Goals as goal
 
 pub returns : goal.returns
 returns c =
-    let start = c in
     simp (
       c.in_limits.ensures,
-      to_z-of_z {w = w32} start.ranges.value,
-      to_z-of_z {w = w32} start.ranges.floor,
-      to_z-of_z {w = w32} start.ranges.ceiling,
+      to_z-of_z {w = w32} c.ranges.value,
+      to_z-of_z {w = w32} c.ranges.floor,
+      to_z-of_z {w = w32} c.ranges.ceiling,
     )
-    (ordered-fits start.args.value start.args.floor start.args.ceiling)
+    (ordered-fits c.args.value c.args.floor c.args.ceiling)
