@@ -3,7 +3,8 @@ use Rattle.std.specs.Prelude.{◌≡◌, ℕ, ◌+◌, ◌*◌, ◌%◌, ◌^◌
 use Rattle.std.proofs.Common.{sym, ap, ap₂, ◌∙◌, subst, arith}
 use Rattle.std.proofs.Math.IntN.{-ℤ-+ℤ_cancel, +ℤ_assoc, +ℤ_idl, +ℤ_idr}
 use Rattle.algebra.specs.Algebra.{Algebra}
-use Rattle.algebra.specs.Run.{Level, through, Context, AllSound, run, run_on, run_is, run-fine}
+use Rattle.algebra.specs.Run.{Level, through, Context, AllSound, run, run_on}
+use Rattle.algebra.proofs.Run.{run_is, run-fine}
 use Rattle.number.specs.Integer.{max_z}
 use Rattle.number.specs.IntegerLaws.{zed, add-law, neg-law, abs-law, max-law, ≤-antisym}
 use Rattle.figure.specs.FourModes.{Amounts, InRange, net, heaviest, eaten, stamp, lift, Stamp, stamp_of}

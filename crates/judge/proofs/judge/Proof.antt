@@ -1,6 +1,6 @@
 -- `judge::judge` meets its contract: where the test says yes, the head is read. Assumes nothing.
 use mathlib.Core.Path.{sym, ◌∙◌}
-use Rattle.summary.specs.DecideLaws.{decide-summary}
+use Rattle.summary.proofs.DecideLaws.{decide-summary}
 use Rattle.judge.proofs.Parts.{short_none, answer-yes, answer-no}
 use borrow.Author.Tests.{not-true, not-false}
 use borrow.Author.Rules.{rules}

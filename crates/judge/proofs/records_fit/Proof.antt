@@ -5,7 +5,7 @@ use Prim.Native.Nat.{ℕ, ◌+◌, ◌*◌, ◌-◌, ◌≤◌}
 use native.Mathlib.Omega.{arith}
 use borrow.Author.Rules.{rules}
 use Rattle.record.specs.Record.{in_range}
-use Rattle.record.specs.RangeLaws.{depth-fits}
+use Rattle.record.proofs.RangeLaws.{depth-fits}
 use Rattle.summary.specs.Judge.{peak_at, record_at, value_at, floor_at, ceiling_at}
 use Rattle.summary.specs.Decide.{all_to, records_fit}
 use Rattle.judge.specs.Laid.{record_in}

@@ -1,7 +1,7 @@
 -- `outcome::run_length_lem` meets its contract: by the mode. Assumes nothing.
 use mathlib.Core.Path.{◌∙◌, sym}
 use borrow.Author.Rules.{rules}
-use Rattle.outcome.specs.RunLaws.{length-four, length_three}
+use Rattle.outcome.proofs.RunLaws.{length-four, length_three}
 use Rattle.outcome.proofs.run_length.Statement.{statement}
 use Rattle.outcome.proofs.run_length.Tie as tie
 

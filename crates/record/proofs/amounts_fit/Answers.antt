@@ -1,7 +1,7 @@
 -- `record::amounts_fit` meets its contract: the tests that it leaves out follow from the others.
 use mir.Syntax.{w32}
 use mir.Facts.{to_z-of_z}
-use Rattle.record.specs.RangeLaws.{ordered-fits}
+use Rattle.record.proofs.RangeLaws.{ordered-fits}
 use Rattle.record.proofs.amounts_fit.Goals as goal
 
 pub returns : goal.returns

@@ -8,7 +8,7 @@ use borrow.Author.Tests.{ne_eqb}
 use Rattle.gate.specs.Outcome.{Outcome}
 use Rattle.record.specs.Record.{open_of, whole, read_of, by_shape}
 use Rattle.record.specs.declared.Fields.{Fields}
-use Rattle.record.specs.Laws.{read_short}
+use Rattle.record.proofs.Laws.{read_short}
 use Rattle.record.proofs.read_first.Goals as goal
 
 pub returns-then-chunk-lt4 : goal.returns-then-chunk-lt4

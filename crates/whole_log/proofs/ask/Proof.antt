@@ -6,12 +6,12 @@ use lib.ListN.{length}
 use borrow.Author.Rules.{rules}
 use Rattle.gate.specs.Outcome.{granted}
 use Rattle.record.specs.Record.{read_of, answer_of}
-use Rattle.record.specs.Laws.{sound}
+use Rattle.record.proofs.Laws.{sound}
 use Rattle.record.specs.declared.Fields.{Fields}
 use Rattle.hill.specs.Log.{opened_of}
 use Rattle.hill.specs.Finish.{outcome}
 use Rattle.chunk.specs.Chunk.{chunk_of}
-use Rattle.chunk.specs.Laws.{too_long}
+use Rattle.chunk.proofs.Laws.{too_long}
 use Rattle.whole_log.specs.Gate.{ask_outcome}
 use Rattle.whole_log.specs.Tallies.{log_verdict}
 use Rattle.whole_log.specs.TallyLaws.{opened-is}

@@ -8,7 +8,7 @@ use Rattle.record.specs.declared.Fields.{Fields}
 use Rattle.hill.specs.Log.{Record, start_level, end_level, opens}
 use Rattle.figure.specs.FourModes.{Amounts}
 use Rattle.chunk.specs.Chunk.{record_of}
-use Rattle.chunk.specs.Laws.{is_open_lem, is-close}
+use Rattle.chunk.proofs.Laws.{is_open_lem, is-close}
 use Rattle.whole_log.specs.declared.Tally.{Tally}
 use Rattle.whole_log.specs.Tallies.{Tallied}
 use Rattle.whole_log.proofs.note.Statement.{statement}
