@@ -59,14 +59,12 @@ abbrev pub answer_from : {B : Type 0} → (List (Record Amounts) → B) → List
 answer_from f log = onward (whole_log log) (λ xs. granted (f xs))
 
 module _ {B : Type 0} (f : List (Record Amounts) → B) (log : List ℕ) where
-
   -- 2
   pub too_long : 65_536 < length log → answer_from f log ≡ refused 2
   unfolding whole_log
   too_long h = rw (lt-leb (length log) 65_536 h)
 
   module _ (short : length log ≤ 65_536) where
-
     -- 3
     pub unreadable : (n : ℕ) → records_of log ≡ refused n → answer_from f log ≡ refused n
     unfolding whole_log

@@ -53,7 +53,6 @@ summary-length m b i = go i.is
 -- ---- from summaries to bytes
 
 module _ (m : ℕ) (u : mode_in_use m ≡ true) (s : SummaryIn m) (v : Accepted m s) where
-
   pub encoded : IsSummaryIn m (encode m s)
   unfolding encode
   encoded = let w = says (mode_of m) m (numbered m u) u s v in record { is = w.is; mode-is = w.mode-is }

@@ -16,7 +16,6 @@ use Rattle.summary.specs.Layout.{i64_bytes, left_bytes, right_bytes, hill_bytes,
 use Rattle.summary.specs.Judge.{length_at, kind_at, mode_at, opened_at, rise_at, fall_at, middle_at, HasLayout, IsSummary, is_blank, is_spoilt, is_hill}
 use Rattle.summary.specs.Decode.{hill_in, reading, lefts_in, rights_in}
 use Rattle.summary.proofs.ModeValues.{Numbered}
-
 use Rattle.summary.proofs.Hills.{AllStored, valid-hill}
 use Rattle.summary.proofs.ReadBack.{left-length, layout-length, figure-back, stored, LeftsBack, lefts-back, RightsBack, rights-back}
 
