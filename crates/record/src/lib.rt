@@ -1,4 +1,6 @@
 // Reading records: document 01, "Records", with the batch of document 02, L2, and the floor of short records of L8.
+#![tactic(auto)]
+
 ghost use Rattle.std.specs.Prelude.{◌≡◌, ◌≤◌, length};
 ghost use Rattle.record.specs.Record.{
   answer_of,
