@@ -10,6 +10,7 @@ pub mod HeaviestSum
 pub mod ShortRecords
 pub mod Sheets
 pub mod Farms
+
 -- The proof: stretches; the cut, and that every list of readable chunks is one; the lines of the plan; one merge and the whole list; what is left says what
 -- the log says; the row that summarise writes.
 -- Batches move nothing.
