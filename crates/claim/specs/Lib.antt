@@ -10,7 +10,6 @@ pub mod HeaviestSum
 pub mod ShortRecords
 pub mod Sheets
 pub mod Farms
-
 -- The proof: stretches; the cut, and that every list of readable chunks is one; the lines of the plan; one merge and the whole list; what is left says what
 -- the log says; the row that summarise writes.
 -- Batches move nothing.
@@ -21,3 +20,4 @@ pub mod Farms
 -- Each figure of a sheet is what its record's subtree leads to.
 -- A farm's day, sent in the chunks of its log, is the log's.
 -- The theorems on log D, on a short record over a negative sum, and on sheets.
+pub mod Table
