@@ -8,7 +8,8 @@ use Rattle.figure.specs.Mode.{Mode}
 use Rattle.figure.specs.Stored.{size_of, none, combined, passed, amounts, Combines, Passes, none_read, none-size, none-stored, combined-read, combined-size, combined-stored, passed-read, passed-size, passed-stored, passes}
 use Rattle.hill.specs.Summary.{Hill, hill}
 use Rattle.hill.specs.Valid.{weight_up, weight_down, AllFine}
-use Rattle.hill.specs.Building.{join, close, closes, join-unit}
+use Rattle.hill.specs.Building.{join, close, closes}
+use Rattle.hill.proofs.Building.{join-unit}
 use Rattle.summary.specs.Judge.{left_at}
 use Rattle.summary.specs.Decode.{lefts_in}
 use Rattle.slopes.specs.declared.Counts.{Counts}

@@ -10,13 +10,14 @@ use Rattle.figure.specs.Mode.{Mode, mode_of}
 use Rattle.figure.specs.Stored.{size_of, none, combined, Combines}
 use Rattle.hill.specs.Summary.{Hill, hill}
 use Rattle.hill.specs.Valid.{weight_up, weight_down}
-use Rattle.hill.specs.Building.{push, push-nil, join, close, merge}
-use Rattle.hill.specs.Slopes.{rise-closes, fall-closes}
+use Rattle.hill.specs.Building.{push, join, close, merge}
+use Rattle.hill.proofs.Building.{push-nil}
+use Rattle.hill.proofs.Slopes.{rise-closes, fall-closes}
 use Rattle.summary.specs.Judge.{mode_at, rise_at, fall_at, left_at, middle_at, value_at, floor_at, ceiling_at, held_at, IsHill}
 use Rattle.summary.specs.Decode.{amounts_at, lefts_in, rights_in, hill_in}
-use Rattle.summary.specs.Values.{lefts-length, fine-rights}
-use Rattle.summary.specs.ModeValues.{Numbered, numbered}
-use Rattle.summary.specs.Hills.{AllStored, hill-valid, hill-stored}
+use Rattle.summary.proofs.Values.{lefts-length, fine-rights}
+use Rattle.summary.proofs.ModeValues.{Numbered, numbered}
+use Rattle.summary.proofs.Hills.{AllStored, hill-valid, hill-stored}
 use Rattle.slopes.specs.declared.Counts.{Counts}
 use Rattle.slopes.specs.Arrays.{Arrays, arrays, Fig, slopes_of, weight_of, Able, StandsFor}
 use Rattle.slopes.specs.Actions.{Pushed, CanClose, Joins, Added}

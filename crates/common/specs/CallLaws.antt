@@ -2,14 +2,15 @@
 use Rattle.std.specs.Prelude.{◌≡◌, Bool, true, false, ◌&&◌, List, ℕ, ◌≤◌, ◌<◌, ltb}
 use Rattle.std.proofs.Common.{sym, ap, ◌∙◌, arith, ltb-true}
 use Rattle.gate.specs.Outcome.{refused, granted, question}
-use Rattle.record.specs.Laws.{and_left, and_right}
+use Rattle.record.proofs.Laws.{and_left, and_right}
 use Rattle.figure.specs.FourModes.{Amounts}
 use Rattle.hill.specs.Log.{Record, opened_of}
 use Rattle.chunk.specs.Chunk.{IsWellFormed}
-use Rattle.chunk.specs.Laws.{IsLog, one-log}
+use Rattle.chunk.specs.Laws.{IsLog}
+use Rattle.chunk.proofs.Laws.{one-log}
 use Rattle.whole_log.specs.AskLaws.{Opens}
 use Rattle.common_record.specs.Common.{common_number, numbers_outcome}
-use Rattle.common_record.specs.CommonLaws.{same-either-way}
+use Rattle.common_record.proofs.CommonLaws.{same-either-way}
 use Rattle.common.specs.Walk.{BothThere, InOrder}
 
 -- ---- the earlier one first

@@ -5,25 +5,28 @@ use Rattle.std.proofs.Math.Logic.{dite}
 use Rattle.std.proofs.Math.Decide.{dec_lt}
 use Rattle.gate.specs.Outcome.{granted}
 use Rattle.record.specs.Record.{read_of}
-use Rattle.record.specs.Laws.{sound}
+use Rattle.record.proofs.Laws.{sound}
 use Rattle.record.specs.declared.Fields.{Fields}
 use Rattle.figure.specs.FourModes.{Amounts}
 use Rattle.hill.specs.Log.{Record, opening, closing, start_level, end_level, opens}
 use Rattle.hill.specs.Closing.{at, OpensAt}
-use Rattle.hill.specs.HeldPlaces.{opening-closing, opens-inside}
+use Rattle.hill.proofs.HeldPlaces.{opening-closing, opens-inside}
 use Rattle.chunk.specs.Chunk.{record_of, IsWellFormed}
-use Rattle.chunk.specs.Laws.{depth_low, low-log, is_open_lem, is-close, one-log}
+use Rattle.chunk.proofs.Laws.{depth_low, low-log, is_open_lem, is-close, one-log}
 use Rattle.whole_log.specs.Second as second
 use Rattle.whole_log.specs.Second.{Second}
 use Rattle.log_records.specs.Numbers.{number_at, IsRecord}
-use Rattle.log_records.specs.NumberLaws.{counted-from-0, number-mono, number-before, number-most}
-use Rattle.log_records.specs.Formed.{Formed, depth-once, formed}
-use Rattle.log_records.specs.StackLaws.{OpenBefore, open-through, OpenStack, open-level, Left, stack-close}
-use Rattle.log_records.specs.OpenNumbers.{Numbered, OpenNumbers, numbers-start, numbers-open, numbers-close}
+use Rattle.log_records.proofs.NumberLaws.{counted-from-0, number-mono, number-before, number-most}
+use Rattle.log_records.specs.Formed.{Formed}
+use Rattle.log_records.proofs.Formed.{depth-once, formed}
+use Rattle.log_records.specs.StackLaws.{OpenBefore, OpenStack}
+use Rattle.log_records.proofs.StackLaws.{open-through, open-level, Left, stack-close}
+use Rattle.log_records.specs.OpenNumbers.{Numbered, OpenNumbers}
+use Rattle.log_records.proofs.OpenNumbers.{numbers-start, numbers-open, numbers-close}
 use Rattle.common_record.specs.Common.{common_number}
 use Rattle.common_record.specs.Claims.{IsOrHolds, InCommon}
-use Rattle.common_record.specs.HoldingLaws.{StillOpen, open-earlier, open-once, open-depth, holding-open, open-holding}
-use Rattle.common_record.specs.CommonLaws.{common-is}
+use Rattle.common_record.proofs.HoldingLaws.{StillOpen, open-earlier, open-once, open-depth, holding-open, open-holding}
+use Rattle.common_record.proofs.CommonLaws.{common-is}
 use Rattle.common.specs.declared.walk.Progress.{Progress}
 use Rattle.common.specs.Walk.{Shares, Walked, InOrder}
 

@@ -9,12 +9,12 @@ use Rattle.figure.specs.Mode.{mode_of}
 use Rattle.hill.specs.Verdict.{Verdict, pass, refuse}
 use Rattle.hill.specs.Log.{Record, log_fault}
 use Rattle.hill.specs.Questions.{NoOfLog}
-use Rattle.hill.specs.Faults.{lowest-log}
+use Rattle.hill.proofs.Faults.{lowest-log}
 use Rattle.hill.specs.Tree.{Forest, nil, tree, write, value}
-use Rattle.hill.specs.FigureLaws.{log-tree}
+use Rattle.hill.proofs.FigureLaws.{log-tree}
 use Rattle.hill.specs.Finish.{outcome}
 use Rattle.chunk.specs.Chunk.{chunk_of, figure_in}
-use Rattle.chunk.specs.Laws.{too_long as log-too-long, readable as log-readable}
+use Rattle.chunk.proofs.Laws.{too_long as log-too-long, readable as log-readable}
 use Rattle.outcome.specs.Day.{figures_of, day_outcome}
 
 -- ---- by questions

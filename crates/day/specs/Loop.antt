@@ -3,13 +3,13 @@ use Rattle.std.specs.Prelude.{◌≡◌, refl, List, [], ◌∷◌, ◌++◌, �
 use Rattle.std.proofs.Common.{sym, ap, subst, ◌∙◌, arith, eq-eqb}
 use Rattle.gate.specs.Outcome.{refused, granted}
 use Rattle.record.specs.Record.{read_of}
-use Rattle.record.specs.Laws.{sound}
+use Rattle.record.proofs.Laws.{sound}
 use Rattle.record.specs.declared.Fields.{Fields}
 use Rattle.hill.specs.Verdict.{Verdict, pass, refuse, low, ask}
 use Rattle.hill.specs.Log.{Record, start_level, log_fault}
 use Rattle.hill.specs.Tree.{nil, tree}
-use Rattle.hill.specs.TreeLaws.{hill_of-write}
-use Rattle.hill.specs.FigureLaws.{log-tree}
+use Rattle.hill.proofs.TreeLaws.{hill_of-write}
+use Rattle.hill.proofs.FigureLaws.{log-tree}
 use Rattle.hill.specs.Summary.{middle}
 use Rattle.hill.specs.Building.{hill_of}
 use Rattle.hill.specs.Finish.{outcome}
@@ -19,9 +19,9 @@ use Rattle.figure.specs.Stored.{IsStored, amounts}
 use Rattle.slopes.specs.Rising.{Stands, stands-none}
 use Rattle.fault.specs.Fault.{no_fault, verdict_of}
 use Rattle.fault.specs.Laws.{clear, is-clear}
-use Rattle.summary.specs.Values.{tells-range}
+use Rattle.summary.proofs.Values.{tells-range}
 use Rattle.chunk.specs.Chunk.{record_of, chunk_of, figure_in}
-use Rattle.chunk.specs.Laws.{chunk-append}
+use Rattle.chunk.proofs.Laws.{chunk-append}
 use Rattle.whole_log.specs.declared.Tally.{Tally}
 use Rattle.whole_log.specs.Tallies.{Fresh, Tallied, log_verdict}
 use Rattle.whole_log.specs.TallyLaws.{level-is, faultless, so_far, grounded, meets, log-verdict, through}

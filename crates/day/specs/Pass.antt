@@ -11,7 +11,7 @@ use Rattle.slopes.specs.Laws.{is-top}
 use Rattle.slopes.specs.Rising.{rising, Stands, stands-able, stands-open, stands-close}
 use Rattle.record.specs.declared.Fields.{Fields}
 use Rattle.chunk.specs.Chunk.{record_of}
-use Rattle.chunk.specs.Laws.{is_open_lem, is-close}
+use Rattle.chunk.proofs.Laws.{is_open_lem, is-close}
 use Rattle.outcome.specs.declared.Figures.{Figures}
 
 -- ---- definitions

@@ -15,7 +15,7 @@ use mir.Val.{to_z}
 use Rattle.gate.specs.Outcome.{refused, granted}
 use Rattle.number.specs.Laws.{sets-append}
 use Rattle.text.specs.Decimal.{decimal_of}
-use Rattle.text.specs.DecimalLaws.{decimal-length}
+use Rattle.text.proofs.DecimalLaws.{decimal-length}
 use Rattle.outcome.specs.Line.{ascii, line_text, day_line}
 use Rattle.outcome.specs.declared.Figures.{Figures}
 

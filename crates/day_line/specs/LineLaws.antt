@@ -4,7 +4,7 @@ use Rattle.std.specs.Prelude.{◌≡◌, refl, List, [], ◌∷◌, ◌++◌, �
 use Rattle.std.proofs.Common.{sym, ap, ◌∙◌, append_assoc, arith, eq-eqb, ne_eqb, lit<, lit≤}
 use Rattle.gate.specs.Outcome.{Outcome, refused, granted}
 use Rattle.text.specs.Decimal.{digits_of, decimal_of, Digits}
-use Rattle.text.specs.DecimalLaws.{digits-digits, read-digits, read-decimal}
+use Rattle.text.proofs.DecimalLaws.{digits-digits, read-digits, read-decimal}
 use Rattle.outcome.specs.Line.{ascii, line_text, day_line, pieces, read_line}
 use Rattle.outcome.specs.declared.Figures.{Figures}
 

@@ -2,8 +2,7 @@
 pub mod Sheet
 pub mod Claims
 -- A line: its length, its columns, and that it reads back.
-pub mod LineLaws
 -- The lines of a log by their records, and the pages.
 pub mod PageLaws
+
 -- What the call comes to.
-pub mod CallLaws

@@ -2,7 +2,8 @@
 use Rattle.std.specs.Prelude.{◌≡◌, List, ℕ, ◌+◌, ◌-◌, ◌≤◌, ℤ, length}
 use Rattle.std.proofs.Common.{sym, ap, subst, ◌∙◌, arith}
 use Rattle.gate.specs.Outcome.{written}
-use Rattle.gate.specs.Promises.{Answers, answer-fits, answer-same}
+use Rattle.gate.specs.Promises.{Answers}
+use Rattle.gate.proofs.Promises.{answer-fits, answer-same}
 use Rattle.gate.specs.declared.Written.{Written}
 use Rattle.gate.specs.declared.Written.TheVariants.{Bytes}
 use Rattle.figure.specs.FourModes.{store_held}
@@ -19,7 +20,7 @@ use Rattle.slopes.specs.declared.Counts.{Counts}
 use Rattle.slopes.specs.Arrays.{Arrays, slopes_of, Sound, Stored}
 use Rattle.slopes.specs.Laws.{counts, rise-slopes, fall-slopes}
 use Rattle.summary.specs.Layout.{SummaryIn, encode}
-use Rattle.summary.specs.Accepted.{encode-length}
+use Rattle.summary.proofs.Accepted.{encode-length}
 use Rattle.emit.specs.Promised.{Wrote, hill_length, Writes}
 use Rattle.emit.specs.Emitted.{counts_of, spoilt_said, hill_said, summary_said, WritableHill, Writable, Said}
 

@@ -7,14 +7,14 @@ use Prim.Native.Nat.{ℕ, zero, suc, ◌+◌, ◌*◌, ◌≤◌, ◌<◌}
 use Rattle.std.proofs.Math.ListN.{length, length-append}
 use Rattle.std.proofs.Math.Seq.{sets}
 use mir.Syntax.{w32, w64}
-use Rattle.gate.specs.Promises.{stored-first}
+use Rattle.gate.proofs.Promises.{stored-first}
 use Rattle.number.specs.Bytes.{bytes_of, put_at}
 use Rattle.number.specs.Laws.{sets-append, stores-next, length-bytes_of}
 use Rattle.figure.specs.Mode.{Mode, mode_of}
 use Rattle.figure.specs.Stored.{IsStored}
 use Rattle.hill.specs.Summary.{blank, part, spoilt, whole}
 use Rattle.summary.specs.Layout.{i32_bytes, i64_bytes, left_bytes, right_bytes, hill_bytes, SummaryIn, encode}
-use Rattle.summary.specs.Accepted.{encode-length}
+use Rattle.summary.proofs.Accepted.{encode-length}
 use Rattle.slopes.specs.declared.Counts.{Counts}
 use Rattle.slopes.specs.Arrays.{Arrays, at, ups, downs, slopes_of, Stored}
 use Rattle.slopes.specs.Laws.{rise-slopes, fall-slopes}

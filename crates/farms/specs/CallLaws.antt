@@ -7,7 +7,7 @@ use Rattle.std.proofs.Math.ListN.{length}
 use Rattle.std.proofs.lemmas.Bool.{lt-leb}
 use Rattle.gate.specs.Outcome.{Outcome, refused, granted, question, onward, written, buffer_after}
 use Rattle.gate.specs.Answers.{written_answer, length_answered}
-use Rattle.gate.specs.Laws.{yes, result-same, one_number, not-result}
+use Rattle.gate.proofs.Laws.{yes, result-same, one_number, not-result}
 use Rattle.gate.specs.Promises.{Answers}
 use Rattle.gate.specs.declared.Written.{Written}
 use Rattle.gate.specs.declared.Written.TheVariants.{Bytes, Refused}
@@ -15,12 +15,12 @@ use Rattle.figure.specs.Mode.{mode_in_use}
 use Rattle.summary.specs.Judge.{mode_at}
 use Rattle.summary.specs.Decide.{is_summary}
 use Rattle.summary.specs.Outcomes.{blank_bytes, merge_bytes, merge_outcome}
-use Rattle.summary.specs.OutcomeLaws.{merge-room}
+use Rattle.summary.proofs.OutcomeLaws.{merge-room}
 use Rattle.valley_station.specs.Station.{fresh_station, held, drawn, excess_of, fresh_outcome, send_outcome, end_outcome}
 use Rattle.valley_station.specs.State.{slot_holds, station_of, slot_of, state_of, put_slot, state_after, fresh_after, send_after, end_after}
 use Rattle.valley_station.specs.Runs.{Told, taken, turned_away, tell}
-use Rattle.valley_station.specs.StationLaws.{excess-set, excess-one}
-use Rattle.valley_station.specs.StateLaws.{held-slot, eight-farms, slot-length}
+use Rattle.valley_station.proofs.StationLaws.{excess-set, excess-one}
+use Rattle.valley_station.proofs.StateLaws.{held-slot, eight-farms, slot-length}
 use Rattle.farms.specs.Promised.{IsSlot, asked21}
 use Rattle.farms.specs.SlotLaws.{filled}
 

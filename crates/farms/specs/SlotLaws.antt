@@ -5,7 +5,7 @@ use Rattle.std.proofs.lemmas.List.{length-replicate}
 use Rattle.std.proofs.Math.Seq.{take-length, paste, paste-zero, paste-suc}
 use Rattle.std.proofs.lemmas.Bool.{lt-leb}
 use Rattle.gate.specs.Outcome.{written, buffer_after}
-use Rattle.gate.specs.Laws.{fits}
+use Rattle.gate.proofs.Laws.{fits}
 use Rattle.number.specs.Bytes.{le_at, bytes_of}
 use Rattle.number.specs.Laws.{le_at-drop}
 use Rattle.hill.specs.Summary.{blank}
@@ -13,7 +13,7 @@ use Rattle.summary.specs.Layout.{encode}
 use Rattle.summary.specs.Outcomes.{blank_bytes}
 use Rattle.valley_station.specs.Station.{fresh_station, opened_in, drawn, excess_of}
 use Rattle.valley_station.specs.State.{slot_holds, station_of, slot_of, state_of, put_slot}
-use Rattle.valley_station.specs.StateLaws.{held-slot, eight-farms, slot-length, state-append}
+use Rattle.valley_station.proofs.StateLaws.{held-slot, eight-farms, slot-length, state-append}
 
 -- ---- what is held
 

@@ -5,7 +5,7 @@ use Rattle.std.proofs.Math.Logic.{dite}
 use Rattle.std.proofs.Math.Decide.{dec_lt}
 use Rattle.std.proofs.lemmas.Bool.{lt-leb}
 use Rattle.hill.specs.Verdict.{Verdict, pass, refuse, low, lower, ask, joint, count}
-use Rattle.hill.specs.VerdictLaws.{low-pass, low-comm, refuse-pass, count-few}
+use Rattle.hill.proofs.VerdictLaws.{low-pass, low-comm, refuse-pass, count-few}
 use Rattle.fault.specs.Fault.{no_fault, verdict_of}
 
 -- ---- a fault or none

@@ -1,4 +1,6 @@
 // A fault as a byte, and the questions 7, 8, 9 and 11 that find one.
+#![tactic(auto)]
+
 ghost use Rattle.std.specs.Prelude.{◌≡◌, eqb};
 ghost use Rattle.hill.specs.Verdict.{low, ask, joint as jointOf, count as count_of, ends as endsOf};
 ghost use Rattle.fault.specs.Fault.{verdict_of};

@@ -19,7 +19,7 @@ pub net-node : (r : Amounts) (h : ℤ) → InRange r → unsigned_abs (r.value +
 net-node r h i = omega (arith, abs-+ r.value h)
 
 abbrev pub net_sizes : Sizes net InRange
-net_sizes = record { unit = limit; size = nat_abs; unit-pos = lit< tt; size-ι = refl; size-⊗ = abs-+; size-node = net-node }
+net_sizes = record { unit = limit; size = unsigned_abs; unit-pos = lit< tt; size-ι = refl; size-⊗ = abs-+; size-node = net-node }
 
 pub net-size : (l : Level net) → InRange l.carried → unsigned_abs (l.carried.value +ℤ (l.before +ℤ l.after)) ≤ cost net_sizes l
 net-size l i = omega (arith, net-node l.carried (l.before +ℤ l.after) i, abs-+ l.before l.after)

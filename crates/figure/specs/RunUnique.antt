@@ -1,9 +1,10 @@
 -- The numbers of each mode's run are the only ones that document 01's sentence "The run of a join .." allows. Assumes nothing.
 use Rattle.std.specs.Prelude.{◌≡◌, ℕ, ◌+◌, ◌*◌, ◌%◌, ◌^◌, ◌<◌, List, [], ◌∷◌, ℤ, pos, ◌+ℤ◌, ◌-ℤ◌, neg_ℤ, ◌≤ℤ◌, unsigned_abs, refl}
 use Rattle.std.proofs.Common.{sym, ap, ap₂, ◌∙◌, subst, arith}
-use Rattle.std.proofs.Math.IntN.{-ℤ-+ℤ_cancel, +ℤ_assoc, +ℤ_idl, +ℤ_idr}
+use Rattle.std.proofs.Math.IntN.{+ℤ_assoc, -ℤ-+ℤ_cancel, +ℤ_idl, +ℤ_idr}
 use Rattle.algebra.specs.Algebra.{Algebra}
-use Rattle.algebra.specs.Run.{Level, through, Context, AllSound, run, run_on, run_is, run-fine}
+use Rattle.algebra.specs.Run.{Level, through, Context, AllSound, run, run_on}
+use Rattle.algebra.proofs.Run.{run_is, run-fine}
 use Rattle.number.specs.Integer.{max_z}
 use Rattle.number.specs.IntegerLaws.{zed, add-law, neg-law, abs-law, max-law, ≤-antisym}
 use Rattle.figure.specs.FourModes.{Amounts, InRange, net, heaviest, eaten, stamp, lift, Stamp, stamp_of}
@@ -100,12 +101,12 @@ after_none : (a b : Held) (v : ℤ) → a ≡ Nothing → b ≡ Nothing → lift
 unfolding moved lift
 after_none a b v p q = ap₂ (λ a b. lift max_z a (moved b v)) p q
 
-other_none : (k : HeaviestNumbers) (ls : List (Level heaviest)) → k.other ≡ Nothing → NoOther ls → run_on heaviest_context k ls .other ≡ Nothing
+other_none : (k : HeaviestNumbers) (ls : List (Level heaviest)) → k.other ≡ Nothing → NoOther ls → (run_on heaviest_context k ls).other ≡ Nothing
 unfolding run_on
 other_none k [] e n = e
 other_none k (l ∷ ls) e n = other_none (line_after (line_level l) k) ls (after_none _ k.other l.carried.value (none-moved l.carried.value n.0.0 n.0.1) e) n.1
 
-none_other : (k : HeaviestNumbers) (ls : List (Level heaviest)) → run_on heaviest_context k ls .other ≡ Nothing → (k.other ≡ Nothing) × NoOther ls
+none_other : (k : HeaviestNumbers) (ls : List (Level heaviest)) → (run_on heaviest_context k ls).other ≡ Nothing → (k.other ≡ Nothing) × NoOther ls
 unfolding run_on
 none_other k [] e = (e, tt)
 none_other k (l ∷ ls) e =
@@ -148,7 +149,7 @@ stamp_pinned = record { is = run_is stamp_context; only = stamp-only }
 
 -- ---- mode 5: nothing shows z, the ends are the least and the greatest outcome for numbers, and a is the sum on the way
 
-total-run : (k : EatenNumbers) (ls : List (Level eaten)) → run_on eaten_context k ls .some .add ≡ k.some.add +ℤ total ls
+total-run : (k : EatenNumbers) (ls : List (Level eaten)) → (run_on eaten_context k ls).some.add ≡ k.some.add +ℤ total ls
 unfolding run_on total
 total-run k [] = sym (+ℤ_idr k.some.add)
 total-run k (l ∷ ls) =

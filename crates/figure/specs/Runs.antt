@@ -1,7 +1,7 @@
 -- The contexts of the four modes: the numbers of one level, and of one run after another, so that `run_is` holds of each. Assumes nothing.
 use Rattle.std.specs.Prelude.{◌≡◌, ℕ, ◌+◌, ◌*◌, ◌%◌, ◌^◌, ℤ, pos, ◌+ℤ◌, ◌-ℤ◌, ◌≤ℤ◌, refl}
 use Rattle.std.proofs.Common.{sym, ap, ◌∙◌, arith}
-use Rattle.std.proofs.Math.IntN.{-ℤ-+ℤ_cancel, +ℤ_assoc, +ℤ_comm, +ℤ_idl, +ℤ_idr}
+use Rattle.std.proofs.Math.IntN.{+ℤ_assoc, -ℤ-+ℤ_cancel, +ℤ_comm, +ℤ_idl, +ℤ_idr}
 use Rattle.std.specs.Int.Signed.{≤ℤ_refl}
 use Rattle.algebra.specs.Run.{Level, step, Context}
 use Rattle.number.specs.Integer.{max_z, clamp}
@@ -109,7 +109,7 @@ heaviest_context = record {
 -- ---- mode 4: m x + q modulo 2^32
 
 abbrev pub affine_level : Level stamp → Affine
-affine_level l = record { times = stamp_of 31; plus = stamp.node l.carried (stamp._⊗_ l.before l.after) }
+affine_level l = record { times = stamp_of 31; plus = stamp.node l.carried (stamp.◌⊗◌ l.before l.after) }
 
 abbrev pub affine_after : Affine → Affine → Affine
 affine_after f g =
@@ -124,9 +124,9 @@ affine-after f g _ x = stamp-≡ (simp mods (ap (λ (y : ℕ). y % 2 ^ 32) (omeg
 pub affine-app : (l : Level stamp) (x : Stamp) → affine (affine_level l) x ≡ step stamp l x
 unfolding step
 affine-app l x =
-    ap (λ q. affine (record { times = stamp_of 31; plus = q }) x) (stamp-node l.carried (stamp._⊗_ l.before l.after))
+    ap (λ q. affine (record { times = stamp_of 31; plus = q }) x) (stamp-node l.carried (stamp.◌⊗◌ l.before l.after))
     ∙ stamp-≡ (simp mods (ap (λ (y : ℕ). y % 2 ^ 32) (omega arith)))
-    ∙ sym (stamp-node l.carried (stamp._⊗_ (stamp._⊗_ l.before x) l.after))
+    ∙ sym (stamp-node l.carried (stamp.◌⊗◌ (stamp.◌⊗◌ l.before x) l.after))
 
 abbrev pub stamp_context : Context stamp InRange
 stamp_context = record {
@@ -170,7 +170,7 @@ between_level r b c = record { add = r.value +ℤ (b +ℤ c); low = r.floor; hig
 
 -- the numbers of one level, and of one run after another
 abbrev pub eaten_level : Level eaten → EatenNumbers
-eaten_level l = record { empty = eaten_of l.carried (lift _+ℤ_ l.before l.after); some = between_level l.carried (addend l.before) (addend l.after) }
+eaten_level l = record { empty = eaten_of l.carried (lift ◌+ℤ◌ l.before l.after); some = between_level l.carried (addend l.before) (addend l.after) }
 
 abbrev pub eaten_after : EatenNumbers → EatenNumbers → EatenNumbers
 eaten_after f g = record { empty = between f.some g.empty; some = between_after f.some g.some }
@@ -184,7 +184,7 @@ pub eaten-fine : (f g : EatenNumbers) → f.some.low ≤ℤ f.some.high → g.so
 eaten-fine f g p q = between-fine f.some g.some p q
 
 -- what a record holds beside x, and x: something
-inner-sum : (b c : Held) (x : ℤ) → lift _+ℤ_ (lift _+ℤ_ b (Figure x)) c ≡ Figure ((addend b +ℤ x) +ℤ addend c)
+inner-sum : (b c : Held) (x : ℤ) → lift ◌+ℤ◌ (lift ◌+ℤ◌ b (Figure x)) c ≡ Figure ((addend b +ℤ x) +ℤ addend c)
 unfolding lift
 inner-sum Nothing Nothing x = ap Figure (sym (+ℤ_idr (pos 0 +ℤ x) ∙ +ℤ_idl x))
 inner-sum Nothing (Figure c) x = ap Figure (sym (ap (λ (y : ℤ). y +ℤ c) (+ℤ_idl x)))
@@ -192,7 +192,7 @@ inner-sum (Figure b) Nothing x = ap Figure (sym (+ℤ_idr (b +ℤ x)))
 inner-sum (Figure b) (Figure c) x = refl
 
 -- what a record holds beside the inner part, added up
-pub addend-sum : (b c : Held) → addend (lift _+ℤ_ b c) ≡ addend b +ℤ addend c
+pub addend-sum : (b c : Held) → addend (lift ◌+ℤ◌ b c) ≡ addend b +ℤ addend c
 unfolding lift
 addend-sum Nothing Nothing = refl
 addend-sum Nothing (Figure c) = sym (+ℤ_idl c)
@@ -213,9 +213,9 @@ eaten-figure : (r : Amounts) (s : ℤ) → clamp (r.value +ℤ s) r.floor r.ceil
 unfolding eaten_of
 eaten-figure r s = refl
 
-eaten-at : (b c x : Held) (r : Amounts) → eaten_along (record { empty = eaten_of r (lift _+ℤ_ b c); some = between_level r (addend b) (addend c) }) x ≡ eaten_of r (lift _+ℤ_ (lift _+ℤ_ b x) c)
+eaten-at : (b c x : Held) (r : Amounts) → eaten_along (record { empty = eaten_of r (lift ◌+ℤ◌ b c); some = between_level r (addend b) (addend c) }) x ≡ eaten_of r (lift ◌+ℤ◌ (lift ◌+ℤ◌ b x) c)
 unfolding eaten_along
-eaten-at b c Nothing r = ap (λ (h : Held). eaten_of r (lift _+ℤ_ h c)) (sym (lift-r _+ℤ_ b))
+eaten-at b c Nothing r = ap (λ (h : Held). eaten_of r (lift ◌+ℤ◌ h c)) (sym (lift-r ◌+ℤ◌ b))
 eaten-at b c (Figure x) r = ap (λ (y : ℤ). clamp y r.floor r.ceiling) (net-level r.value (addend b) (addend c) x) ∙ eaten-figure r _ ∙ ap (eaten_of r) (sym (inner-sum b c x))
 
 pub eaten-app : (l : Level eaten) (x : Held) → Figure (eaten_along (eaten_level l) x) ≡ step eaten l x

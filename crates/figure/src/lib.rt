@@ -1,4 +1,6 @@
 // Figures in the four modes, on the numbers as they are stored. Each caller shows that a sum fits.
+#![tactic(auto)]
+
 ghost use Rattle.std.specs.Prelude.{◌≡◌, ◌+◌, ◌*◌, ◌^◌, ◌<◌, pos, ◌+ℤ◌, unsigned_abs};
 ghost use Rattle.number.specs.Integer.{clamp, wrap};
 ghost use Rattle.figure.specs.FourModes.{lift, line_of, eaten_of, read_held, store_held};
@@ -11,7 +13,7 @@ ghost use Rattle.figure.specs.Stored.{size_of, none, combined, passed, amounts, 
 pub mod runs;
 
 // What a record holds, in a mode where "nothing held" is no number.
-#[derive(Drop)]
+#[derive(Clone, Copy)]
 pub enum Held {
     Nothing,
     Figure(i64),

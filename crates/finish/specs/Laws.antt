@@ -7,7 +7,7 @@ use Rattle.hill.specs.Finish.{outcome}
 use Rattle.figure.specs.FourModes.{store_held}
 use Rattle.summary.specs.Judge.{mode_at, start_at, end_at, middle_at}
 use Rattle.summary.specs.Decide.{is_summary}
-use Rattle.summary.specs.FinishBytes.{finish-blank, finish-spoilt, finish-hill}
+use Rattle.summary.proofs.FinishBytes.{finish-blank, finish-spoilt, finish-hill}
 use Rattle.summary.specs.Outcomes.{finish_outcome}
 use Rattle.judge.specs.Laws.{Judges, blank-is, spoilt-is, hill-is, held_back}
 use Rattle.judge.specs.declared.SpoiltHead.{SpoiltHead}

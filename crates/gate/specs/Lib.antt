@@ -1,5 +1,4 @@
 -- What a call comes to, and what its answer says; laws of that, and the two promises of a call that writes.
 pub mod Outcome
 pub mod Answers
-pub mod Laws
 pub mod Promises

@@ -1,50 +1,10 @@
 -- The two promises of a call that writes bytes: its answer and its buffer are those of what it comes to. Assumes nothing.
-use Rattle.std.specs.Prelude.{◌≡◌, refl, List, ◌++◌, ℕ, ◌≤◌, ◌<◌, length, drop}
-use Rattle.std.proofs.Common.{ap, ◌∙◌, zero-add, arith}
-use Rattle.std.proofs.lemmas.List.Edits.{sets, sets-eq}
-use Rattle.gate.specs.Outcome.{Outcome, refused, granted, written, buffer_after}
+use Rattle.std.specs.Prelude.{◌≡◌, List, ℕ}
+use Rattle.gate.specs.Outcome.{Outcome, buffer_after}
 use Rattle.gate.specs.Answers.{written_answer, length_answered}
-use Rattle.gate.specs.Laws.{fits, too_short}
 use Rattle.gate.specs.declared.Written.{Written}
-use Rattle.gate.specs.declared.Written.TheVariants.{Bytes, Refused}
 
 -- The answer and the buffer are those of the outcome o.
 pub record Answers (o : Outcome (List ℕ)) (before after : List ℕ) (r : Written) : Type 0 where
   pub answered : written_answer r ≡ length_answered o
   pub buffer : after ≡ buffer_after o before
-
--- The same as the two equations of a contract, of an answer in the paper's numbers.
-abbrev pub Promised : Outcome (List ℕ) → Outcome ℕ → (before after : List ℕ) → Type 0
-Promised o a before after = (a ≡ length_answered o) × (after ≡ buffer_after o before)
-
--- ---- where the call is refused before it writes, and where it is not
-
-pub refuses : {o : Outcome (List ℕ)} {n : ℕ} (b : List ℕ) → o ≡ refused n → Promised o (refused n) b b
-refuses b e = rw e (refl, refl)
-
-pub comes-to : {o p : Outcome (List ℕ)} {r : Written} {before after : List ℕ} → o ≡ p → Answers p before after r → Promised o (written_answer r) before after
-comes-to e s = rw e (s.answered, s.buffer)
-
--- ---- by the length of what is to be written
-
--- bytes stored from the buffer's start on
-pub stored-first : (w before after : List ℕ) → length w ≤ length before → after ≡ sets before 0 w → after ≡ buffer_after (granted w) before
-stored-first w before after h e = e ∙ sets-eq w before 0 (omega arith) ∙ ap (λ (k : ℕ). w ++ drop k before) (zero-add (length w))
-
-module _ (w before : List ℕ) where
-  pub answer-fits : {after : List ℕ} {n : ℕ} → length w ≤ length before → n ≡ length w → after ≡ buffer_after (granted w) before → Answers (written (length before) w) before after (Bytes n)
-  answer-fits h e b = rw (fits (length before) w h) record { answered = ap granted e; buffer = b }
-
-  pub answer-short : length before < length w → Answers (written (length before) w) before before (Refused 12)
-  answer-short h = rw (too_short (length before) w h) record { answered = refl; buffer = refl }
-
-  -- all of them stored, n being their number, or none
-  pub bytes-stored : {after : List ℕ} {n : ℕ} → n ≡ length w → n ≤ length before → after ≡ sets before 0 w → Answers (written (length before) w) before after (Bytes n)
-  bytes-stored {after} e h s = answer-fits (omega arith) e (stored-first w before after (omega arith) s)
-
-  pub bytes-too-long : {n : ℕ} → n ≡ length w → length before < n → Answers (written (length before) w) before before (Refused 12)
-  bytes-too-long e h = answer-short (omega arith)
-
--- other bytes that are the same
-pub answer-same : {w v before after : List ℕ} {r : Written} → w ≡ v → Answers (written (length before) w) before after r → Answers (written (length before) v) before after r
-answer-same e a = rw e at a

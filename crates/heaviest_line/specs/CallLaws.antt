@@ -7,7 +7,7 @@ use Rattle.hill.specs.Log.{Record}
 use Rattle.chunk.specs.Chunk.{IsWellFormed}
 use Rattle.log_records.specs.Numbers.{number_at}
 use Rattle.log_records.specs.Line.{line_places, line_numbers, number_bytes}
-use Rattle.log_records.specs.CallLaws.{bytes-length}
+use Rattle.log_records.proofs.CallLaws.{bytes-length}
 use Rattle.heaviest_line.specs.Search.{IsEnd}
 use Rattle.heaviest_line.specs.Promised.{LineFits}
 

@@ -15,15 +15,16 @@ use Rattle.figure.specs.FourModes.{Amounts}
 use Rattle.hill.specs.Log.{Record, opening, closing, depth as depth_of, start_level, opens}
 use Rattle.hill.specs.Closing.{at}
 use Rattle.chunk.specs.Chunk.{record_of, IsWellFormed}
-use Rattle.chunk.specs.Laws.{is_open_lem, is-close, one-log}
+use Rattle.chunk.proofs.Laws.{is_open_lem, is-close, one-log}
 use Rattle.whole_log.specs.Second as second
 use Rattle.whole_log.specs.Second.{Second}
 use Rattle.log_records.specs.Numbers.{number_at}
-use Rattle.log_records.specs.NumberLaws.{number-next, number-before, number-mono, number-most}
+use Rattle.log_records.proofs.NumberLaws.{number-next, number-before, number-mono, number-most}
 use Rattle.log_records.specs.Line.{line_places, line_numbers, number_bytes}
-use Rattle.log_records.specs.CallLaws.{bytes-length}
+use Rattle.log_records.proofs.CallLaws.{bytes-length}
 use Rattle.log_records.specs.Formed.{Formed}
-use Rattle.log_records.specs.StackLaws.{unwind, unwind-append, OpenStack, stack-start, open-level, stack-open, Left, stack-close}
+use Rattle.log_records.specs.StackLaws.{unwind, OpenStack}
+use Rattle.log_records.proofs.StackLaws.{unwind-append, stack-start, open-level, stack-open, Left, stack-close}
 use Rattle.heaviest_line.specs.Search.{IsEnd}
 use Rattle.heaviest_line.specs.Promised.{LineFits}
 use Rattle.heaviest_line.specs.Numbering.{Begins, Numbering}

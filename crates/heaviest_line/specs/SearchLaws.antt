@@ -7,23 +7,25 @@ use Rattle.std.specs.Int.Signed.{lt_z, ≤ℤ_refl}
 use Rattle.gate.specs.Outcome.{granted}
 use Rattle.number.specs.IntegerLaws.{zed, add-law, abs-law, abs-+}
 use Rattle.record.specs.Record.{read_of}
-use Rattle.record.specs.Laws.{sound, within-size}
-use Rattle.record.specs.RangeLaws.{range-parts}
+use Rattle.record.proofs.Laws.{sound, within-size}
+use Rattle.record.proofs.RangeLaws.{range-parts}
 use Rattle.record.specs.declared.Fields.{Fields}
 use Rattle.figure.specs.FourModes.{Amounts, limit, nothing}
 use Rattle.hill.specs.Log.{Record, opening, closing, depth, start_level, end_level, opens}
 use Rattle.hill.specs.Closing.{at, OpensAt}
-use Rattle.hill.specs.HeldPlaces.{opening-closing}
+use Rattle.hill.proofs.HeldPlaces.{opening-closing}
 use Rattle.chunk.specs.Chunk.{record_of, IsWellFormed}
-use Rattle.chunk.specs.Laws.{is_open_lem, is-close, one-log}
+use Rattle.chunk.proofs.Laws.{is_open_lem, is-close, one-log}
 use Rattle.whole_log.specs.Second as second
 use Rattle.whole_log.specs.Second.{Second}
 use Rattle.log_records.specs.Numbers.{number_at}
-use Rattle.log_records.specs.NumberLaws.{number-next, number-most}
+use Rattle.log_records.proofs.NumberLaws.{number-next, number-most}
 use Rattle.log_records.specs.Line.{line_places}
 use Rattle.log_records.specs.Claims.{value_of, record_value, sum_of}
-use Rattle.log_records.specs.Formed.{Formed, formed}
-use Rattle.log_records.specs.StackLaws.{unwind, unwind-length, OpenStack, stack-start, open-level, stack-open, Left, stack-close, Leaf, Lighter, end-leaf, stack-line, first-heaviest}
+use Rattle.log_records.specs.Formed.{Formed}
+use Rattle.log_records.proofs.Formed.{formed}
+use Rattle.log_records.specs.StackLaws.{unwind, OpenStack, Leaf, Lighter}
+use Rattle.log_records.proofs.StackLaws.{unwind-length, stack-start, open-level, stack-open, Left, stack-close, end-leaf, stack-line, first-heaviest}
 use Rattle.heaviest_line.specs.declared.ends.Search.{Search}
 use Rattle.heaviest_line.specs.Search.{Sums, LastOpens, NoEnd, SomeEnd, Searched, IsEnd}
 use Rattle.heaviest_line.specs.Promised.{CanNote, after_open, after_close}

@@ -2,22 +2,10 @@
 -- What is proved of it: PlanOfLog, for logs; PlanExact and Gate, for every row.
 pub mod Plan
 pub mod ByRecords
-pub mod Examples
-pub mod PlanOfLog
 -- a scan with a running minimum, which a loop computes, gives the plan; so the plan has a line for each join and no other, in order
 pub mod Scan
 pub mod Joins
-pub mod ScanExact
-pub mod RowLevels
-pub mod PlanFacts
-pub mod PlanExact
 -- at most 2 P - 3 lines, for every row that the gate lets through; the levels folded, from the levels of a row
-pub mod PlanBound
 pub mod Gate
-pub mod Folded
+
 -- logs: the levels of records and chunks, the joins by records, the plan, what it folds, its last line
-pub mod LogLevels
-pub mod LogJoins
-pub mod LogPlan
-pub mod LogFolded
-pub mod LogEnds

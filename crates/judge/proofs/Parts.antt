@@ -11,7 +11,7 @@ use Rattle.gate.specs.Outcome.{refused, granted}
 use Rattle.figure.specs.Mode.{mode_in_use}
 use Rattle.summary.specs.Judge.{length_at, kind_at, mode_at, start_at, peak_at, end_at, opened_at}
 use Rattle.summary.specs.Decide.{layout_fits, levels_fit, opened_fits, middle_fits, records_fit, values_fit, hill_fits, is_summary}
-use Rattle.summary.specs.Tests.{tells-and, tells-le, tells-eq, tells-true}
+use Rattle.summary.proofs.Tests.{tells-and, tells-le, tells-eq, tells-true}
 use Rattle.judge.specs.Judged.{head_at, judged_of}
 use Rattle.judge.specs.Laid.{hill_length, is_spoilt_test, is_hill_test, Levels, Laid, Few}
 use Rattle.judge.specs.Laws.{judged-yes, judged-no}

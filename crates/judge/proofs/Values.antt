@@ -16,7 +16,7 @@ use Rattle.figure.specs.Mode.{stores_nothing, mode_of}
 use Rattle.figure.specs.Stored.{size_of, none, none_is, size_is}
 use Rattle.summary.specs.Judge.{mode_at, rise_at, fall_at, opened_at, left_at, middle_at, held_at, sum_to, nothing_in, counted}
 use Rattle.summary.specs.Decide.{all_to, values_fit}
-use Rattle.summary.specs.ModeValues.{size-held}
+use Rattle.summary.proofs.ModeValues.{size-held}
 use Rattle.judge.specs.Laid.{stamps_fit, sizes_fit, value_in}
 use Rattle.judge.proofs.Loops.{all_same, sum_same, capped_same}
 

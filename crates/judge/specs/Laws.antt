@@ -9,7 +9,7 @@ use Rattle.figure.specs.StoreLaws.{held-stored}
 use Rattle.figure.specs.declared.Held.TheVariants.{Figure}
 use Rattle.summary.specs.Judge.{kind_at, mode_at, HasLayout, IsSpoilt, IsHill, IsSummary, is_blank, is_spoilt, is_hill}
 use Rattle.summary.specs.Decide.{layout_fits, is_summary}
-use Rattle.summary.specs.DecideLaws.{decide-summary}
+use Rattle.summary.proofs.DecideLaws.{decide-summary}
 use Rattle.judge.specs.Judged.{judged_answer, held_in, spoilt_head_at, hill_head_at, head_at, piece_at, judged_of}
 use Rattle.judge.specs.Laid.{is_spoilt_test, is_hill_test, Laid}
 use Rattle.judge.specs.declared.SpoiltHead.{SpoiltHead}

@@ -9,8 +9,8 @@ use Rattle.row.specs.Laws.{first-within, pieces-nil, pieces-next}
 use Rattle.summary.specs.Judge.{mode_at}
 use Rattle.summary.specs.Decide.{is_summary}
 use Rattle.outcome.specs.Outcomes.{all_summaries, all_of, first_mode, mode_of_all, Summaries, merged_bytes, merge_row_outcome}
-use Rattle.outcome.specs.Laws.{mode-5, mode-6, mode-all, ask-4, ask-mode, two_to_64, too_many, too_few}
-use Rattle.outcome.specs.Through.{mode-in}
+use Rattle.outcome.proofs.Laws.{mode-5, mode-6, mode-all, ask-4, ask-mode, two_to_64, too_many, too_few}
+use Rattle.outcome.proofs.Through.{mode-in}
 use Rattle.merge_row.specs.RowAsks.{Row, row_summary, row_merged, Passed}
 
 -- ---- 5, 6, piece by piece

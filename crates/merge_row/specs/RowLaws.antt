@@ -12,13 +12,15 @@ use Rattle.figure.specs.Mode.{mode_of, mode_in_use}
 use Rattle.hill.specs.Summary.{Summary, blank}
 use Rattle.hill.specs.Merge.{merge_summary}
 use Rattle.hill.specs.Row.{halves, merge_row}
-use Rattle.hill.specs.RowLaws.{in_order, halves-in_order, merge_row-in_order, map-take, map-drop}
-use Rattle.hill.specs.SummaryLaws.{merge-blank, merge_summary-assoc}
-use Rattle.hill.specs.ValidLaws.{valid-merge_summary}
+use Rattle.hill.proofs.RowLaws.{in_order, halves-in_order, merge_row-in_order, map-take, map-drop}
+use Rattle.hill.proofs.SummaryLaws.{merge-blank, merge_summary-assoc}
+use Rattle.hill.proofs.ValidLaws.{valid-merge_summary}
 use Rattle.summary.specs.Layout.{SummaryIn, encode}
 use Rattle.summary.specs.Decode.{decode}
-use Rattle.summary.specs.Accepted.{Accepted, IsSummaryIn, encoded, decode-encode, decoded, encode-fits}
-use Rattle.outcome.specs.Laws.{AllIn, all_in_use, pieces-all}
+use Rattle.summary.specs.Accepted.{Accepted, IsSummaryIn}
+use Rattle.summary.proofs.Accepted.{encoded, decode-encode, decoded, encode-fits}
+use Rattle.outcome.specs.Laws.{AllIn}
+use Rattle.outcome.proofs.Laws.{all_in_use, pieces-all}
 use Rattle.merge_row.specs.RowAsks.{row_summary, Row, Room}
 
 -- ---- half with half

@@ -9,23 +9,26 @@ use Rattle.figure.specs.declared.Held.{Held}
 use Rattle.judge.specs.declared.Head.TheVariants.{Blank, Spoilt, Hill}
 use Rattle.judge.specs.Judged.{held_in}
 use Rattle.hill.specs.Verdict.{Verdict, pass, refuse, low, joint, count}
-use Rattle.hill.specs.VerdictLaws.{low-fst, low-snd, joint-pass, refuse-pass}
+use Rattle.hill.proofs.VerdictLaws.{low-fst, low-snd, joint-pass, refuse-pass}
 use Rattle.hill.specs.Summary.{Hill as HillOf, Part, blank, part, spoilt, whole, rise, fall, start, end, opened, verdict, peak, slopes}
-use Rattle.hill.specs.Building.{merge, merge-empty, empty-merge}
+use Rattle.hill.specs.Building.{merge}
+use Rattle.hill.proofs.Building.{merge-empty, empty-merge}
 use Rattle.hill.specs.Merge.{merge_summary}
-use Rattle.hill.specs.MergeLaws.{merge_hills-merge}
-use Rattle.hill.specs.SummaryLaws.{merge-blank, verdict-merge}
-use Rattle.hill.specs.ValidLaws.{valid-merge_summary, hill-weight}
+use Rattle.hill.proofs.MergeLaws.{merge_hills-merge}
+use Rattle.hill.proofs.SummaryLaws.{merge-blank, verdict-merge}
+use Rattle.hill.proofs.ValidLaws.{valid-merge_summary, hill-weight}
 use Rattle.summary.specs.Judge.{peak_at, opened_at, rise_at, fall_at, IsHill, IsSummary, is_blank, is_spoilt, is_hill}
 use Rattle.summary.specs.Layout.{SummaryIn}
 use Rattle.summary.specs.Decode.{decode, hill_in}
-use Rattle.summary.specs.Values.{lefts-length}
-use Rattle.summary.specs.Accepted.{Accepted, IsSummaryIn, decoded}
+use Rattle.summary.proofs.Values.{lefts-length}
+use Rattle.summary.specs.Accepted.{Accepted, IsSummaryIn}
+use Rattle.summary.proofs.Accepted.{decoded}
 use Rattle.slopes.specs.declared.Counts.{Counts}
 use Rattle.slopes.specs.Arrays.{Arrays, arrays, Fig, slopes_of as hill_of, weight_of, Fine, Arrays64, StandsFor}
 use Rattle.slopes.specs.Laws.{counts, able, restate, rise-is, fall-is, emptied, unit-bound}
 use Rattle.codec.specs.Promised.{Loads}
-use Rattle.join_plan.specs.Gate.{summary_fault, fault-parts}
+use Rattle.join_plan.specs.Gate.{summary_fault}
+use Rattle.join_plan.proofs.Gate.{fault-parts}
 use Rattle.plan_work.specs.Runs.{slopes_of}
 use Rattle.fault.specs.Fault.{no_fault, verdict_of}
 use Rattle.fault.specs.Laws.{found, clear-is}

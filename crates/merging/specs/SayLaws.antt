@@ -5,14 +5,14 @@ use Rattle.algebra.specs.Algebra.{Algebra}
 use Rattle.figure.specs.FourModes.{Amounts}
 use Rattle.figure.specs.Mode.{mode_of}
 use Rattle.hill.specs.Verdict.{pass, refuse, low, joint, count, cut}
-use Rattle.hill.specs.VerdictLaws.{low-fst, low-snd}
+use Rattle.hill.proofs.VerdictLaws.{low-fst, low-snd}
 use Rattle.hill.specs.Summary.{Part, blank, part, spoilt, whole, start, end, opened, verdict, peak}
 use Rattle.hill.specs.Merge.{merge_verdict, merge_part, merge_summary}
-use Rattle.hill.specs.SummaryLaws.{verdict-merge, start-merge, end-merge, opened-merge}
+use Rattle.hill.proofs.SummaryLaws.{verdict-merge, start-merge, end-merge, opened-merge}
 use Rattle.summary.specs.Judge.{kind_at, fault_at, spoilt_start_at, peak_at, end_at, opened_at, rise_at, fall_at, IsSummary}
 use Rattle.summary.specs.Layout.{SummaryIn}
 use Rattle.summary.specs.Decode.{decode, hill_in}
-use Rattle.summary.specs.Values.{lefts-length, rights-length, reading-blank, reading-spoilt, reading-hill}
+use Rattle.summary.proofs.Values.{lefts-length, rights-length, reading-blank, reading-spoilt, reading-hill}
 use Rattle.judge.specs.declared.SpoiltHead.{SpoiltHead}
 use Rattle.judge.specs.declared.HillHead.{HillHead}
 use Rattle.judge.specs.declared.Head.TheVariants.{Blank, Spoilt, Hill}

@@ -5,8 +5,4 @@ pub mod Outcomes
 pub mod Day
 pub mod Line
 pub mod Answers
-pub mod Examples
 pub mod Laws
-pub mod RunLaws
-pub mod Through
-pub mod RunsWritten

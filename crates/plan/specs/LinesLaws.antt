@@ -6,7 +6,7 @@ use Rattle.number.specs.Bytes.{bytes_of, put_at}
 use Rattle.number.specs.Laws.{sets-append}
 use Rattle.join_plan.specs.Plan.{Line}
 use Rattle.outcome.specs.Outcomes.{line_bytes, lines_bytes}
-use Rattle.outcome.specs.Through.{lines-length}
+use Rattle.outcome.proofs.Through.{lines-length}
 use Rattle.row_plan.specs.Arrays.{line, line_in, lines_in}
 use Rattle.row_plan.specs.ScanLaws.{length-lines}
 use Rattle.row_plan.specs.WroteLaws.{put_next}

@@ -7,7 +7,7 @@ use Rattle.gate.specs.Answers.{length_answered}
 use Rattle.join_plan.specs.Plan.{Line}
 use Rattle.join_plan.specs.Scan.{plan}
 use Rattle.outcome.specs.Outcomes.{lines_bytes, plan_bytes, plan_outcome}
-use Rattle.outcome.specs.Through.{lines-length}
+use Rattle.outcome.proofs.Through.{lines-length}
 use Rattle.row_plan.specs.Arrays.{levels_in, lines_in, Kept}
 use Rattle.row_gate.specs.Asks.{ask_all, Through}
 use Rattle.row_plan.specs.RowLaws.{plan-is}

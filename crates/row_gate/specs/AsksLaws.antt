@@ -9,8 +9,9 @@ use Rattle.hill.specs.Finish.{outcome}
 use Rattle.summary.specs.Decode.{decode}
 use Rattle.plan_work.specs.Gate.{row_fault}
 use Rattle.outcome.specs.Outcomes.{two_to64, mode_of_all, Summaries, ask_row, ask_log}
-use Rattle.outcome.specs.Laws.{ask-4, ask-mode, two_to_64, too_few, too_many, AllIn, all-summaries}
-use Rattle.outcome.specs.Through.{mode-in}
+use Rattle.outcome.specs.Laws.{AllIn}
+use Rattle.outcome.proofs.Laws.{ask-4, ask-mode, two_to_64, too_few, too_many, all-summaries}
+use Rattle.outcome.proofs.Through.{mode-in}
 use Rattle.fault.specs.Fault.{no_fault, verdict_of}
 use Rattle.fault.specs.Laws.{clear, found}
 use Rattle.row_gate.specs.Told.{tolds_from, told_fault}

@@ -13,7 +13,7 @@ use Rattle.judge.specs.declared.Piece.{Piece}
 use Rattle.judge.specs.Judged.{head_at}
 use Rattle.judge.specs.Laws.{head-blank, head-spoilt, head-hill, Judges}
 use Rattle.outcome.specs.Outcomes.{all_summaries, all_of, first_mode, mode_of_all}
-use Rattle.outcome.specs.Laws.{mode-5, mode-6, mode-all}
+use Rattle.outcome.proofs.Laws.{mode-5, mode-6, mode-all}
 use Rattle.row_gate.specs.declared.pieces.Note.{Note}
 use Rattle.row_gate.specs.Notes.{Fits, note_of, note_in, Stored, Whole, NotedAll}
 

@@ -7,7 +7,7 @@ use Rattle.hill.specs.Verdict.{pass, refuse}
 use Rattle.hill.specs.Summary.{blank}
 use Rattle.summary.specs.Judge.{IsSummary, is_blank, is_spoilt, is_hill, rise_at, fall_at, start_at, peak_at, end_at, opened_at, fault_at}
 use Rattle.summary.specs.Decode.{decode}
-use Rattle.summary.specs.Values.{lefts-length, rights-length, reading-blank, reading-spoilt, reading-hill}
+use Rattle.summary.proofs.Values.{lefts-length, rights-length, reading-blank, reading-spoilt, reading-hill}
 use Rattle.summary.specs.Layout.{SummaryIn}
 use Rattle.judge.specs.Judged.{head_at}
 use Rattle.judge.specs.Laws.{head-blank, head-spoilt, head-hill}

@@ -3,7 +3,7 @@ use Rattle.std.specs.Prelude.{◌≡◌, refl, Bool, true, false, cond, List, []
 use Rattle.std.proofs.Common.{sym, ap₂, ◌∙◌, add_assoc, add-zero, add-one, arith, ne_eqb}
 use Rattle.std.proofs.Math.Path.{ap}
 use Rattle.hill.specs.Verdict.{Verdict, low, joint, count, ends}
-use Rattle.hill.specs.VerdictLaws.{low-assoc, low-left}
+use Rattle.hill.proofs.VerdictLaws.{low-assoc, low-left}
 use Rattle.fault.specs.Fault.{no_fault, verdict_of}
 use Rattle.hill.specs.Summary.{Summary, Part, blank, part, verdict, start, end, opened}
 use Rattle.plan_work.specs.Gate.{parts_of, spoilt_fault, join_fault, total_opened, last_end, row_fault}

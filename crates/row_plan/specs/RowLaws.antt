@@ -8,15 +8,15 @@ use Rattle.figure.specs.Mode.{mode_of}
 use Rattle.hill.specs.Summary.{blank}
 use Rattle.summary.specs.Judge.{IsSummary, is_blank, is_spoilt, is_hill, rise_at, fall_at, start_at, peak_at, end_at}
 use Rattle.summary.specs.Decode.{decode}
-use Rattle.summary.specs.Values.{lefts-length, rights-length, reading-blank, reading-spoilt, reading-hill}
+use Rattle.summary.proofs.Values.{lefts-length, rights-length, reading-blank, reading-spoilt, reading-hill}
 use Rattle.summary.specs.Layout.{SummaryIn}
 use Rattle.judge.specs.Judged.{head_at}
 use Rattle.judge.specs.Laws.{head-blank, head-spoilt, head-hill}
 use Rattle.join_plan.specs.Plan.{Levels, blank as noLevels, hill as levels, levels_of_summary, plan_of_row}
 use Rattle.join_plan.specs.Scan.{line_of, passed, walk, lines_to, plan}
-use Rattle.plan_work.specs.RowLevels.{plan-row}
+use Rattle.plan_work.proofs.RowLevels.{plan-row}
 use Rattle.outcome.specs.Laws.{AllIn}
-use Rattle.outcome.specs.Through.{few-lines}
+use Rattle.outcome.proofs.Through.{few-lines}
 use Rattle.row.specs.Row.{row_pieces}
 use Rattle.row_plan.specs.Arrays.{levels_from, levels_in}
 use Rattle.row_gate.specs.Notes.{note_of, AllNoted}

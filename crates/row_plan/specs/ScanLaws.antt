@@ -10,7 +10,7 @@ use Rattle.std.proofs.lemmas.Bool.{lt-leb}
 use Rattle.std.proofs.Math.ListN.{length-set}
 use Rattle.join_plan.specs.Plan.{Levels, Line}
 use Rattle.join_plan.specs.Scan.{line_if, line_of, passed, walk, lines_to, plan}
-use Rattle.join_plan.specs.PlanFacts.{walk-stop}
+use Rattle.join_plan.proofs.PlanFacts.{walk-stop}
 use Rattle.row_gate.specs.Notes.{Noted}
 use Rattle.row_plan.specs.Arrays.{levels_from, levels_in, line, line_in, lines_in, Sized, Kept, line_within, lines_to_in}
 

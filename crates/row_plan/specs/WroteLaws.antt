@@ -4,7 +4,7 @@ use Rattle.std.proofs.Common.{sym, ap, ◌∙◌, arith}
 use Rattle.std.proofs.lemmas.List.Edits.{sets, sets-eq}
 use Rattle.gate.specs.Outcome.{Outcome, refused, granted, written, buffer_after}
 use Rattle.gate.specs.Answers.{length_answered}
-use Rattle.gate.specs.Laws.{fits, too_short as shorter}
+use Rattle.gate.proofs.Laws.{fits, too_short as shorter}
 use Rattle.number.specs.Bytes.{bytes_of, put_at}
 use Rattle.number.specs.Laws.{sets-append, length-bytes_of}
 use Rattle.row_plan.specs.Wrote.{Wrote}

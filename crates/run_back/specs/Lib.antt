@@ -4,14 +4,8 @@ pub mod Decide
 pub mod Inverse
 pub mod Backwards
 pub mod Claims
+
 -- The test tells which bytes are a run.
-pub mod DecideLaws
 -- What a run does is what figure/Run says.
-pub mod ForwardLaws
 -- The way back leads to y, and nothing else does.
-pub mod InverseLaws
-pub mod WayLaws
-pub mod CallLaws
 -- Each run that is written is accepted.
-pub mod WrittenLaws
-pub mod Examples

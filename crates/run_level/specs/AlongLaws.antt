@@ -15,13 +15,13 @@ use Rattle.summary.specs.Decode.{decode}
 use Rattle.join_plan.specs.Plan.{Line, plan_of_row}
 use Rattle.join_plan.specs.Scan.{plan}
 use Rattle.plan_work.specs.Runs.{peak_of_summary, slopes_of, levels_down, summary_at, run_levels}
-use Rattle.plan_work.specs.WorkLaws.{levels-next}
-use Rattle.plan_work.specs.RunsExact.{line-spans}
-use Rattle.plan_work.specs.WorkSizes.{levels-light, load_fits}
+use Rattle.plan_work.proofs.WorkLaws.{levels-next}
+use Rattle.plan_work.proofs.RunsExact.{line-spans}
+use Rattle.plan_work.proofs.WorkSizes.{levels-light, load_fits}
 use Rattle.row_plan.specs.Arrays.{levels_in, line_in, lines_in, Kept}
 use Rattle.row_plan.specs.RowLaws.{plan-is, plan-room}
 use Rattle.row_plan.specs.ScanLaws.{kept-count}
-use Rattle.outcome.specs.Through.{valid-row}
+use Rattle.outcome.proofs.Through.{valid-row}
 use Rattle.row_gate.specs.RowLaws.{decoded-at}
 use Rattle.run_level.specs.declared.Place.{Place}
 use Rattle.run_level.specs.Levels.{piece_of, Begun, place_in, Reads, level_at, level_for}

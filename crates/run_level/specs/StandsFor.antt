@@ -16,12 +16,12 @@ use Rattle.hill.specs.Summary.{blank}
 use Rattle.summary.specs.Layout.{SummaryIn}
 use Rattle.summary.specs.Judge.{mode_at, start_at, peak_at, rise_at, fall_at, left_at, held_at, IsHill, IsSummary, is_blank, is_spoilt, is_hill}
 use Rattle.summary.specs.Decode.{decode, amounts_at, lefts_in, rights_in}
-use Rattle.summary.specs.Values.{lefts-length, rights-length, tells-range, reading-blank, reading-spoilt, reading-hill}
-use Rattle.summary.specs.ModeValues.{numbered}
-use Rattle.summary.specs.Hills.{AllStored, hill-stored}
+use Rattle.summary.proofs.Values.{lefts-length, rights-length, tells-range, reading-blank, reading-spoilt, reading-hill}
+use Rattle.summary.proofs.ModeValues.{numbered}
+use Rattle.summary.proofs.Hills.{AllStored, hill-stored}
 use Rattle.join_plan.specs.Plan.{Levels, Line, levels_of_summary, plan_of_row, row_of}
 use Rattle.join_plan.specs.Joins.{Opens, Closes as ClosesDepth}
-use Rattle.join_plan.specs.PlanExact.{plan_of-exact, plan_of-range}
+use Rattle.join_plan.proofs.PlanExact.{plan_of-exact, plan_of-range}
 use Rattle.plan_work.specs.Runs.{peak_of_summary, slopes_of, open_from, left_value_at, level_of}
 use Rattle.outcome.specs.Laws.{AllIn}
 use Rattle.row_gate.specs.RowLaws.{each_in, decoded-at}

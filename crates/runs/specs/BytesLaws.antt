@@ -9,7 +9,7 @@ use Rattle.figure.specs.Mode.{mode_of}
 use Rattle.figure.specs.declared.Run.{Run}
 use Rattle.summary.specs.Layout.{i64_bytes}
 use Rattle.outcome.specs.Outcomes.{has_fourth, run_length, run_front, run_bytes, each_run}
-use Rattle.outcome.specs.RunLaws.{length_most, length_front}
+use Rattle.outcome.proofs.RunLaws.{length_most, length_front}
 use Rattle.row_plan.specs.WroteLaws.{put_next}
 
 -- the six stores of a run

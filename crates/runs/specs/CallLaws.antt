@@ -12,11 +12,11 @@ use Rattle.summary.specs.Decode.{decode}
 use Rattle.join_plan.specs.Plan.{Line, plan_of_row}
 use Rattle.join_plan.specs.Scan.{plan}
 use Rattle.plan_work.specs.Runs.{runs_of}
-use Rattle.plan_work.specs.RunsExact.{runs-count}
+use Rattle.plan_work.proofs.RunsExact.{runs-count}
 use Rattle.plan_work.specs.Gate.{row_fault}
 use Rattle.outcome.specs.Outcomes.{Summaries, first_mode, ask_row, ask_log, run_length, runs_bytes, runs_outcome}
-use Rattle.outcome.specs.RunLaws.{length_most, length-each}
-use Rattle.outcome.specs.Through.{valid-row, Found, ask-found, lines-125}
+use Rattle.outcome.proofs.RunLaws.{length_most, length-each}
+use Rattle.outcome.proofs.Through.{valid-row, Found, ask-found, lines-125}
 use Rattle.row_plan.specs.Arrays.{levels_in, lines_in, Kept}
 use Rattle.row_plan.specs.RowLaws.{plan-is}
 use Rattle.row_gate.specs.Asks.{ask_all, Through, LetThrough}

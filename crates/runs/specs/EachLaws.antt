@@ -14,7 +14,7 @@ use Rattle.summary.specs.Layout.{SummaryIn}
 use Rattle.join_plan.specs.Plan.{Line}
 use Rattle.plan_work.specs.Runs.{run_of, run_levels, runs_along}
 use Rattle.outcome.specs.Outcomes.{run_length, run_bytes, each_run}
-use Rattle.outcome.specs.RunLaws.{length-each}
+use Rattle.outcome.proofs.RunLaws.{length-each}
 use Rattle.row_plan.specs.Arrays.{line_in, lines_in}
 use Rattle.run_level.specs.declared.Place.{Place}
 use Rattle.run_level.specs.Levels.{place_in}

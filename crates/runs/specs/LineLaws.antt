@@ -7,7 +7,7 @@ use Rattle.figure.specs.Mode.{mode_of}
 use Rattle.figure.specs.Stored.{amounts, level_run, run_after, Levels, Composes}
 use Rattle.figure.specs.declared.Run.{Run}
 use Rattle.plan_work.specs.Runs.{run_of}
-use Rattle.plan_work.specs.WorkLaws.{levels-none}
+use Rattle.plan_work.proofs.WorkLaws.{levels-none}
 use Rattle.run_level.specs.declared.Place.{Place}
 use Rattle.run_level.specs.declared.RunLevel.{RunLevel}
 use Rattle.run_level.specs.Levels.{piece_of, Reads, level_at, level_for}

@@ -5,16 +5,18 @@ use Rattle.std.proofs.Math.Logic.{dite}
 use Rattle.std.proofs.Math.Decide.{dec_lt}
 use Rattle.std.proofs.Math.Seq.{take-length}
 use Rattle.gate.specs.Outcome.{granted, written, buffer_after}
-use Rattle.gate.specs.Promises.{Answers, answer-fits, answer-short}
+use Rattle.gate.specs.Promises.{Answers}
+use Rattle.gate.proofs.Promises.{answer-fits, answer-short}
 use Rattle.gate.specs.declared.Written.TheVariants.{Bytes, Refused}
 use Rattle.figure.specs.FourModes.{Amounts}
 use Rattle.figure.specs.Mode.{mode_in_use}
 use Rattle.hill.specs.Log.{Record, opened_of}
 use Rattle.hill.specs.Row.{joined}
-use Rattle.chunk.specs.Laws.{IsLog, one-log}
+use Rattle.chunk.specs.Laws.{IsLog}
+use Rattle.chunk.proofs.Laws.{one-log}
 use Rattle.whole_log.specs.AskLaws.{Opens}
 use Rattle.day_sheet.specs.Sheet.{sheet_lines, page_text, page_outcome}
-use Rattle.day_sheet.specs.PageLaws.{lines-length, is-page}
+use Rattle.day_sheet.proofs.PageLaws.{lines-length, is-page}
 use Rattle.sheet.specs.Promised.{lines_at, PageFits}
 
 -- 60 lines, or as many as there are

@@ -11,20 +11,20 @@ use Rattle.std.proofs.lemmas.List.Edits.{sets}
 use Rattle.std.proofs.Math.Seq.{length-sets}
 use Rattle.gate.specs.Outcome.{granted, buffer_after}
 use Rattle.record.specs.Record.{read_of}
-use Rattle.record.specs.Laws.{sound}
+use Rattle.record.proofs.Laws.{sound}
 use Rattle.record.specs.declared.Fields.{Fields}
 use Rattle.figure.specs.FourModes.{Amounts, InRange}
 use Rattle.figure.specs.Mode.{mode_of}
 use Rattle.figure.specs.Stored.{none, amounts, passed}
 use Rattle.hill.specs.Log.{Record, opening, closing, opened_of, opens}
 use Rattle.hill.specs.Closing.{at, OpensAt}
-use Rattle.hill.specs.HeldPlaces.{opening-closing, opens-inside}
+use Rattle.hill.proofs.HeldPlaces.{opening-closing, opens-inside}
 use Rattle.hill.specs.Summary.{Hill, rights}
 use Rattle.hill.specs.Building.{step, hill_of}
 use Rattle.hill.specs.Row.{joined}
 use Rattle.chunk.specs.Chunk.{figure_in, IsWellFormed}
-use Rattle.chunk.specs.Laws.{is_open_lem, is-close, one-log}
-use Rattle.summary.specs.Values.{tells-range}
+use Rattle.chunk.proofs.Laws.{is_open_lem, is-close, one-log}
+use Rattle.summary.proofs.Values.{tells-range}
 use Rattle.whole_log.specs.Second as second
 use Rattle.whole_log.specs.Second.{Second}
 use Rattle.slopes.specs.Arrays.{Able, at as number_in, downs}
@@ -32,15 +32,20 @@ use Rattle.slopes.specs.Actions.{Pushed, top_figure, ClosedTop}
 use Rattle.slopes.specs.Laws.{counts, is-top}
 use Rattle.slopes.specs.Rising.{rising, Stands, stands-able, stands-open, stands-close, stands-none, hill-more}
 use Rattle.log_records.specs.Numbers.{number_at, IsRecord}
-use Rattle.log_records.specs.NumberLaws.{counted-from-0, number-most}
-use Rattle.log_records.specs.Formed.{Formed, formed}
-use Rattle.log_records.specs.StackLaws.{OpenStack, open-level, Left, stack-close, stack-end}
-use Rattle.log_records.specs.OpenNumbers.{Numbered, OpenNumbers, numbers-start, numbers-open, numbers-close}
-use Rattle.log_records.specs.CloseFigure.{Carried, carried-open, carried-close, close-figure}
+use Rattle.log_records.proofs.NumberLaws.{counted-from-0, number-most}
+use Rattle.log_records.specs.Formed.{Formed}
+use Rattle.log_records.proofs.Formed.{formed}
+use Rattle.log_records.specs.StackLaws.{OpenStack}
+use Rattle.log_records.proofs.StackLaws.{open-level, Left, stack-close, stack-end}
+use Rattle.log_records.specs.OpenNumbers.{Numbered, OpenNumbers}
+use Rattle.log_records.proofs.OpenNumbers.{numbers-start, numbers-open, numbers-close}
+use Rattle.log_records.specs.CloseFigure.{Carried}
+use Rattle.log_records.proofs.CloseFigure.{carried-open, carried-close, close-figure}
 use Rattle.day_sheet.specs.Sheet.{sheet_line, sheet_lines}
 use Rattle.day_sheet.specs.Claims.{InColumns}
-use Rattle.day_sheet.specs.LineLaws.{line-27}
-use Rattle.day_sheet.specs.PageLaws.{printed, lines-length, line-is, fits}
+use Rattle.day_sheet.proofs.LineLaws.{line-27}
+use Rattle.day_sheet.specs.PageLaws.{printed}
+use Rattle.day_sheet.proofs.PageLaws.{lines-length, line-is, fits}
 use Rattle.sheet.specs.declared.page.Progress.{Progress}
 use Rattle.sheet.specs.Promised.{lines_at, line_put, one_more, Closes, PageFits}
 use Rattle.sheet.specs.Printing.{row, LinesSoFar, Printing, Ready, Noted}

@@ -3,8 +3,9 @@ use Rattle.std.specs.Prelude.{◌≡◌, refl, List, [], ◌∷◌, ◌++◌, �
 use Rattle.std.proofs.Common.{sym, arith}
 use Rattle.hill.specs.Log.{Record, opening, closing, opened_of}
 use Rattle.hill.specs.Summary.{Hill}
-use Rattle.hill.specs.Building.{empty, close, step, hill_of, run-append}
-use Rattle.hill.specs.Growth.{opened-append}
+use Rattle.hill.specs.Building.{empty, close, step, hill_of}
+use Rattle.hill.proofs.Building.{run-append}
+use Rattle.hill.proofs.Growth.{opened-append}
 use Rattle.figure.specs.FourModes.{Amounts, limit, InRange}
 use Rattle.figure.specs.Mode.{Mode, mode_of}
 use Rattle.figure.specs.Stored.{none}

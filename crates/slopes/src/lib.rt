@@ -1,4 +1,6 @@
 // A hill under construction in five arrays and three numbers, in any mode: what summarising, merging, the day's figures and the sheet share.
+#![tactic(auto)]
+
 ghost use Rattle.std.specs.Prelude.{◌≡◌, ℕ, ◌+◌, ◌<◌, ℤ};
 ghost use Rattle.hill.specs.Building.{close as closeHill, step};
 ghost use Rattle.figure.specs.Mode.{mode_of};

@@ -8,8 +8,9 @@ use Rattle.std.specs.Int.{w64}
 use Rattle.record.specs.Record.{chunk_bytes}
 use Rattle.hill.specs.Row.{joined}
 use Rattle.day_list.specs.Days.{days, small_days}
-use Rattle.day_list.specs.WayLaws.{opening_ways, days-are}
-use Rattle.day_list.specs.Counts.{total}
+use Rattle.day_list.specs.WayLaws.{opening_ways}
+use Rattle.day_list.proofs.WayLaws.{days-are}
+use Rattle.day_list.proofs.Counts.{total}
 use Rattle.small_days.specs.Promised.{Small}
 
 module _ (n : ℕ) (some : 1 ≤ n) (few : n ≤ 8) {count : ℕ} (e : count ≡ length (opening_ways n 0)) where

@@ -8,10 +8,11 @@ use Rattle.std.proofs.lemmas.List.Edits.{sets}
 use Rattle.number.specs.Writing as writing
 use Rattle.number.specs.Writing.{Writing, StoredAt}
 use Rattle.record.specs.Record.{short_bytes, close_bytes, close_fields, chunk_bytes}
-use Rattle.record.specs.Encoding.{short-length, close-length}
+use Rattle.record.proofs.Encoding.{short-length, close-length}
 use Rattle.hill.specs.Row.{joined}
 use Rattle.day_list.specs.Days.{open_one, ways, days, small_days}
-use Rattle.day_list.specs.WayLaws.{opening_ways, closing_ways, ways-over, ways-none, ways_on, days-are}
+use Rattle.day_list.specs.WayLaws.{opening_ways}
+use Rattle.day_list.proofs.WayLaws.{closing_ways, ways-over, ways-none, ways_on, days-are}
 use Rattle.small_days.specs.Promised.{Small, DayFits, way_bytes, WayFits}
 
 get_d_map : {A B : Type 0} (f : A → B) (l : List A) (n : ℕ) (a : A) (b : B) → n < length l → get_or (map f l) n b ≡ f (get_or l n a)

@@ -2,11 +2,11 @@
 use Rattle.std.specs.Prelude.{◌≡◌, true, false, not, List, [], ◌∷◌, ℕ, ◌-◌, ◌≤◌, ◌<◌}
 use Rattle.std.proofs.Math.Path.{refl}
 use Rattle.std.proofs.Common.{sym, ap, ◌∙◌, arith}
-use Rattle.hill.specs.VerdictLaws.{low-pass, cut-few, count-few}
+use Rattle.hill.proofs.VerdictLaws.{low-pass, cut-few, count-few}
 use Rattle.hill.specs.Log.{Record, peak_of, opened_of, fault_of}
 use Rattle.hill.specs.Summary.{Hill as HillOf, part, spoilt, judged, part_of, summary_of}
 use Rattle.hill.specs.Building.{hill_of}
-use Rattle.hill.specs.SummaryLaws.{part_of-built}
+use Rattle.hill.proofs.SummaryLaws.{part_of-built}
 use Rattle.figure.specs.FourModes.{Amounts}
 use Rattle.figure.specs.Mode.{Mode, mode_of}
 use Rattle.figure.specs.declared.Held.{Held}

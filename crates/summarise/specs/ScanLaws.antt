@@ -4,19 +4,20 @@ use Rattle.std.proofs.Common.{sym, ap, subst, ◌∙◌, arith}
 use Rattle.std.proofs.lemmas.List.{length-map}
 use Rattle.gate.specs.Outcome.{granted}
 use Rattle.record.specs.Record.{read_of}
-use Rattle.record.specs.Laws.{sound}
-use Rattle.record.specs.Handed as handed
-use Rattle.record.specs.Handed.{Handed}
+use Rattle.record.proofs.Laws.{sound}
+use Rattle.record.proofs.Handed as handed
+use Rattle.record.proofs.Handed.{Handed}
 use Rattle.record.specs.declared.Fields.{Fields}
 use Rattle.hill.specs.Verdict.{pass}
 use Rattle.hill.specs.Log.{Record, opening, closing, depth, start_level, end_of, peak_of, opens, opened_of, joints, fault_of}
 use Rattle.hill.specs.Summary.{Hill, whole, rise, fall, start, end, part_of}
-use Rattle.hill.specs.Building.{empty, step, hill_of, run-append}
-use Rattle.hill.specs.Growth.{opened-append, opened-few}
-use Rattle.hill.specs.VerdictLaws.{count-few}
-use Rattle.hill.specs.SummaryLaws.{part_of-built, levels}
+use Rattle.hill.specs.Building.{empty, step, hill_of}
+use Rattle.hill.proofs.Building.{run-append}
+use Rattle.hill.proofs.Growth.{opened-append, opened-few}
+use Rattle.hill.proofs.VerdictLaws.{count-few}
+use Rattle.hill.proofs.SummaryLaws.{part_of-built, levels}
 use Rattle.hill.specs.Valid.{Readable, AllReadable}
-use Rattle.hill.specs.ValidLaws.{readable-append}
+use Rattle.hill.proofs.ValidLaws.{readable-append}
 use Rattle.figure.specs.FourModes.{Amounts, InRange}
 use Rattle.figure.specs.Mode.{Mode}
 use Rattle.figure.specs.Stored.{amounts, none}
@@ -25,9 +26,9 @@ use Rattle.slopes.specs.declared.Counts.{Counts}
 use Rattle.slopes.specs.Arrays.{Arrays, Fig, Arrays64, StandsFor}
 use Rattle.slopes.specs.Actions.{Room, entry, cost}
 use Rattle.slopes.specs.Laws.{counts, able, restate, rise-is, fall-is, after_more, emptied, unit-bound}
-use Rattle.summary.specs.Values.{tells-range}
+use Rattle.summary.proofs.Values.{tells-range}
 use Rattle.chunk.specs.Chunk.{record_of, chunk_of}
-use Rattle.chunk.specs.Laws.{chunk-append}
+use Rattle.chunk.proofs.Laws.{chunk-append}
 use Rattle.whole_log.specs.declared.Tally.{Tally}
 use Rattle.whole_log.specs.Tallies.{Fresh, Tallied}
 use Rattle.whole_log.specs.TallyLaws.{opened-is, met, faultless, joints-pass}

@@ -5,17 +5,19 @@ use Rattle.std.proofs.Math.Logic.{dite}
 use Rattle.std.proofs.Math.Decide.{dec_lt}
 use Rattle.std.proofs.lemmas.Bool.{lt-leb}
 use Rattle.gate.specs.Outcome.{refused, written}
-use Rattle.record.specs.Laws.{and_left, and_right}
+use Rattle.record.proofs.Laws.{and_left, and_right}
 use Rattle.figure.specs.FourModes.{Amounts}
 use Rattle.hill.specs.Log.{Record, opened_of}
 use Rattle.chunk.specs.Chunk.{whole_log, IsWellFormed}
-use Rattle.chunk.specs.Laws.{IsLog, log_is, one-log}
+use Rattle.chunk.specs.Laws.{IsLog}
+use Rattle.chunk.proofs.Laws.{log_is, one-log}
 use Rattle.whole_log.specs.AskLaws.{Opens}
 use Rattle.day_table.specs.Table.{table_of, log_of, nested}
 use Rattle.day_table.specs.Outcomes.{table_lines, table_bytes, all_could_hold, log_bytes, write_log_outcome, read_table_outcome}
-use Rattle.day_table.specs.TableLaws.{table-opened}
-use Rattle.day_table.specs.LineLaws.{length-lines, length-table}
-use Rattle.day_table.specs.CallLaws.{Taken, unreadable, not-nested, no_line, nested-length}
+use Rattle.day_table.proofs.TableLaws.{table-opened}
+use Rattle.day_table.proofs.LineLaws.{length-lines, length-table}
+use Rattle.day_table.specs.CallLaws.{Taken}
+use Rattle.day_table.proofs.CallLaws.{unreadable, not-nested, no_line, nested-length}
 use Rattle.table.specs.Promised.{first_no, TableFits}
 
 -- ---- questions 3, 13 and 10 by one number

@@ -7,21 +7,21 @@ use Rattle.number.specs.Bytes.{le_at, i32_at}
 use Rattle.number.specs.Writing as writing
 use Rattle.number.specs.Writing.{Writing, StoredAt}
 use Rattle.record.specs.Record.{read_of, records_of, open_bytes, close_bytes}
-use Rattle.record.specs.Encoding.{open-length}
-use Rattle.record.specs.Laws.{and_left, and_right}
-use Rattle.record.specs.RangeLaws.{range-parts}
-use Rattle.record.specs.Readable.{read_is, no_more}
+use Rattle.record.proofs.Encoding.{open-length}
+use Rattle.record.proofs.Laws.{and_left, and_right}
+use Rattle.record.proofs.RangeLaws.{range-parts}
+use Rattle.record.proofs.Readable.{read_is, no_more}
 use Rattle.record.specs.declared.Fields.{Fields}
 use Rattle.figure.specs.FourModes.{Amounts}
 use Rattle.figure.specs.Stored.{amounts}
 use Rattle.hill.specs.Log.{Record, opening, closing, opened_of}
 use Rattle.chunk.specs.Chunk.{record_of, chunk_of, IsWellFormed}
-use Rattle.chunk.specs.Laws.{is_open_lem, is-close}
+use Rattle.chunk.proofs.Laws.{is_open_lem, is-close}
 use Rattle.day_table.specs.Table.{TableLine, table_line, table_of, closes_to, log_from, log_of, nested_after, nested}
 use Rattle.day_table.specs.Outcomes.{table_line_in, table_line_bytes, table_bytes, table_lines, could_hold, all_could_hold, log_bytes}
-use Rattle.day_table.specs.TableLaws.{closes-none, closes-one, table-opened}
-use Rattle.day_table.specs.LineLaws.{lines_none, lines_next, length-line, length-table}
-use Rattle.day_table.specs.LogLaws.{log-append}
+use Rattle.day_table.proofs.TableLaws.{closes-none, closes-one, table-opened}
+use Rattle.day_table.proofs.LineLaws.{lines_none, lines_next, length-line, length-table}
+use Rattle.day_table.proofs.LogLaws.{log-append}
 
 -- ---- the lines of a table, of which the bytes b are left
 

@@ -1,2 +1,4 @@
 pub mod Loops
 pub mod Magnitude
+pub mod DecimalLaws
+pub mod ColumnLaws

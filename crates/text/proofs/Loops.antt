@@ -10,7 +10,7 @@ use lib.Seq.{sets, set_comm}
 use Rattle.number.specs.Laws.{sets-append}
 use Rattle.text.specs.Decimal.{digits_of}
 use Rattle.text.specs.Columns.{blanks}
-use Rattle.text.specs.DecimalLaws.{digits-one, digits_more, digits-some}
+use Rattle.text.proofs.DecimalLaws.{digits-one, digits_more, digits-some}
 
 one-digit : (n : ℕ) → n < 10 → length (digits_of n) ≡ 1
 one-digit n h = ap length (digits-one n h)

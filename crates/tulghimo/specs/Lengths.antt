@@ -6,37 +6,38 @@ use Rattle.std.proofs.Math.Decide.{dec_lt}
 use Rattle.gate.specs.Outcome.{Outcome, refused, granted, question, onward, written}
 use Rattle.gate.specs.Answers.{length_answered}
 use Rattle.record.specs.Record.{records_of}
-use Rattle.record.specs.Laws.{and_right}
+use Rattle.record.proofs.Laws.{and_right}
 use Rattle.record.specs.declared.Fields.{Fields}
 use Rattle.figure.specs.Mode.{mode_of, mode_in_use}
 use Rattle.hill.specs.Summary.{summary_of}
 use Rattle.summary.specs.Judge.{mode_at}
 use Rattle.summary.specs.Decide.{is_summary}
-use Rattle.summary.specs.DecideLaws.{decide-summary}
-use Rattle.summary.specs.Accepted.{IsSummaryIn, summary-length, encode-fits, chunk-accepted}
+use Rattle.summary.proofs.DecideLaws.{decide-summary}
+use Rattle.summary.specs.Accepted.{IsSummaryIn}
+use Rattle.summary.proofs.Accepted.{summary-length, encode-fits, chunk-accepted}
 use Rattle.summary.specs.Outcomes.{summary_bytes, merge_bytes, summarise_outcome, merge_outcome}
 use Rattle.figure.specs.FourModes.{Amounts}
 use Rattle.hill.specs.Log.{Record}
 use Rattle.hill.specs.Row.{joined}
 use Rattle.chunk.specs.Chunk.{chunk_of, whole_log}
-use Rattle.summary.specs.MergeBytes.{merge-accepted}
-use Rattle.summary.specs.OutcomeLaws.{chunk-readable}
+use Rattle.summary.proofs.MergeBytes.{merge-accepted}
+use Rattle.summary.proofs.OutcomeLaws.{chunk-readable}
 use Rattle.row.specs.Row.{row_pieces}
 use Rattle.outcome.specs.Outcomes.{mode_of_all, Summaries, ask_row, ask_log, plan_bytes, runs_bytes, merge_row_outcome, plan_outcome, runs_outcome}
-use Rattle.outcome.specs.Through.{plan-1500}
+use Rattle.outcome.proofs.Through.{plan-1500}
 use Rattle.merge_row.specs.RowAsks.{row_merged}
 use Rattle.merge_row.specs.RowLaws.{summary-fits}
 use Rattle.merge_row.specs.CallLaws.{few-4, many-4, row-refused, is_row, row_is}
 use Rattle.runs.specs.CallLaws.{runs-4750}
 use Rattle.day_table.specs.Table.{table_of}
 use Rattle.day_table.specs.Outcomes.{table_bytes, write_log_outcome, read_table_outcome}
-use Rattle.day_table.specs.RoundTrips.{written-log, table-short}
+use Rattle.day_table.proofs.RoundTrips.{written-log, table-short}
 use Rattle.day_list.specs.Days.{small_days, small_days_outcome}
-use Rattle.day_list.specs.Counts.{most-54912}
+use Rattle.day_list.proofs.Counts.{most-54912}
 use Rattle.log_records.specs.Line.{heaviest_line_outcome}
-use Rattle.log_records.specs.CallLaws.{written-line}
+use Rattle.log_records.proofs.CallLaws.{written-line}
 use Rattle.day_sheet.specs.Sheet.{sheet_outcome}
-use Rattle.day_sheet.specs.CallLaws.{written-page}
+use Rattle.day_sheet.proofs.CallLaws.{written-page}
 use Rattle.valley_station.specs.Station.{held, end_outcome}
 use Rattle.valley_station.specs.State.{station_of}
 use Rattle.tulghimo.specs.Interface.{Short}

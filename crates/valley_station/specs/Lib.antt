@@ -3,12 +3,7 @@ pub mod Station
 pub mod State
 pub mod Runs
 pub mod Claims
+
 -- What a run keeps.
-pub mod StationLaws
-pub mod RunLaws
 -- The bytes of a state say the station, and follow it through a run.
-pub mod StateLaws
 -- The claims.
-pub mod TwoRuns
-pub mod ClaimLaws
-pub mod Examples

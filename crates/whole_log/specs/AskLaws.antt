@@ -3,11 +3,12 @@ use Rattle.std.specs.Prelude.{◌≡◌, List, ℕ}
 use Rattle.std.proofs.Math.Path.{refl}
 use Rattle.std.proofs.Common.{sym}
 use Rattle.gate.specs.Outcome.{Outcome, refused, granted, onward}
-use Rattle.gate.specs.Laws.{not-result}
+use Rattle.gate.proofs.Laws.{not-result}
 use Rattle.figure.specs.FourModes.{Amounts}
 use Rattle.hill.specs.Log.{Record, opened_of}
 use Rattle.chunk.specs.Chunk.{whole_log}
-use Rattle.chunk.specs.Laws.{IsLog, is-log}
+use Rattle.chunk.specs.Laws.{IsLog}
+use Rattle.chunk.proofs.Laws.{is-log}
 use Rattle.whole_log.specs.Gate.{ask_outcome}
 
 -- A log that was let through, and how many records it opens.

@@ -4,19 +4,19 @@ use Rattle.std.proofs.Common.{sym, ap, ◌∙◌, arith}
 use Rattle.std.proofs.lemmas.List.{length-map}
 use Rattle.gate.specs.Outcome.{Outcome, refused, granted}
 use Rattle.record.specs.Record.{read_of}
-use Rattle.record.specs.Laws.{sound}
-use Rattle.record.specs.Handed as handing
-use Rattle.record.specs.Handed.{Handed}
+use Rattle.record.proofs.Laws.{sound}
+use Rattle.record.proofs.Handed as handing
+use Rattle.record.proofs.Handed.{Handed}
 use Rattle.record.specs.declared.Fields.{Fields}
 use Rattle.hill.specs.Verdict.{Verdict}
 use Rattle.hill.specs.Log.{Record, opened_of}
 use Rattle.hill.specs.Finish.{outcome}
-use Rattle.hill.specs.Growth.{opened-few}
+use Rattle.hill.proofs.Growth.{opened-few}
 use Rattle.figure.specs.FourModes.{Amounts}
 use Rattle.fault.specs.Fault.{no_fault, verdict_of}
 use Rattle.fault.specs.Laws.{found-is, clear-is}
 use Rattle.chunk.specs.Chunk.{record_of, chunk_of}
-use Rattle.chunk.specs.Laws.{depth_low, chunk-append, answer_from, unreadable, readable}
+use Rattle.chunk.proofs.Laws.{depth_low, chunk-append, answer_from, unreadable, readable}
 use Rattle.whole_log.specs.declared.Tally.{Tally}
 use Rattle.whole_log.specs.Tallies.{Fresh, Tallied, log_verdict}
 use Rattle.whole_log.specs.TallyLaws.{opened-is, log-verdict}

@@ -5,12 +5,12 @@ use Rattle.std.proofs.Common.{sym, ap, ◌∙◌, arith, length-drop, drop_of_le
 use Rattle.gate.specs.Outcome.{refused, granted}
 use Rattle.number.specs.Laws.{part-rest}
 use Rattle.record.specs.Record.{read_of, records_of}
-use Rattle.record.specs.Readable as readable
+use Rattle.record.proofs.Readable as readable
 use Rattle.record.specs.declared.Fields.{Fields}
 use Rattle.figure.specs.FourModes.{Amounts}
 use Rattle.hill.specs.Log.{Record}
 use Rattle.hill.specs.Closing.{at}
-use Rattle.hill.specs.Places.{here-inside, here-at, here-rest}
+use Rattle.hill.proofs.Places.{here-inside, here-at, here-rest}
 use Rattle.chunk.specs.Chunk.{record_of, chunk_of, IsWellFormed}
 
 -- Of the log's records xs, k are read, and `left` are those in `rest`.

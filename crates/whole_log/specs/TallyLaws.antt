@@ -2,9 +2,9 @@
 use Rattle.std.specs.Prelude.{◌≡◌, refl, Bool, true, false, cond, not, List, [], ◌∷◌, ◌++◌, ℕ, ◌+◌, ◌≤◌, T, eqb}
 use Rattle.std.proofs.Common.{sym, ap, subst, ◌∙◌, arith, eq-eqb}
 use Rattle.hill.specs.Verdict.{pass, refuse, low, ask, joint, ends}
-use Rattle.hill.specs.VerdictLaws.{low-pass, low-fst, low-snd, joint-pass, count-few}
+use Rattle.hill.proofs.VerdictLaws.{low-pass, low-fst, low-snd, joint-pass, count-few}
 use Rattle.hill.specs.Log.{Record, start_level, end_level, end_of, opens, opened_of, joints, log_fault}
-use Rattle.hill.specs.Growth.{grown}
+use Rattle.hill.proofs.Growth.{grown}
 use Rattle.figure.specs.FourModes.{Amounts, net}
 use Rattle.whole_log.specs.declared.Tally.{Tally}
 use Rattle.fault.specs.Fault.{no_fault, verdict_of}

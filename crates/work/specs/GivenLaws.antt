@@ -12,8 +12,9 @@ use Rattle.summary.specs.Layout.{SummaryIn}
 use Rattle.summary.specs.Judge.{rise_at, middle_at}
 use Rattle.summary.specs.Decode.{decode}
 use Rattle.plan_work.specs.Work.{middles_at, outcomes_at, strictly_between, given}
-use Rattle.plan_work.specs.WorkLaws.{outs-nil, outs-cons, middles-start, middles-step}
-use Rattle.plan_work.specs.WorkSizes.{AllLight, outs-many, middles-light}
+use Rattle.plan_work.proofs.WorkLaws.{outs-nil, outs-cons, middles-start, middles-step}
+use Rattle.plan_work.specs.WorkSizes.{AllLight}
+use Rattle.plan_work.proofs.WorkSizes.{outs-many, middles-light}
 use Rattle.run_level.specs.declared.Place.{Place}
 use Rattle.run_level.specs.Levels.{piece_of, begin_of, place_in}
 use Rattle.run_level.specs.Laws.{piece_inside, piece-field}

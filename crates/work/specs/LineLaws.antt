@@ -5,11 +5,12 @@ use Rattle.std.proofs.Common.{◌∙◌, subst}
 use mathlib.Core.List.{List, [], ◌∷◌}
 use native.Mathlib.Omega.{arith}
 use Rattle.algebra.specs.Run.{Level, step, through}
-use Rattle.algebra.specs.Sizes.{costs, Spent, spend}
+use Rattle.algebra.specs.Sizes.{costs}
+use Rattle.algebra.proofs.Sizes.{Spent, spend}
 use Rattle.figure.specs.FourModes.{Amounts, limit}
 use Rattle.figure.specs.Mode.{Mode, mode_of}
 use Rattle.figure.specs.Stored.{IsStored, size_of, amounts, combined, passed, Combines, Passes}
-use Rattle.plan_work.specs.WorkLaws.{levels-none}
+use Rattle.plan_work.proofs.WorkLaws.{levels-none}
 use Rattle.run_level.specs.declared.Place.{Place}
 use Rattle.run_level.specs.declared.RunLevel.{RunLevel}
 use Rattle.run_level.specs.Levels.{piece_of, level_at, level_for, Reads}

@@ -15,13 +15,15 @@ use Rattle.hill.specs.Summary.{blank, part, spoilt, whole}
 use Rattle.summary.specs.Layout.{SummaryIn}
 use Rattle.summary.specs.Judge.{peak_at, opened_at, middle_at, IsHill}
 use Rattle.summary.specs.Decode.{decode, hill_in}
-use Rattle.summary.specs.Values.{reading-hill}
+use Rattle.summary.proofs.Values.{reading-hill}
 use Rattle.join_plan.specs.Plan.{Line, plan_of_row}
-use Rattle.plan_work.specs.GateExact.{Begins, row-begins}
+use Rattle.plan_work.proofs.GateExact.{Begins, row-begins}
 use Rattle.plan_work.specs.Runs.{summary_at, run_levels}
 use Rattle.plan_work.specs.Work.{Done, worked, one_middle, last_outcome, work_of}
-use Rattle.plan_work.specs.WorkLaws.{work, worked-nil, worked-cons, worked-append}
-use Rattle.plan_work.specs.WorkSizes.{load, AllLight, LineLight, line-light}
+use Rattle.plan_work.specs.WorkLaws.{work}
+use Rattle.plan_work.proofs.WorkLaws.{worked-nil, worked-cons, worked-append}
+use Rattle.plan_work.specs.WorkSizes.{load, AllLight, LineLight}
+use Rattle.plan_work.proofs.WorkSizes.{line-light}
 use Rattle.row_plan.specs.Arrays.{line_in, lines_in}
 use Rattle.row_gate.specs.Notes.{no_peak}
 use Rattle.row_plan.specs.ScanLaws.{length-lines}

@@ -12,13 +12,14 @@ use Rattle.hill.specs.Summary.{Summary, blank, part, spoilt, whole, middle}
 use Rattle.summary.specs.Layout.{SummaryIn}
 use Rattle.summary.specs.Judge.{kind_at, peak_at, middle_at, IsHill, IsSummary, is_blank, is_spoilt, is_hill}
 use Rattle.summary.specs.Decode.{decode}
-use Rattle.summary.specs.Values.{reading-blank, reading-spoilt, reading-hill}
+use Rattle.summary.proofs.Values.{reading-blank, reading-spoilt, reading-hill}
 use Rattle.judge.specs.Laws.{head-blank, head-spoilt}
 use Rattle.plan_work.specs.Fair.{ValidRow}
 use Rattle.plan_work.specs.Runs.{peak_of_summary, slopes_of, summary_at}
-use Rattle.plan_work.specs.WorkSizes.{load, load_fits, middle-light}
+use Rattle.plan_work.specs.WorkSizes.{load}
+use Rattle.plan_work.proofs.WorkSizes.{load_fits, middle-light}
 use Rattle.row_gate.specs.Notes.{no_peak, note_of}
-use Rattle.outcome.specs.Through.{valid-row}
+use Rattle.outcome.proofs.Through.{valid-row}
 use Rattle.row_gate.specs.RowLaws.{each_in, decoded-at}
 use Rattle.run_level.specs.Levels.{piece_of, place_in}
 use Rattle.run_level.specs.Lines.{placed}

@@ -4,7 +4,7 @@ use borrow.Author.Tests.{not-true, not-false}
 use Rattle.number.specs.Word.{back}
 use Rattle.number.specs.IntegerLaws.{sfits-abs}
 use Rattle.run_back.specs.Decide.{near}
-use Rattle.run_back.specs.DecideLaws.{tells-near}
+use Rattle.run_back.proofs.DecideLaws.{tells-near}
 use Rattle.backwards.specs.Laws.{abs_diff, far-net, back-net-is}
 use Rattle.backwards.proofs.back_net.Statement.{statement}
 use Rattle.backwards.proofs.back_net.Tie as tie

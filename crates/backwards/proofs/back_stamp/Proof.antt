@@ -6,7 +6,7 @@ use Rattle.figure.specs.FourModes.{is_stamp, read_stamp}
 use Rattle.figure.specs.Run.{read_stamp_run}
 use Rattle.figure.specs.Mode.{mode_of}
 use Rattle.run_back.specs.Inverse.{inverse}
-use Rattle.run_back.specs.WayLaws.{back_is}
+use Rattle.run_back.proofs.WayLaws.{back_is}
 use Rattle.backwards.specs.Laws.{far-stamp, back-stamp-is, stamp-range, stamp-as}
 use Rattle.backwards.proofs.back_stamp.Statement.{statement}
 use Rattle.backwards.proofs.back_stamp.Tie as tie

@@ -3,7 +3,7 @@ use Rattle.std.proofs.Common.{◌≡◌, true, sym, ap, ◌∙◌, to_z-of_z, ru
 use borrow.Author.Tests.{not-true, not-false}
 use Rattle.outcome.specs.Outcomes.{run_length}
 use Rattle.run_back.specs.Decide.{is_run_bytes}
-use Rattle.run_back.specs.CallLaws.{refused-15, refused-16, way-net, way-stamp}
+use Rattle.run_back.proofs.CallLaws.{refused-15, refused-16, way-net, way-stamp}
 use Rattle.backwards.specs.Laws.{run_long, six, run-numbers}
 use Rattle.backwards.proofs.backwards.Statement.{statement}
 use Rattle.backwards.proofs.backwards.Tie as tie

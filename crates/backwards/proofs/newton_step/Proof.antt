@@ -1,5 +1,5 @@
 -- `backwards::newton_step` meets its contract. Assumes nothing.
-use Rattle.run_back.specs.InverseLaws.{newton_is}
+use Rattle.run_back.proofs.InverseLaws.{newton_is}
 use Rattle.std.proofs.Common.{rules}
 use Rattle.backwards.proofs.newton_step.Statement.{statement}
 use Rattle.backwards.proofs.newton_step.Tie as tie

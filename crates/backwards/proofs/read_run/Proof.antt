@@ -1,7 +1,7 @@
 -- `backwards::read_run` meets its contract: where there is no fourth number, 0 is read. Assumes nothing.
 use Rattle.std.proofs.Common.{sym, ◌∙◌, arith, w64, rules}
 use Rattle.number.specs.Word.{back}
-use Rattle.outcome.specs.RunLaws.{length-four, length_three, length-least}
+use Rattle.outcome.proofs.RunLaws.{length-four, length_three, length-least}
 use Rattle.backwards.specs.Laws.{read-four, fourth-past}
 use Rattle.backwards.proofs.read_run.Statement.{statement}
 use Rattle.backwards.proofs.read_run.Tie as tie

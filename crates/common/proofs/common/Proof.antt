@@ -1,9 +1,9 @@
 -- `common::common` meets its contract: the log is asked, then the two numbers. Assumes nothing.
 use mathlib.Core.Path.{sym, ap, ◌∙◌}
-use Rattle.chunk.specs.Laws.{log_is}
+use Rattle.chunk.proofs.Laws.{log_is}
 use Rattle.whole_log.specs.Gate.{asked_answer}
 use Rattle.whole_log.specs.AskLaws.{log-opens, log-refused}
-use Rattle.common_record.specs.CallLaws.{at-fault, let_through}
+use Rattle.common_record.proofs.CallLaws.{at-fault, let_through}
 use borrow.Author.Rules.{rules}
 use Rattle.common.proofs.common.Statement.{statement}
 use Rattle.common.proofs.common.Tie as tie

@@ -6,7 +6,7 @@ use lib.ListN.{length}
 use borrow.Author.Rules.{rules}
 use Rattle.gate.specs.Outcome.{granted}
 use Rattle.record.specs.Record.{read_of, answer_of}
-use Rattle.record.specs.Laws.{sound}
+use Rattle.record.proofs.Laws.{sound}
 use Rattle.chunk.specs.Chunk.{record_of, chunk_of}
 use Rattle.whole_log.specs.Tallies.{Tallied}
 use Rattle.whole_log.specs.Pass as pass

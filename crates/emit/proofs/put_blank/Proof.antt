@@ -1,6 +1,6 @@
 -- `emit::put_blank` meets its contract: 6 bytes, where they fit. Assumes nothing.
 use borrow.Author.Rules.{rules}
-use Rattle.gate.specs.Promises.{answer-short}
+use Rattle.gate.proofs.Promises.{answer-short}
 use Rattle.emit.proofs.put_blank.Statement.{statement}
 use Rattle.emit.proofs.put_blank.Tie as tie
 use Rattle.emit.specs.Laws.{answer-wrote, blank-length}

@@ -1,6 +1,6 @@
 -- `emit::put_hill` meets its contract: the length is told by the levels. Assumes nothing.
 use borrow.Author.Rules.{rules}
-use Rattle.gate.specs.Promises.{answer-short}
+use Rattle.gate.proofs.Promises.{answer-short}
 use Rattle.emit.proofs.put_hill.Statement.{statement}
 use Rattle.emit.proofs.put_hill.Tie as tie
 use Prim.Native.Nat.{ℕ}

@@ -1,5 +1,5 @@
 -- `emit::put_spoilt` meets its contract: 16 bytes, where they fit. Assumes nothing.
-use Rattle.gate.specs.Promises.{answer-short}
+use Rattle.gate.proofs.Promises.{answer-short}
 use Rattle.emit.specs.Emitted.{spoilt_said}
 use Rattle.emit.specs.Laws.{answer-wrote, spoilt-length}
 use Rattle.summary.specs.Layout.{encode}

@@ -1,7 +1,7 @@
 -- `farms::hand_out` meets its contract: question 12, and then the bytes are stored. Assumes nothing.
 use mathlib.Core.Path.{refl}
 use native.Mathlib.Omega.{arith}
-use Rattle.gate.specs.Promises.{answer-short, answer-fits}
+use Rattle.gate.proofs.Promises.{answer-short, answer-fits}
 use Rattle.farms.specs.CallLaws.{handed-over}
 use borrow.Author.Rules.{rules}
 use Rattle.farms.proofs.hand_out.Statement.{statement}

@@ -3,11 +3,11 @@ use mathlib.Core.Path.{◌≡◌, sym, ap, ◌∙◌}
 use Prim.Native.Nat.{ℕ}
 use borrow.Author.Rules.{rules}
 use Rattle.gate.specs.Outcome.{granted}
-use Rattle.gate.specs.Promises.{refuses, comes-to}
-use Rattle.chunk.specs.Laws.{log_is}
+use Rattle.gate.proofs.Promises.{refuses, comes-to}
+use Rattle.chunk.proofs.Laws.{log_is}
 use Rattle.whole_log.specs.Gate.{ask_outcome, asked_answer}
 use Rattle.whole_log.specs.AskLaws.{log-opens, log-refused}
-use Rattle.log_records.specs.CallLaws.{line_refused, line-is}
+use Rattle.log_records.proofs.CallLaws.{line_refused, line-is}
 use Rattle.heaviest_line.proofs.heaviest_line.Statement.{statement}
 use Rattle.heaviest_line.proofs.heaviest_line.Tie as tie
 

@@ -1,7 +1,7 @@
 -- `heaviest_line::put_line` meets its contract: the fit is tested before the first store. Assumes nothing.
 use native.Mathlib.Omega.{arith}
 use borrow.Author.Rules.{rules}
-use Rattle.gate.specs.Promises.{answer-fits, bytes-too-long}
+use Rattle.gate.proofs.Promises.{answer-fits, bytes-too-long}
 use Rattle.log_records.specs.Line.{line_numbers, number_bytes}
 use Rattle.heaviest_line.specs.CallLaws.{line-total, line-fits}
 use Rattle.heaviest_line.proofs.put_line.Statement.{statement}

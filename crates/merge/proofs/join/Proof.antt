@@ -1,6 +1,6 @@
 -- `merge::join` meets its contract: one piece, then the other, and what they merge to is written. Assumes nothing.
 use borrow.Author.Rules.{rules}
-use Rattle.gate.specs.Promises.{answer-same}
+use Rattle.gate.proofs.Promises.{answer-same}
 use Rattle.merge.proofs.join.Statement.{statement}
 use Rattle.merge.proofs.join.Tie as tie
 use Rattle.figure.specs.Mode.{mode_of}

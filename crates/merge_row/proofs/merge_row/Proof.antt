@@ -1,5 +1,5 @@
 -- `merge_row::merge_row` meets its contract: each question in its order, then the pieces are merged. Assumes nothing.
-use Rattle.gate.specs.Promises.{refuses, comes-to}
+use Rattle.gate.proofs.Promises.{refuses, comes-to}
 use Rattle.merge_row.specs.CallLaws.{few-4, many-4, some_bytes, row-refused, is_row, row_is}
 use Rattle.outcome.specs.Answers.{mode_answer}
 use lib.ListN.{length}

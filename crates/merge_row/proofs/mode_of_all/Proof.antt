@@ -2,7 +2,7 @@
 use Rattle.merge_row.specs.CallLaws.{not-5, inside, shorter, pass-first, pass-next, pass-5, pass-6, pass_all}
 use Rattle.merge_row.specs.RowAsks.{Passed}
 use Rattle.judge.specs.Laws.{judges, judges-not, judged-mode}
-use Rattle.outcome.specs.Laws.{mode-5}
+use Rattle.outcome.proofs.Laws.{mode-5}
 use Rattle.row.specs.Row.{row_pieces}
 use lib.ListN.{length, take, length-take}
 use mathlib.Core.Path.{sym}

@@ -4,7 +4,8 @@ use native.Mathlib.Omega.{arith}
 use borrow.Author.Rules.{rules}
 use lib.ListN.{length}
 use Rattle.summary.specs.Layout.{SummaryIn, encode}
-use Rattle.summary.specs.Accepted.{Accepted, encode-fits}
+use Rattle.summary.specs.Accepted.{Accepted}
+use Rattle.summary.proofs.Accepted.{encode-fits}
 use Rattle.merge_row.specs.FrontLaws.{front, never-refused}
 use Rattle.merge_row.proofs.put_aside.Statement.{statement}
 use Rattle.merge_row.proofs.put_aside.Tie as tie

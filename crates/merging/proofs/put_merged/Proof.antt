@@ -1,7 +1,7 @@
 -- `merging::put_merged` meets its contract: what the head and the arrays say is what was merged. Assumes nothing.
 use borrow.Author.Rules.{rules}
 use mathlib.Core.Path.{ap}
-use Rattle.gate.specs.Promises.{answer-same}
+use Rattle.gate.proofs.Promises.{answer-same}
 use Rattle.summary.specs.Layout.{encode}
 use Rattle.slopes.specs.Arrays.{Arrays, arrays}
 use Rattle.merging.proofs.put_merged.Statement.{statement}

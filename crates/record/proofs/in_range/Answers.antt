@@ -8,13 +8,12 @@ use Rattle.record.proofs.in_range.Goals as goal
 pub returns : goal.returns
 unfolding in_range
 returns c =
-    let start = c in
     simp (
       c.in_limits.ensures,
       c.in_limits-2.ensures,
       c.in_limits-3.ensures,
-      to_z-of_z {w = w32} start.ranges.value,
-      to_z-of_z {w = w32} start.ranges.floor,
-      to_z-of_z {w = w32} start.ranges.ceiling,
+      to_z-of_z {w = w32} c.ranges.value,
+      to_z-of_z {w = w32} c.ranges.floor,
+      to_z-of_z {w = w32} c.ranges.ceiling,
       and_assoc,
     )

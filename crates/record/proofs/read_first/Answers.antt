@@ -8,7 +8,7 @@ use borrow.Author.Tests.{ne_eqb}
 use Rattle.gate.specs.Outcome.{Outcome}
 use Rattle.record.specs.Record.{open_of, whole, read_of, by_shape}
 use Rattle.record.specs.declared.Fields.{Fields}
-use Rattle.record.specs.Laws.{read_short}
+use Rattle.record.proofs.Laws.{read_short}
 use Rattle.record.proofs.read_first.Goals as goal
 
 pub returns-then-chunk-lt4 : goal.returns-then-chunk-lt4
@@ -36,9 +36,9 @@ returns-in_default-length c =
     rw (
       sym c.read_u16-kind.ensures ∙ c.in-1.is,
       ← c.read_u16-length.ensures,
-      ne_eqb _ 18 (λ e. c.in_default-length.in_default-length-own.rest.0.1 (inl e)),
-      ne_eqb _ 22 (λ e. c.in_default-length.in_default-length-own.rest.0.1 (inr e)),
-      ne_eqb _ _ c.in_default-length.in_default-length-own.rest.1,
+      ne_eqb c.read_u16-length.result 18 (grind arith),
+      ne_eqb c.read_u16-length.result 22 (grind arith),
+      ne_eqb c.read_u16-length.result 10 (omega arith),
     )
 
 pub returns-in-6 : goal.returns-in-6
@@ -47,8 +47,8 @@ returns-in-6 c = rw (sym c.read_u16-kind.ensures ∙ c.in-2.is, sym c.read_u16-l
 
 pub returns-in_default-length-2 : goal.returns-in_default-length-2
 unfolding read_of by_shape
-returns-in_default-length-2 c = rw (sym c.read_u16-kind.ensures ∙ c.in-2.is, ← c.read_u16-length.ensures, ne_eqb _ _ c.in_default-length-2.in_default-length-2-own.rest.1)
+returns-in_default-length-2 c = rw (sym c.read_u16-kind.ensures ∙ c.in-2.is, ← c.read_u16-length.ensures, ne_eqb c.read_u16-length.result 6 (omega arith))
 
 pub returns-in_default : goal.returns-in_default
 unfolding read_of by_shape
-returns-in_default c = rw (← c.read_u16-kind.ensures, ne_eqb _ _ c.in_default.in_default-own.rest.0.1, ne_eqb _ _ c.in_default.in_default-own.rest.1)
+returns-in_default c = rw (← c.read_u16-kind.ensures, ne_eqb c.read_u16-kind.result 1 (omega arith), ne_eqb c.read_u16-kind.result 2 (omega arith))

@@ -2,14 +2,14 @@
 use mathlib.Core.Path.{◌≡◌, sym, ap, ◌∙◌}
 use mathlib.Core.Bool.{true}
 use native.Mathlib.Omega.{arith}
-use Rattle.gate.specs.Promises.{refuses, comes-to}
+use Rattle.gate.proofs.Promises.{refuses, comes-to}
 use Rattle.figure.specs.Mode.{mode_in_use}
 use Rattle.figure.specs.Stored.{mode_small}
-use Rattle.chunk.specs.Laws.{log_is}
+use Rattle.chunk.proofs.Laws.{log_is}
 use Rattle.whole_log.specs.Gate.{asked_answer}
 use Rattle.whole_log.specs.AskLaws.{log-opens, log-refused}
 use Rattle.whole_log.specs.TallyLaws.{begun, not-begun}
-use Rattle.day_sheet.specs.CallLaws.{out-of-use, at-fault, let_through}
+use Rattle.day_sheet.proofs.CallLaws.{out-of-use, at-fault, let_through}
 use borrow.Author.Rules.{rules}
 use Rattle.sheet.proofs.sheet.Statement.{statement}
 use Rattle.sheet.proofs.sheet.Tie as tie

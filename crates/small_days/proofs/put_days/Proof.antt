@@ -2,7 +2,7 @@
 use mathlib.Core.Path.{refl}
 use native.Mathlib.Omega.{arith}
 use borrow.Author.Rules.{rules}
-use Rattle.gate.specs.Promises.{bytes-stored, bytes-too-long}
+use Rattle.gate.proofs.Promises.{bytes-stored, bytes-too-long}
 use Rattle.hill.specs.Row.{joined}
 use Rattle.day_list.specs.Days.{ways, small_days}
 use Rattle.small_days.specs.WaysTable.{entry, ways_table}

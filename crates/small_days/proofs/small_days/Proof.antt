@@ -3,8 +3,8 @@ use Prim.Native.Nat.{◌≤◌}
 use native.Mathlib.Omega.{arith}
 use borrow.Author.Tests.{not-true, not-false}
 use borrow.Author.Rules.{rules}
-use Rattle.gate.specs.Promises.{refuses, comes-to}
-use Rattle.day_list.specs.CallLaws.{outside, inside, taken}
+use Rattle.gate.proofs.Promises.{refuses, comes-to}
+use Rattle.day_list.proofs.CallLaws.{outside, inside, taken}
 use Rattle.small_days.proofs.small_days.Statement.{statement}
 use Rattle.small_days.proofs.small_days.Tie as tie
 

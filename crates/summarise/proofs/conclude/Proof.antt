@@ -1,7 +1,7 @@
 -- `summarise::conclude` meets its contract: what the head and the arrays say is the chunk's summary. Assumes nothing.
 use borrow.Author.Rules.{rules}
 use mathlib.Core.Path.{ap, ◌∙◌}
-use Rattle.gate.specs.Promises.{answer-same}
+use Rattle.gate.proofs.Promises.{answer-same}
 use Rattle.summary.specs.Layout.{encode}
 use Rattle.slopes.specs.Arrays.{Arrays, arrays}
 use Rattle.summarise.specs.AnsweredLaws.{bytes-are}

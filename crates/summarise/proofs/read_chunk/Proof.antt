@@ -9,8 +9,8 @@ use mir.Syntax.{w64}
 use Rattle.gate.specs.Outcome.{granted}
 use Rattle.number.specs.Word.{back}
 use Rattle.record.specs.Record.{answer_of, read_of}
-use Rattle.record.specs.Laws.{sound}
-use Rattle.record.specs.Handed.{unreadable, finished}
+use Rattle.record.proofs.Laws.{sound}
+use Rattle.record.proofs.Handed.{unreadable, finished}
 use Rattle.hill.specs.Log.{Record}
 use Rattle.figure.specs.FourModes.{Amounts}
 use Rattle.figure.specs.Mode.{mode_of}

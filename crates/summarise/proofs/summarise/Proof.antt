@@ -3,10 +3,10 @@ use borrow.Author.Rules.{rules}
 use mathlib.Core.Path.{◌≡◌, sym, ◌∙◌}
 use mathlib.Core.Bool.{true}
 use native.Mathlib.Omega.{arith}
-use Rattle.gate.specs.Promises.{refuses, comes-to}
+use Rattle.gate.proofs.Promises.{refuses, comes-to}
 use Rattle.figure.specs.Mode.{mode_in_use}
 use Rattle.figure.specs.Stored.{mode_small}
-use Rattle.summary.specs.OutcomeLaws.{summarise-is}
+use Rattle.summary.proofs.OutcomeLaws.{summarise-is}
 use Rattle.chunk.specs.Chunk.{chunk_of}
 use Rattle.whole_log.specs.TallyLaws.{begun, not-begun}
 use Rattle.summarise.specs.CallLaws.{no_mode, too_many, not-readable}

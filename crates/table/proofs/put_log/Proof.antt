@@ -3,7 +3,7 @@ use mathlib.Core.List.{List}
 use Prim.Native.Nat.{ℕ}
 use native.Mathlib.Omega.{arith}
 use borrow.Author.Rules.{rules}
-use Rattle.gate.specs.Promises.{bytes-stored, bytes-too-long}
+use Rattle.gate.proofs.Promises.{bytes-stored, bytes-too-long}
 use Rattle.day_table.specs.Table.{log_of}
 use Rattle.day_table.specs.Outcomes.{table_lines, log_bytes}
 use Rattle.table.specs.CallLaws.{log-total}

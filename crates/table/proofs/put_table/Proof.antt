@@ -1,6 +1,6 @@
 -- `table::put_table` meets its contract: the fit is tested before the first store. Assumes nothing.
 use borrow.Author.Rules.{rules}
-use Rattle.gate.specs.Promises.{bytes-stored, bytes-too-long}
+use Rattle.gate.proofs.Promises.{bytes-stored, bytes-too-long}
 use Rattle.day_table.specs.Table.{table_of}
 use Rattle.day_table.specs.Outcomes.{table_bytes}
 use Rattle.table.specs.CallLaws.{table-total, opens-fit}

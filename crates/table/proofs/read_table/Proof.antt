@@ -2,7 +2,7 @@
 use mathlib.Core.Path.{◌≡◌, sym, ap, ◌∙◌}
 use borrow.Author.Rules.{rules}
 use Rattle.gate.specs.Outcome.{granted}
-use Rattle.gate.specs.Promises.{refuses, comes-to}
+use Rattle.gate.proofs.Promises.{refuses, comes-to}
 use Rattle.whole_log.specs.Gate.{ask_outcome, asked_answer}
 use Rattle.whole_log.specs.AskLaws.{log-opens, log-refused}
 use Rattle.table.specs.CallLaws.{read-refused, table_is}

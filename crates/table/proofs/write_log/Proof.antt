@@ -1,7 +1,7 @@
 -- `table::write_log` meets its contract: the questions in their order, and then the log. Assumes nothing.
 use borrow.Author.Rules.{rules}
-use Rattle.gate.specs.Promises.{refuses, comes-to}
-use Rattle.day_table.specs.CallLaws.{too_long, taken_is}
+use Rattle.gate.proofs.Promises.{refuses, comes-to}
+use Rattle.day_table.proofs.CallLaws.{too_long, taken_is}
 use Rattle.table.specs.CallLaws.{Settled, settled}
 use Rattle.table.proofs.write_log.Statement.{statement}
 use Rattle.table.proofs.write_log.Tie as tie

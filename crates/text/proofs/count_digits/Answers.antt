@@ -1,6 +1,6 @@
 -- `text::count_digits` meets its contract: what is counted, with the digits of the rest, is all digits and one more.
 use native.Mathlib.Omega.{arith}
-use Rattle.text.specs.DecimalLaws.{digits-some, digits-length}
+use Rattle.text.proofs.DecimalLaws.{digits-some, digits-length}
 use Rattle.text.proofs.Loops.{count_next, count-end}
 use Rattle.text.proofs.count_digits.Goals as goal
 

@@ -9,7 +9,7 @@ use lib.Signed.{lt_z}
 use mir.Facts.{to_z-of_z}
 use Rattle.number.specs.IntegerLaws.{zed}
 use Rattle.text.specs.Decimal.{digits_of, decimal_of}
-use Rattle.text.specs.DecimalLaws.{digits-length}
+use Rattle.text.proofs.DecimalLaws.{digits-length}
 use Rattle.text.proofs.decimal_length.Goals as goal
 
 -- the two ways: what the code takes for the number is given by an equation

@@ -12,7 +12,7 @@ use mir.Facts.{to_z-of_z}
 use Rattle.number.specs.Laws.{stores-next}
 use Rattle.text.specs.Decimal.{decimal_of}
 use Rattle.text.specs.Columns.{blanks, right_aligned}
-use Rattle.text.specs.ColumnLaws.{length-blanks}
+use Rattle.text.proofs.ColumnLaws.{length-blanks}
 use Rattle.text.proofs.write_column.Goals as goal
 
 -- the text of the number, as a local holds it

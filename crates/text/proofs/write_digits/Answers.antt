@@ -2,7 +2,7 @@
 use mathlib.Core.Path.{refl}
 use Prim.Native.Nat.{◌/◌}
 use native.Mathlib.Omega.{arith}
-use Rattle.text.specs.DecimalLaws.{digits-some}
+use Rattle.text.proofs.DecimalLaws.{digits-some}
 use Rattle.text.proofs.Loops.{more-digits, write-next, write-end}
 use Rattle.text.proofs.write_digits.Goals as goal
 

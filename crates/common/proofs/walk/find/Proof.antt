@@ -6,7 +6,7 @@ use borrow.Author.Rules.{rules}
 use Rattle.gate.specs.Outcome.{granted}
 use Rattle.number.specs.Laws.{part-rest}
 use Rattle.record.specs.Record.{read_of, answer_of}
-use Rattle.record.specs.Laws.{sound}
+use Rattle.record.proofs.Laws.{sound}
 use Rattle.whole_log.specs.Second as second
 use Rattle.common.specs.WalkLaws.{Walking, walking_start, some_left, can-note, walking-next, found, found-common}
 use Rattle.common.proofs.walk.find.Statement.{statement}

@@ -6,7 +6,7 @@ use borrow.Author.Rules.{rules}
 use Rattle.gate.specs.Outcome.{granted}
 use Rattle.number.specs.Laws.{part-rest}
 use Rattle.record.specs.Record.{read_of, answer_of}
-use Rattle.record.specs.Laws.{sound}
+use Rattle.record.proofs.Laws.{sound}
 use Rattle.whole_log.specs.Second as second
 use Rattle.heaviest_line.specs.NumberingLaws.{NumberingTo, numbering-begin, room, some_left, number_small, numbering-next, numbered}
 use Rattle.heaviest_line.proofs.numbers.write_numbers.Statement.{statement}

@@ -3,7 +3,7 @@
 use native.Mathlib.Omega.{arith}
 use mir.Syntax.{w64}
 use Rattle.number.specs.Word.{back}
-use Rattle.outcome.specs.RunLaws.{length_most}
+use Rattle.outcome.proofs.RunLaws.{length_most}
 use Rattle.runs.specs.BytesLaws.{front-written}
 use borrow.Author.Rules.{rules}
 use Rattle.runs.proofs.bytes.write_front.Statement.{statement}

@@ -6,7 +6,7 @@ use lib.ListN.{length}
 use lib.Seq.{length-sets}
 use mir.Syntax.{w64}
 use Rattle.number.specs.Word.{back}
-use Rattle.outcome.specs.RunLaws.{length-four, length-least}
+use Rattle.outcome.proofs.RunLaws.{length-four, length-least}
 use Rattle.runs.specs.BytesLaws.{fourth-written, no-fourth}
 use borrow.Author.Rules.{rules}
 use Rattle.runs.proofs.bytes.write_run.Statement.{statement}

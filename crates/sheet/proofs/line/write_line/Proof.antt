@@ -12,7 +12,7 @@ use mir.Facts.{to_z_pos, to_z-of_z}
 use Rattle.number.specs.Laws.{stores-next}
 use Rattle.text.specs.Decimal.{digits_of, decimal_of}
 use Rattle.text.specs.Columns.{right_aligned}
-use Rattle.text.specs.ColumnLaws.{length-aligned}
+use Rattle.text.proofs.ColumnLaws.{length-aligned}
 use Rattle.day_sheet.specs.Sheet.{sheet_line}
 use Rattle.day_sheet.specs.Claims.{InColumns}
 use borrow.Author.Rules.{rules}

@@ -8,7 +8,7 @@ use Rattle.number.specs.Word.{back}
 use Rattle.gate.specs.Outcome.{granted}
 use Rattle.number.specs.Laws.{part-rest}
 use Rattle.record.specs.Record.{read_of, answer_of}
-use Rattle.record.specs.Laws.{sound}
+use Rattle.record.proofs.Laws.{sound}
 use Rattle.whole_log.specs.Second as second
 use Rattle.sheet.specs.PrintingLaws.{Pass, pass-start, pass-ready, pass-next, pass-end}
 use Rattle.sheet.proofs.page.print.Statement.{statement}

@@ -6,8 +6,8 @@ use borrow.Author.Rules.{rules}
 use Rattle.gate.specs.Outcome.{granted}
 use Rattle.number.specs.Laws.{part-rest}
 use Rattle.record.specs.Record.{read_of, answer_of}
-use Rattle.record.specs.Laws.{sound}
-use Rattle.record.specs.Readable.{not-refused}
+use Rattle.record.proofs.Laws.{sound}
+use Rattle.record.proofs.Readable.{not-refused}
 use Rattle.table.specs.LoopLaws.{TableSoFar, table-begun, line-room, table-next, all-written, no_bytes}
 use Rattle.table.proofs.lines.write_table.Statement.{statement}
 use Rattle.table.proofs.lines.write_table.Tie as tie

@@ -5,7 +5,7 @@ use lib.ListN.{length}
 use borrow.Author.Rules.{rules}
 use Rattle.number.specs.Writing.{Writing, begin, fits, next, done}
 use Rattle.record.specs.Record.{close_bytes}
-use Rattle.record.specs.Encoding.{close-length}
+use Rattle.record.proofs.Encoding.{close-length}
 use Rattle.day_table.specs.Table.{closes_to}
 use Rattle.day_table.specs.Outcomes.{log_bytes}
 use Rattle.table.specs.LoopLaws.{closes-turn, closes-end}

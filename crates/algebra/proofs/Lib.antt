@@ -1,0 +1,3 @@
+-- The theorems of this crate, and what they are proved with.
+pub mod Run
+pub mod Sizes

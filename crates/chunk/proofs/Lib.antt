@@ -1,0 +1,2 @@
+-- The theorems of this crate, and what they are proved with.
+pub mod Laws

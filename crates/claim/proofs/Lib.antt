@@ -1,0 +1,22 @@
+-- The theorems of this crate, and what they are proved with.
+pub mod Demand3
+pub mod Table
+pub mod Stretches
+pub mod Cut
+pub mod Lines
+pub mod Calls
+pub mod LogRow
+pub mod FirstRow
+pub mod BatchLaws
+pub mod DropLaws
+pub mod FinishingLaws
+pub mod HeaviestSumLaws
+pub mod ShortRecordLaws
+pub mod ReadThenLaws
+pub mod SentLaws
+pub mod UnmovedLaws
+pub mod SheetLaws
+pub mod FarmLaws
+pub mod Examples
+pub mod ShortRecordExamples
+pub mod SheetExamples

@@ -1,0 +1,4 @@
+-- The theorems of this crate, and what they are proved with.
+pub mod LineLaws
+pub mod PageLaws
+pub mod CallLaws

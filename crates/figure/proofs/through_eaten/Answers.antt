@@ -1,0 +1,15 @@
+-- The value is as it was before it was widened, and what is held is as it was stored.
+use Rattle.std.proofs.Common.{ap, ◌∙◌, arith, to_z-of_z}
+use Rattle.number.specs.Word.{widened}
+use Rattle.figure.specs.FourModes.{read_held}
+use Rattle.figure.specs.Bound.{size_held}
+use Rattle.figure.specs.Mode.{mode_of}
+use Rattle.figure.specs.Stored.{size_of}
+use Rattle.figure.proofs.through_eaten.Goals as goal
+
+pub eaten-requires : goal.eaten-requires
+unfolding size_of mode_of
+eaten-requires c =
+    let v = widened c.widen.result c.args.value c.widen.type_inv c.widen.ensures c.ranges.value in
+    let h = c.read_held.ensures ∙ ap read_held (to_z-of_z c.ranges.held) in
+    simp v (omega (arith, c.requires.room, ap size_held h))

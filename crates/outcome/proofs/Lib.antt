@@ -1,0 +1,6 @@
+-- The theorems of this crate, and what they are proved with.
+pub mod Examples
+pub mod Laws
+pub mod RunLaws
+pub mod Through
+pub mod RunsWritten

@@ -1,0 +1,9 @@
+-- The theorems of this crate, and what they are proved with.
+pub mod Laws
+pub mod Readable
+pub mod RangeLaws
+pub mod Joined
+pub mod Ranged
+pub mod Handed
+pub mod Encoding
+pub mod Examples
