@@ -1,4 +1,6 @@
 // The records behind the heaviest line: one pass over the log finds where the line ends, and another writes the numbers of its records.
+#![tactic(auto)]
+
 ghost use Rattle.std.specs.Prelude.{◌≡◌, List, length};
 ghost use Rattle.gate.specs.Outcome.{written, buffer_after};
 ghost use Rattle.gate.specs.Answers.{written_answer, length_answered};
