@@ -1,4 +1,6 @@
 // Question 5: whether bytes are exactly one summary, and which; the layout, which a run has too. Document 01, "Summaries".
+#![tactic(auto)]
+
 ghost use Rattle.std.specs.Prelude.{◌≡◌, ◌+◌, ◌≤◌, min, length};
 ghost use Rattle.figure.specs.Mode.{mode_of};
 ghost use Rattle.figure.specs.Stored.{size_of};
