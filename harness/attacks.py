@@ -194,11 +194,27 @@ pub fn change() -> usize {
 # ---- the sources in Rust
 
 
+# A clause of a contract, up to the brace that opens it, and what is derived for a type.
+CLAUSE = re.compile(r"\n\s+(?:requires|ensures)\b[^{\n]*(?={)")
+DERIVED = re.compile(r"^(?:#\[derive\([^)]*\)\]\n)?((?:pub )?(?:struct|enum) )", flags=re.M)
+
+
+def without_clauses(text):
+    """A source with no contracts: each clause ends with the brace that closes it."""
+    while clause := CLAUSE.search(text):
+        end, depth = clause.end() + 1, 1
+        while depth:
+            depth += {"{": 1, "}": -1}.get(text[end], 0)
+            end += 1
+        text = text[:clause.start()] + text[end:]
+    return text
+
+
 def plain(text):
     """Rust: the contracts taken off, structs and enums copied as values."""
     text = re.sub(r"^ghost use [^;]*;\n", "", text, flags=re.M)
-    text = re.sub(r"\n\s+(requires|ensures)\b[^{]*\{[^⌝]*⌝ \}", "", text)
-    text = re.sub(r"^(pub )?(struct|enum) ", r"#[derive(Clone, Copy)]\n\1\2 ", text, flags=re.M)
+    text = re.sub(r"^#!\[tactic\(.*\)\]\n", "", without_clauses(text), flags=re.M)
+    text = DERIVED.sub(r"#[derive(Clone, Copy)]\n\1", text)
     return re.sub(r"std::num::(wrapping_\w+)_u32\(", r"u32::\1(", text)
 
 

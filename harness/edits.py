@@ -1,9 +1,10 @@
 """The must-fail edits as changes: what harness/attacks.py, .ci/refusals and .ci/names read.
 
-An edit file, crates/CRATE/must-fail/LABEL.edit, is tried by one check of its crate. It has one or more changes:
+An edit file, crates/CRATE/must-fail/LABEL.edit, is tried by one check of its crate. It has one or more changes. To
+rt a head is a comment, as every line that begins with '#', and what follows the heads is one edit:
 
-    change: NAME        what follows, up to the next change, is one wrong program
-    same: NAME          or one that means the same as the code, and must not be told from it
+    # change: NAME      what follows, up to the next head, is one wrong program
+    # same: NAME        or one that means the same as the code, and must not be told from it
     # why               comments
     file: src/lib.rt    where
     old: TEXT           a text that stands there once, in one line
@@ -20,6 +21,8 @@ from typing import NamedTuple, Optional
 
 ROOT = pathlib.Path(__file__).resolve().parent.parent
 CRATES = ROOT / "crates"
+# The line that heads a change.
+HEAD = re.compile(r"# (change|same): (\S+)")
 # A function: the line that begins it, at the left margin, to the brace that ends it there.
 FUNCTION = re.compile(r'^(?:pub )?(?:extern "C" )?fn (\w+)[(<].*?^\}$', flags=re.M | re.S)
 # A constant, likewise, to the semicolon that ends it.
@@ -49,8 +52,8 @@ def changes_of(path):
     found, file, old = [], None, None
     for line in path.read_text(encoding="utf-8").splitlines():
         word, _, rest = line.partition(": ")
-        if word in ("change", "same"):
-            found.append(Change(path.parent.parent.name, path.stem, rest.strip(), word == "same", []))
+        if head := HEAD.fullmatch(line):
+            found.append(Change(path.parent.parent.name, path.stem, head[2], head[1] == "same", []))
         elif word == "file":
             file = rest
         elif word == "old":

@@ -60,7 +60,7 @@ module _ {R : Type 0} {𝒜 : Algebra R} {Sound : R → Type 0} (𝒮 : Sizes �
   levels_sound (u ∷ us) [] s = tt
   levels_sound (u ∷ us) (y ∷ ys) s = (s.0, levels_sound us ys s.1)
 
-  pub levels-cost : (us : List (R × Fig)) (ys : List Fig) → (costs 𝒮) (levels_of us ys) ≤ sizes_open us + sizes ys
+  pub levels-cost : (us : List (R × Fig)) (ys : List Fig) → costs 𝒮 (levels_of us ys) ≤ sizes_open us + sizes ys
   levels-cost [] ys = omega arith
   levels-cost (u ∷ us) [] = omega arith
   levels-cost (u ∷ us) (y ∷ ys) = omega (arith, levels-cost us ys)

@@ -20,3 +20,4 @@ pub mod Farms
 -- Each figure of a sheet is what its record's subtree leads to.
 -- A farm's day, sent in the chunks of its log, is the log's.
 -- The theorems on log D, on a short record over a negative sum, and on sheets.
+pub mod Table

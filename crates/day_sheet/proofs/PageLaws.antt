@@ -33,7 +33,6 @@ use Rattle.day_sheet.proofs.LineLaws.{line-27, line-back, most, in-columns, stor
 use Rattle.day_sheet.specs.PageLaws.{printed}
 
 module _ (mode : ℕ) where
-
   -- A LINE FOR EACH OPENED RECORD.
   pub lines-length : (n : ℕ) (xs : List (Record Amounts)) → length (lines_from mode n xs) ≡ opened_of xs
   lines-length n [] = refl
@@ -82,7 +81,6 @@ module _ (mode : ℕ) where
   -- ---- of a log without fault
 
   module _ (u : mode_in_use mode ≡ true) {log : List ℕ} {xs : List (Record Amounts)} (w : IsWellFormed log xs) where
-
     shape : Formed xs
     shape = formed xs w.fine
 
@@ -135,7 +133,6 @@ module _ (mode : ℕ) where
     tells n l = let s = (counted-from-0 xs).some n l in tells-of s.2
 
     module _ (page : ℕ) (starts : 60 * page < opened_of xs) where
-
       page-tells : (i : ℕ) → i < length (page_lines mode page xs) → TellsOf mode xs (60 * page + i) (get_or (page_lines mode page xs) i [])
       page-tells i l = subst (TellsOf mode xs (60 * page + i)) (sym (page-line page xs i (omega (arith, page-length page xs)))) (tells (60 * page + i) (omega (arith, page-length page xs)))
 

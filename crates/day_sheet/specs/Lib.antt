@@ -4,4 +4,5 @@ pub mod Claims
 -- A line: its length, its columns, and that it reads back.
 -- The lines of a log by their records, and the pages.
 pub mod PageLaws
+
 -- What the call comes to.

@@ -8,7 +8,6 @@ use Rattle.hill.specs.Log.{Record}
 use Rattle.chunk.specs.Chunk.{figure_in}
 
 module _ (mode : ℕ) where
-
   -- The figure that is printed of the record opened at p.
   abbrev pub printed : List (Record Amounts) → (p : ℕ) → ℤ
   printed xs p = figure_in mode (drop p xs)

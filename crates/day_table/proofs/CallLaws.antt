@@ -14,21 +14,18 @@ use Rattle.day_table.proofs.LogLaws.{length_from}
 use Rattle.day_table.specs.CallLaws.{Taken}
 
 module _ (table : List ℕ) (cap : ℕ) where
-
   -- 2
   pub too_long : 38_220 < length table → write_log_outcome table cap ≡ refused 2
   unfolding write_log_outcome
   too_long h = rw (lt-leb (length table) 38_220 h)
 
   module _ (short : length table ≤ 38_220) where
-
     -- 3
     pub unreadable : eqb (length table % 14) 0 && all_could_hold (table_lines table) ≡ false → write_log_outcome table cap ≡ refused 3
     unfolding write_log_outcome
     unreadable h = rw (le-leb (length table) 38_220 short, h)
 
     module _ (readable : eqb (length table % 14) 0 && all_could_hold (table_lines table) ≡ true) where
-
       -- 13
       pub not-nested : nested (table_lines table) ≡ false → write_log_outcome table cap ≡ refused 13
       unfolding write_log_outcome

@@ -74,7 +74,7 @@ module _ {R : Type 0} (𝒜 : Algebra R) where
       let x : low (verdict b) j ≡ pass = low-snd (verdict a) (low (verdict b) j) w in
       (low-fst (verdict a) (low (verdict b) j) w, low-fst (verdict b) j x, joint-pass (end a) (start b) (low-fst (joint (end a) (start b)) (count (opened a + opened b)) (low-snd (verdict b) j x)))
 
-  pub fault-parts : (s t : Summary Fig R) → (summary_fault 𝒜) (merge_summary 𝒜 s t) ≡ pass → (summary_fault 𝒜 s ≡ pass) × (summary_fault 𝒜 t ≡ pass)
+  pub fault-parts : (s t : Summary Fig R) → summary_fault 𝒜 (merge_summary 𝒜 s t) ≡ pass → (summary_fault 𝒜 s ≡ pass) × (summary_fault 𝒜 t ≡ pass)
   fault-parts blankSummary t v = (refl, v)
   fault-parts (part a) blankSummary v = (v, refl)
   fault-parts (part a) (part b) v = let s = merge-pass a b v in (s.0, s.1)
@@ -96,7 +96,7 @@ module _ {R : Type 0} (𝒜 : Algebra R) where
   merged = in_order (merge_summary 𝒜) blankSummary
 
   module _ (ℒ : Laws 𝒜) where
-    runs-cons : (s m : Summary Fig R) (cs : List Levels) (l : ℕ) → ((l : ℕ) → (summary_fault 𝒜) m ≡ pass → Enters m l → Runs m cs l) →
+    runs-cons : (s m : Summary Fig R) (cs : List Levels) (l : ℕ) → ((l : ℕ) → summary_fault 𝒜 m ≡ pass → Enters m l → Runs m cs l) →
         (summary_fault 𝒜) (merge_summary 𝒜 s m) ≡ pass → Enters (merge_summary 𝒜 s m) l → Runs (merge_summary 𝒜 s m) (levels_of_summary s ∷ cs) l
     runs-cons blankSummary m cs l ih v e = let (f, g) = ih l v e in ((tt, f), g)
     runs-cons (part (spoilt x s t o)) m cs l ih v e = absurd (refuse-pass (fault-parts (part (spoilt x s t o)) m v).0)
@@ -106,7 +106,7 @@ module _ {R : Type 0} (𝒜 : Algebra R) where
         let (f, g) = ih (p + fall h) y (sym z) in
         (((sym (start-merge 𝒜 ℒ (whole p o h) b) ∙ e, omega arith, omega arith), f), g ∙ sym (end-merge 𝒜 ℒ (whole p o h) b))
 
-    runs : (sums : List (Summary Fig R)) (l : ℕ) → (summary_fault 𝒜) (merged sums) ≡ pass → Enters (merged sums) l → Runs (merged sums) (map levels_of_summary sums) l
+    runs : (sums : List (Summary Fig R)) (l : ℕ) → summary_fault 𝒜 (merged sums) ≡ pass → Enters (merged sums) l → Runs (merged sums) (map levels_of_summary sums) l
     runs [] l v e = (tt, refl)
     runs (s ∷ sums) l v e = runs-cons s (merged sums) (map levels_of_summary sums) l (runs sums) v e
 

@@ -12,12 +12,10 @@ use Rattle.log_records.specs.StackLaws.{OpenStack}
 use Rattle.log_records.specs.CloseFigure.{Carried}
 
 module _ {R : Type 0} (𝒜 : Algebra R) (ℒ : Laws 𝒜) (xs : List (Record R)) where
-
   open 𝒜 use {Fig, ι, ◌⊗◌, node}
-
   open ℒ use {assoc, unit-l, unit-r}
-  infixl 70 ◌⊗◌
 
+  infixl 70 ◌⊗◌
   -- ---- deeper records are passed over
 
   deeper : (d : ℕ) (x : Record R) (ys : List (Record R)) → d < depth x → held 𝒜 d (x ∷ ys) ≡ held 𝒜 d ys
@@ -37,13 +35,12 @@ module _ {R : Type 0} (𝒜 : Algebra R) (ℒ : Laws 𝒜) (xs : List (Record R)
 
   -- ---- an open
 
-  pub carried-open : (k : ℕ) (ps : List ℕ) {d : ℕ} {r : R} (h : Hill Fig R) → at xs k ≡ opening d r → d ≡ length ps → (Carried 𝒜 ℒ xs) k ps (rights h) → (Carried 𝒜 ℒ xs) (suc k) (k ∷ ps) (rights (step 𝒜 h (opening d r)))
+  pub carried-open : (k : ℕ) (ps : List ℕ) {d : ℕ} {r : R} (h : Hill Fig R) → at xs k ≡ opening d r → d ≡ length ps → Carried 𝒜 ℒ xs k ps (rights h) → Carried 𝒜 ℒ xs (suc k) (k ∷ ps) (rights (step 𝒜 h (opening d r)))
   carried-open k ps {r = r} (hill u m ds) e l c = (e ∙ ap (λ i. opening i r) l, sym (unit-l (held 𝒜 (suc (length ps)) (drop (suc k) xs))), c)
 
   -- ---- a close
 
   module _ (k p : ℕ) (ps : List ℕ) (inside : k < length xs) (w : OpenStack xs k (p ∷ ps)) (e : at xs k ≡ closing (length ps)) where
-
     -- from the record's open to its close, nothing is held at its depth
     passed_over : held 𝒜 (length ps) (drop (suc p) xs) ≡ held 𝒜 (length ps) (drop (suc k) xs)
     passed_over =
@@ -51,8 +48,7 @@ module _ {R : Type 0} (𝒜 : Algebra R) (ℒ : Laws 𝒜) (xs : List (Record R)
         ap (held 𝒜 (length ps)) (here k (closing (length ps)) inside e) ∙
         rw (ne_eqb (suc (length ps)) (length ps) (λ h. omega arith))
 
-    module _ (r : R) (h : Fig) (ds : List (R × Fig)) (c : Carried k (p ∷ ps) ((r, h) ∷ ds)) where
-
+    module _ (r : R) (h : Fig) (ds : List (R × Fig)) (c : Carried 𝒜 ℒ xs k (p ∷ ps) ((r, h) ∷ ds)) where
       all_held : held 𝒜 (suc (length ps)) (drop (suc p) xs) ≡ h
       all_held = c.1 ∙ ap (λ ys. h ⊗ held 𝒜 (suc (length ps)) ys) (here k (closing (length ps)) inside e) ∙ rw (eq-eqb (suc (length ps)) (suc (length ps)) refl) (unit-r h)
 
@@ -70,7 +66,7 @@ module _ {R : Type 0} (𝒜 : Algebra R) (ℒ : Laws 𝒜) (xs : List (Record R)
 
   -- the record below has one figure more
   joined-below : (k p : ℕ) (ps : List ℕ) (r : R) (h : Fig) (u : List Fig) (m : Fig) (ds : List (R × Fig)) → k < length xs → OpenStack xs k (p ∷ ps) → at xs k ≡ closing (length ps)
-      → (Carried 𝒜 ℒ xs) k (p ∷ ps) ((r, h) ∷ ds) → (Carried 𝒜 ℒ xs) (suc k) ps (rights (join 𝒜 (node r h) (hill u m ds)))
+      → Carried 𝒜 ℒ xs k (p ∷ ps) ((r, h) ∷ ds) → Carried 𝒜 ℒ xs (suc k) ps (rights (join 𝒜 (node r h) (hill u m ds)))
   joined-below k p [] r h u m [] i w e c = tt
   joined-below k p [] r h u m (f ∷ ds) i w e c = absurd c.2
   joined-below k p (q ∷ ps) r h u m [] i w e c = absurd c.2
@@ -78,7 +74,7 @@ module _ {R : Type 0} (𝒜 : Algebra R) (ℒ : Laws 𝒜) (xs : List (Record R)
       let t = c.2 in
       (t.0, t.1 ∙ ap (λ (a : Fig). f.1 ⊗ a) (held-here k p (q ∷ ps) i w e r h (f ∷ ds) c) ∙ sym (assoc f.1 (node r h) (held 𝒜 (suc (length ps)) (drop (suc k) xs))), t.2)
 
-  pub carried-close : (k p : ℕ) (ps : List ℕ) {d : ℕ} (h : Hill Fig R) → k < length xs → OpenStack xs k (p ∷ ps) → at xs k ≡ closing d → d ≡ length ps → (Carried 𝒜 ℒ xs) k (p ∷ ps) (rights h)
-      → (Carried 𝒜 ℒ xs) (suc k) ps (rights (step 𝒜 h (closing d)))
+  pub carried-close : (k p : ℕ) (ps : List ℕ) {d : ℕ} (h : Hill Fig R) → k < length xs → OpenStack xs k (p ∷ ps) → at xs k ≡ closing d → d ≡ length ps → Carried 𝒜 ℒ xs k (p ∷ ps) (rights h)
+      → Carried 𝒜 ℒ xs (suc k) ps (rights (step 𝒜 h (closing d)))
   carried-close k p ps (hill u m []) i w e l c = absurd c
   carried-close k p ps (hill u m (f ∷ ds)) i w e l c = joined-below k p ps f.0 f.1 u m ds i w (e ∙ ap closing l) c

@@ -13,7 +13,6 @@ use Rattle.hill.proofs.LogPlaces.{level_before, log-well-formed}
 use Rattle.log_records.specs.Formed.{Formed}
 
 module _ {R : Type 0} where
-
   pub depth-once : (log : List (Record R)) (p d e : ℕ) → OpensAt log p d → OpensAt log p e → d ≡ e
   depth-once log p d e a b = ap start_level (sym a.1 ∙ b.1)
 

@@ -9,20 +9,17 @@ use Rattle.log_records.proofs.StackLaws.{stack-start, open-level, stack-open, Le
 use Rattle.log_records.specs.OpenNumbers.{Numbered, OpenNumbers}
 
 module _ {R : Type 0} (xs : List (Record R)) where
-
-  kept : (ns : List ℕ) (i v : ℕ) (ps : List ℕ) → length ps ≤ i → (Numbered xs) ns ps → (Numbered xs) (set ns i v) ps
+  kept : (ns : List ℕ) (i v : ℕ) (ps : List ℕ) → length ps ≤ i → Numbered xs ns ps → Numbered xs (set ns i v) ps
   kept ns i v [] l h = tt
   kept ns i v (p ∷ ps) l h = (get_or-set_other ns i (length ps) v 0 (λ e. absurd (omega arith)) ∙ h.0, kept ns i v ps (omega arith) h.1)
 
   module _ (f : Formed xs) where
-
-    pub numbers-start : {n : ℕ} {ns : List ℕ} → length ns ≡ 64 → n ≡ 0 → (OpenNumbers xs) 0 n ns []
+    pub numbers-start : {n : ℕ} {ns : List ℕ} → length ns ≡ 64 → n ≡ 0 → OpenNumbers xs 0 n ns []
     numbers-start e o = record { stands = stack-start xs f; numbered = tt; size = e; counted = o }
 
-    module _ {k n : ℕ} {ns stack : List ℕ} (i : OpenNumbers k n ns stack) (inside : k < length xs) where
-
+    module _ {k n : ℕ} {ns stack : List ℕ} (i : OpenNumbers xs k n ns stack) (inside : k < length xs) where
       -- one record more is open, ..
-      pub numbers-open : {d : ℕ} → OpensAt xs k d → d ≤ 63 → (OpenNumbers xs) (suc k) (n + 1) (set ns d n) (k ∷ stack)
+      pub numbers-open : {d : ℕ} → OpensAt xs k d → d ≤ 63 → OpenNumbers xs (suc k) (n + 1) (set ns d n) (k ∷ stack)
       numbers-open {d} o low =
           let e : d ≡ length stack = open-level xs f i.stands inside o in
           record {
@@ -33,7 +30,7 @@ module _ {R : Type 0} (xs : List (Record R)) where
           }
 
       -- .. or the top of the stack is closed
-      pub numbers-close : {d : ℕ} → at xs k ≡ closing d → (g : Left xs k stack d) → (OpenNumbers xs) (suc k) n ns g.rest
+      pub numbers-close : {d : ℕ} → at xs k ≡ closing d → (g : Left xs k stack d) → OpenNumbers xs (suc k) n ns g.rest
       numbers-close {d} e g = record {
         stands = g.before;
         numbered = (subst (Numbered xs ns) g.is i.numbered).1;

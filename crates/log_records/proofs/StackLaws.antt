@@ -29,9 +29,8 @@ unwind-append [] below = refl
 unwind-append (p ∷ ps) below = unwind-append ps (p ∷ below) ∙ sym (ap (λ (l : List ℕ). l ++ below) (unwind-append ps (p ∷ [])) ∙ append_assoc (unwind ps []) (p ∷ []) below)
 
 module _ {R : Type 0} (xs : List (Record R)) where
-
   -- What is open at a deeper record that is open is open itself.
-  pub open-through : {k q p d e : ℕ} → (OpenBefore xs) q p d → (OpenBefore xs) k q e → d < e → (OpenBefore xs) k p d
+  pub open-through : {k q p d e : ℕ} → OpenBefore xs q p d → OpenBefore xs k q e → d < e → OpenBefore xs k p d
   open-through {k} {q} {p} {d} {e} u w l = record { opens = u.opens; before = omega (arith, u.before, w.before); deeper = deep }
     where
       deep : (j : ℕ) → p < j → j < k → d < depth (at xs j)
@@ -40,17 +39,15 @@ module _ {R : Type 0} (xs : List (Record R)) where
           (λ m. dite (dec_lt q j) (λ n. omega (arith, w.deeper j n b)) (λ n. let g : j ≡ q = omega arith in omega (arith, ap (λ i. depth (at xs i)) g, ap depth w.opens.1)))
 
   module _ (f : Formed xs) where
-
-    pub stack-start : (StackBefore xs) 0 []
+    pub stack-start : StackBefore xs 0 []
     stack-start = record { open-records = tt; level = λ _. ap start_level f.root.1 }
 
-    module _ {k : ℕ} {ps : List ℕ} (s : StackBefore k ps) (inside : k < length xs) where
-
+    module _ {k : ℕ} {ps : List ℕ} (s : StackBefore xs k ps) (inside : k < length xs) where
       -- an open goes on top, ..
       pub open-level : {d : ℕ} → OpensAt xs k d → d ≡ length ps
       open-level o = sym (ap start_level o.1) ∙ s.level inside
 
-      pub stack-open : {d : ℕ} → OpensAt xs k d → (StackBefore xs) (suc k) (k ∷ ps)
+      pub stack-open : {d : ℕ} → OpensAt xs k d → StackBefore xs (suc k) (k ∷ ps)
       stack-open {d} o =
           let e : d ≡ length ps = open-level o in
           record {
@@ -64,12 +61,12 @@ module _ {R : Type 0} (xs : List (Record R)) where
     pub rest : List ℕ
     pub is : ps ≡ top ∷ rest
     pub closes : d ≡ length rest
-    pub before : (StackBefore xs) (suc k) rest
+    pub before : StackBefore xs (suc k) rest
 
-  under_top : (k p : ℕ) (ps : List ℕ) → (OpenStack xs) k (p ∷ ps) → at xs k ≡ closing (length ps) → (OpenStack xs) (suc k) ps
+  under_top : (k p : ℕ) (ps : List ℕ) → OpenStack xs k (p ∷ ps) → at xs k ≡ closing (length ps) → OpenStack xs (suc k) ps
   under_top k p [] w e = tt
   under_top k p (q ∷ qs) w e =
-      let u : (OpenBefore xs) k q (length qs) = open-through w.1.0 w.0 (omega arith) in
+      let u : OpenBefore xs k q (length qs) = open-through w.1.0 w.0 (omega arith) in
       (record { opens = u.opens; before = omega (arith, u.before); deeper = λ j a b. dite (dec_lt j k) (λ l. u.deeper j a l) (λ l. let g : j ≡ k = omega arith in omega (arith, ap (λ i. depth (at xs i)) g, ap depth e)) }, w.1.1)
 
   ended-low : (x : Record R) → end_level x ≡ 0 → depth x ≡ 0
@@ -77,8 +74,7 @@ module _ {R : Type 0} (xs : List (Record R)) where
   ended-low (closing c) e = e
 
   module _ (f : Formed xs) where
-
-    pub stack-close : {k : ℕ} (ps : List ℕ) (s : (StackBefore xs) k ps) (inside : k < length xs) {d : ℕ} → at xs k ≡ closing d → Left k ps d
+    pub stack-close : {k : ℕ} (ps : List ℕ) (s : StackBefore xs k ps) (inside : k < length xs) {d : ℕ} → at xs k ≡ closing d → Left k ps d
     stack-close {k} [] s inside {d} e = absurd (omega (arith, s.level inside, ap start_level e))
     stack-close {k} (p ∷ ps) s inside {d} e =
         let g : d ≡ length ps = omega (arith, s.level inside, ap start_level e) in
@@ -91,7 +87,7 @@ module _ {R : Type 0} (xs : List (Record R)) where
         }
 
     -- at the end of the log none is open
-    pub stack-end : {k : ℕ} (ps : List ℕ) → (StackBefore xs) k ps → length xs ≤ k → ps ≡ []
+    pub stack-end : {k : ℕ} (ps : List ℕ) → StackBefore xs k ps → length xs ≤ k → ps ≡ []
     stack-end [] s all = refl
     stack-end {k} (p ∷ ps) s all =
         let w = s.open-records.0 in
@@ -100,7 +96,7 @@ module _ {R : Type 0} (xs : List (Record R)) where
         ⊎_elim (λ (g : suc p ≡ length xs). absurd (omega (arith, f.closed p g, ap end_level w.opens.1)))
         (λ g. absurd (omega (arith, w.deeper l (omega arith) (omega arith), ended-low (at xs l) (f.closed l (omega arith))))) (eq-or-lt_of_le i)
 
-  leaf-alone : {p d : ℕ} → (Leaf xs) p d → (q e : ℕ) → Holds xs p q e → ⊥
+  leaf-alone : {p d : ℕ} → Leaf xs p d → (q e : ℕ) → Holds xs p q e → ⊥
   leaf-alone {p} {d} l q e h =
       let g : e ≡ d = ap start_level (sym h.holder.1 ∙ l.opens.1) in
       let c : ClosedBy xs p (suc p) e = record { order = omega arith; inside = l.inside; opened = h.holder; closed = l.closes ∙ ap closing (sym g); first = λ k a b. absurd (omega arith) } in
@@ -110,7 +106,7 @@ module _ {R : Type 0} (xs : List (Record R)) where
   next-opens (opening c r) d e = inr (r, ap (λ k. opening k r) e)
   next-opens (closing c) d e = inl (ap closing (omega arith))
 
-  alone-leaf : (f : Formed xs) {p d : ℕ} → OpensAt xs p d → ((q e : ℕ) → Holds xs p q e → ⊥) → (Leaf xs) p d
+  alone-leaf : (f : Formed xs) {p d : ℕ} → OpensAt xs p d → ((q e : ℕ) → Holds xs p q e → ⊥) → Leaf xs p d
   alone-leaf f {p} {d} o none =
       let i : p < length xs = opens-inside xs p d o in
       let l : suc p < length xs = ⊎_elim (λ (g : suc p ≡ length xs). absurd (omega (arith, f.closed p g, ap end_level o.1))) (λ g. g) (eq-or-lt_of_le i) in
@@ -124,7 +120,7 @@ module _ {R : Type 0} (xs : List (Record R)) where
 
   -- ---- a stack is a chain from the root
 
-  pub open-holds : {q p d : ℕ} → (OpenBefore xs) q p d → OpensAt xs q (suc d) → Holds xs p q d
+  pub open-holds : {q p d : ℕ} → OpenBefore xs q p d → OpensAt xs q (suc d) → Holds xs p q d
   open-holds {q} {p} {d} w o = record {
     holder = w.opens;
     held = o;
@@ -135,7 +131,6 @@ module _ {R : Type 0} (xs : List (Record R)) where
   }
 
 module _ (xs : List (Record Amounts)) where
-
   -- From the root on: the records of a stack, and what follows below it.
   record Unwound (ps : List ℕ) (q : ℕ) (below : List ℕ) : Type 0 where
     pub rest : List ℕ
@@ -151,7 +146,6 @@ module _ (xs : List (Record Amounts)) where
   sum_one v t = ap (λ (z : ℤ). z +ℤ t) (sym (+ℤ_idr v))
 
   module _ (f : Formed xs) where
-
     unwound : (ps : List ℕ) (q : ℕ) (below : List ℕ) → OpenStack xs q ps → OpensAt xs q (length ps) → Chain xs q below → Unwound ps q below
     unwound [] zero below w o c = record { rest = below; is = refl; chain = c; ends = refl; adds = sum_one (record_value xs 0) (sum_of xs below) }
     unwound [] (suc q) below w o c = absurd (omega (arith, f.raised (suc q) (omega arith) (opens-inside xs (suc q) 0 o), ap start_level o.1))
@@ -192,7 +186,7 @@ module _ (xs : List (Record Amounts)) where
     less-not t s b e h k = omega (zed, e, h, k)
 
     -- THE FIRST HEAVIEST END is that of the line.
-    pub first-heaviest : (q d : ℕ) (ps : List ℕ) → Leaf xs q d → OpenStack xs q ps → OpensAt xs q (length ps) → ((r e : ℕ) → Leaf xs r e → (Lighter xs) r q (sum_of xs (q ∷ ps))) → q ≡ heaviest-end
+    pub first-heaviest : (q d : ℕ) (ps : List ℕ) → Leaf xs q d → OpenStack xs q ps → OpensAt xs q (length ps) → ((r e : ℕ) → Leaf xs r e → Lighter xs r q (sum_of xs (q ∷ ps))) → q ≡ heaviest-end
     unfolding heaviest-end
     first-heaviest q d ps l w o lighter =
         let a = line-earliest xs f in

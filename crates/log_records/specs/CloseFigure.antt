@@ -6,12 +6,10 @@ use Rattle.hill.specs.Closing.{at}
 use Rattle.hill.specs.Figure.{held}
 
 module _ {R : Type 0} (𝒜 : Algebra R) (ℒ : Laws 𝒜) (xs : List (Record R)) where
-
   open 𝒜 use {Fig, ι, ◌⊗◌, node}
-
   open ℒ use {assoc, unit-l, unit-r}
-  infixl 70 ◌⊗◌
 
+  infixl 70 ◌⊗◌
   -- Of each open record, deepest first: what it carries, and that what it holds is what the pass has of it so far, and then what is held from the next place on.
   -- For the deepest that is place k; for another, the place where the next one of the stack is opened.
   abbrev pub Carried : (k : ℕ) (ps : List ℕ) (ds : List (R × Fig)) → Type 0

@@ -9,4 +9,5 @@ pub mod Formed
 pub mod StackLaws
 pub mod OpenNumbers
 pub mod CloseFigure
+
 -- What the call comes to.

@@ -6,7 +6,6 @@ use Rattle.log_records.specs.Numbers.{number_at}
 use Rattle.log_records.specs.StackLaws.{StackBefore}
 
 module _ {R : Type 0} (xs : List (Record R)) where
-
   -- The number of each open record stands at its depth.
   abbrev pub Numbered : (ns stack : List ℕ) → Type 0
   Numbered ns [] = Unit {0}

@@ -12,7 +12,6 @@ unwind [] below = below
 unwind (p ∷ ps) below = unwind ps (p ∷ below)
 
 module _ {R : Type 0} (xs : List (Record R)) where
-
   -- The record opened at p, of depth d, is open before place k: what stands between is deeper.
   pub record OpenBefore (k p d : ℕ) : Type 0 where
     pub opens : OpensAt xs p d
@@ -39,7 +38,6 @@ module _ {R : Type 0} (xs : List (Record R)) where
     pub inside : suc p < length xs
 
 module _ (xs : List (Record Amounts)) where
-
   -- The values down to the end r, beside those down to the end q, which add to s: not heavier, and lighter if r comes before.
   pub record Lighter (r q : ℕ) (s : ℤ) : Type 0 where
     pub stack : List ℕ

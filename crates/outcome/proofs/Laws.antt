@@ -22,7 +22,6 @@ use Rattle.outcome.specs.Laws.{AllIn}
 -- ---- one question after another
 
 module _ (ps : List (List ℕ)) where
-
   pub ask-4 : two_to64 ps ≡ false → ask_row ps ≡ refused 4
   unfolding ask_row
   ask-4 a = rw a
@@ -54,7 +53,6 @@ unfolding two_to64
 too_few ps a = rw (lt-leb 2 (length ps) a)
 
 module _ (m : ℕ) where
-
   pub all-summaries : (ps : List (List ℕ)) → AllIn m ps → all_summaries ps ≡ true
   all-summaries [] a = refl
   all-summaries (p ∷ ps) a = rw ((decide-summary p).to a.0.is, all-summaries ps a.1)
@@ -96,7 +94,6 @@ module _ (m : ℕ) where
   AllAccepted ss = ValidRow (mode_of m).algebra (mode_of m).sizes ss
 
   module _ (u : mode_in_use m ≡ true) where
-
     pub encoded-all : (ss : List (SummaryIn m)) → AllAccepted ss → AllIn m (map (encode m) ss)
     encoded-all [] a = tt
     encoded-all (s ∷ ss) a = (encoded m u s a.0, encoded-all ss a.1)
@@ -106,7 +103,6 @@ module _ (m : ℕ) where
     decoded-all (s ∷ ss) a = rw (decode-encode m u s a.0, decoded-all ss a.1)
 
     module _ (ss : List (SummaryIn m)) (a : AllAccepted ss) (l : 2 ≤ length ss) (h : length ss ≤ 64) where
-
       abbrev these : Summaries
       these = record { mode = m; row = ss }
 

@@ -1,5 +1,7 @@
 // What each call on a row, and the day's figures and its line, come to, as definitions over bytes: theory. It all stands in specs/, but for what more than one crate
 // gives or asks.
+#![tactic(auto)]
+
 ghost use Rattle.std.specs.Prelude.{◌≡◌};
 ghost use Rattle.outcome.specs.Outcomes.{has_fourth, run_length};
 

@@ -45,7 +45,7 @@ module _ {R : Type 0} (𝒜 : Algebra R) where
   depths-closed (part (spoilt f s e o)) d x = absurd x
   depths-closed (part (whole p o h)) d x = x
 
-  pub line-spans : (row : List (Summary Fig R)) (e : Line) → Memᴰ e (plan_of_row row) → (Spans 𝒜) row e
+  pub line-spans : (row : List (Summary Fig R)) (e : Line) → Memᴰ e (plan_of_row row) → Spans 𝒜 row e
   line-spans row e m = record {
     before = range.0;
     inside = omega (arith, range.1, length-map row levels_of_summary);
@@ -77,7 +77,7 @@ module _ {R : Type 0} (𝒜 : Algebra R) where
   pub run_length_lem : (row : List (Summary Fig R)) (e : Line) → Memᴰ e (plan_of_row row) → (e.lowest ≤ e.highest) × (length (run_levels 𝒜 row e) ≡ suc e.highest - e.lowest)
   unfolding run_levels
   run_length_lem row e m =
-      let r : (Spans 𝒜) row e = line-spans row e m in (
+      let r : Spans 𝒜 row e = line-spans row e m in (
         r.some,
         levels-length (peak_of_summary 𝒜 (summary_at 𝒜 row e.i)) (slopes_of 𝒜 (summary_at 𝒜 row e.i)) (peak_of_summary 𝒜 (summary_at 𝒜 row e.j)) (slopes_of 𝒜 (summary_at 𝒜 row e.j))
             e.lowest (suc e.highest - e.lowest) r.open-from (omega (arith, r.open-to, r.some)),

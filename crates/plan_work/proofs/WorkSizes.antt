@@ -61,12 +61,12 @@ module _ {R : Type 0} (𝒜 : Algebra R) {Fine : R → Type 0} (𝒮 : Sizes �
   gives_size i j l d = cond-size (leb i d.line.i && leb d.line.j j && eqb d.line.lowest l) d.out
 
   -- .. and what they give so far.
-  pub outs-size : (B i j l : ℕ) (ds : List (Done Fig)) → (AllLight 𝒜 𝒮) B ds → size (outcomes_at 𝒜 i j l ds) ≤ length ds * B
+  pub outs-size : (B i j l : ℕ) (ds : List (Done Fig)) → AllLight 𝒜 𝒮 B ds → size (outcomes_at 𝒜 i j l ds) ≤ length ds * B
   outs-size B i j l [] a = rw (outs-nil 𝒜 i j l) (omega (arith, size-ι))
   outs-size B i j l (d ∷ ds) a =
       rw (outs-cons 𝒜 i j l d ds) (omega (arith, size-⊗ (gives 𝒜 i j l d) (outcomes_at 𝒜 i j l ds), gives_size i j l d, a.0, outs-size B i j l ds a.1))
 
-  pub outs-many : (B i j l : ℕ) (ds : List (Done Fig)) → (AllLight 𝒜 𝒮) B ds → length ds ≤ 128 → size (outcomes_at 𝒜 i j l ds) ≤ 128 * B
+  pub outs-many : (B i j l : ℕ) (ds : List (Done Fig)) → AllLight 𝒜 𝒮 B ds → length ds ≤ 128 → size (outcomes_at 𝒜 i j l ds) ≤ 128 * B
   outs-many B i j l ds a n = omega (arith, outs-size B i j l ds a, mul-le-mul {n₁ = length ds} {m₁ = B} {n₂ = 128} {m₂ = B} n (le_refl B))
 
   module _ (row : List (Summary Fig R)) where
@@ -75,7 +75,7 @@ module _ {R : Type 0} (𝒜 : Algebra R) {Fine : R → Type 0} (𝒮 : Sizes �
     worked-length (e ∷ es) ds = rw (worked-cons 𝒜 row e es ds) (worked-length es (work 𝒜 row e ds ∷ ds) ∙ omega arith)
 
     -- The outcomes of later lines stand before those of earlier ones.
-    light-before : (B : ℕ) (es : List Line) (ds : List (Done Fig)) → (AllLight 𝒜 𝒮) B (worked 𝒜 row es ds) → (AllLight 𝒜 𝒮) B ds
+    light-before : (B : ℕ) (es : List Line) (ds : List (Done Fig)) → AllLight 𝒜 𝒮 B (worked 𝒜 row es ds) → AllLight 𝒜 𝒮 B ds
     light-before B [] ds a = subst (AllLight 𝒜 𝒮 B) (worked-nil 𝒜 row ds) a
     light-before B (e ∷ es) ds a = (light-before B es (work 𝒜 row e ds ∷ ds) (subst (AllLight 𝒜 𝒮 B) (worked-cons 𝒜 row e es ds) a)).1
 
@@ -197,7 +197,7 @@ module _ {R : Type 0} (𝒜 : Algebra R) {Fine : R → Type 0} (𝒮 : Sizes �
           hill-light e.j,
         )
 
-    pub given-light : (e : Line) (ds : List (Done Fig)) → (AllLight 𝒜 𝒮) (load 𝒜 𝒮 row) ds → length ds ≤ 128 → size (given 𝒜 row e ds) ≤ 129 * (load 𝒜 𝒮) row
+    pub given-light : (e : Line) (ds : List (Done Fig)) → AllLight 𝒜 𝒮 (load 𝒜 𝒮 row) ds → length ds ≤ 128 → size (given 𝒜 row e ds) ≤ 129 * (load 𝒜 𝒮) row
     unfolding given
     given-light e ds a n =
         omega (
@@ -268,26 +268,26 @@ module _ {R : Type 0} (𝒜 : Algebra R) {Fine : R → Type 0} (𝒮 : Sizes �
             none : (lo ≤ level 𝒜 row n → ⊥) → size (got 𝒜 row n lo) ≤ (load 𝒜 𝒮) row
             none b = let e : level 𝒜 row n - lo ≡ 0 = omega arith in rw (e, fold-zero _ lo ι) (omega (arith, size-ι))
 
-        ok-light : (n : ℕ) (ds : List (Done Fig)) → Ok 𝒜 row n ds → (AllLight 𝒜 𝒮) (load 𝒜 𝒮 row) ds
+        ok-light : (n : ℕ) (ds : List (Done Fig)) → Ok 𝒜 row n ds → AllLight 𝒜 𝒮 (load 𝒜 𝒮 row) ds
         ok-light n [] o = tt
         ok-light n (d ∷ ds) o = (rw o.3 (got-light d.line.j d.line.lowest o.2), ok-light n ds o.4)
 
       module _ (comm : Commutative 𝒜) (passes : row_fault row ≡ pass) where
         -- With a unit of at most 10^9, 130 times the load fits 64 bits many times over.
-        pub load_fits : unit ≤ 1000000000 → (load 𝒜 𝒮) row ≤ 100000000000000
+        pub load_fits : unit ≤ 1000000000 → load 𝒜 𝒮 row ≤ 100000000000000
         load_fits u = mul-le-mul {n₁ = unit} {m₁ = total_opened (parts_of row)} {n₂ = 1000000000} {m₂ = 100000} u (parts-few (parts_of row) passes)
 
         -- EACH OUTCOME of the plan weighs no more than all that the row opened: also with the later lines still to come.
-        all-light : (AllLight 𝒜 𝒮) (load 𝒜 𝒮 row) (worked 𝒜 row (plan_of_row row) [])
+        all-light : AllLight 𝒜 𝒮 (load 𝒜 𝒮 row) (worked 𝒜 row (plan_of_row row) [])
         all-light =
             rw (plan-row 𝒜 row)
             (ok-light (row-begins row passes) (length row) (done 𝒜 ℒ comm row (row-begins row passes) (length row)) (all-got 𝒜 ℒ comm row (row-begins row passes) (length row)))
 
-        later-light : (es fs : List Line) → es ++ fs ≡ plan_of_row row → (AllLight 𝒜 𝒮) (load 𝒜 𝒮 row) (worked 𝒜 row fs (worked 𝒜 row es []))
+        later-light : (es fs : List Line) → es ++ fs ≡ plan_of_row row → AllLight 𝒜 𝒮 (load 𝒜 𝒮 row) (worked 𝒜 row fs (worked 𝒜 row es []))
         later-light es fs k = subst (AllLight 𝒜 𝒮 (load 𝒜 𝒮 row)) (ap (λ (ls : List Line). worked 𝒜 row ls []) (sym k) ∙ worked-append 𝒜 row es fs []) all-light
 
         -- For the loop over the lines, at the line e after the lines es.
-        pub line-light : (es fs : List Line) (e : Line) → es ++ (e ∷ fs) ≡ plan_of_row row → length es ≤ 128 → (LineLight 𝒜 𝒮) row e (worked 𝒜 row es [])
+        pub line-light : (es fs : List Line) (e : Line) → es ++ (e ∷ fs) ≡ plan_of_row row → length es ≤ 128 → LineLight 𝒜 𝒮 row e (worked 𝒜 row es [])
         line-light es fs e k n = record {
           spans = spans;
           outs = outs.1;
@@ -307,7 +307,7 @@ module _ {R : Type 0} (𝒜 : Algebra R) {Fine : R → Type 0} (𝒮 : Sizes �
                 among [] = Memᴰ.head refl
                 among (d ∷ es) = Memᴰ.tail (among es)
 
-            outs : (AllLight 𝒜 𝒮) (load 𝒜 𝒮 row) (work 𝒜 row e ds ∷ ds)
+            outs : AllLight 𝒜 𝒮 (load 𝒜 𝒮 row) (work 𝒜 row e ds ∷ ds)
             outs = light-before row (load 𝒜 𝒮 row) fs (work 𝒜 row e ds ∷ ds) (subst (AllLight 𝒜 𝒮 (load 𝒜 𝒮 row)) (worked-cons 𝒜 row e fs ds) (later-light es (e ∷ fs) k))
 
             x-light : size (given 𝒜 row e ds) ≤ 129 * (load 𝒜 𝒮) row

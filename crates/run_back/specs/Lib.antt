@@ -4,6 +4,7 @@ pub mod Decide
 pub mod Inverse
 pub mod Backwards
 pub mod Claims
+
 -- The test tells which bytes are a run.
 -- What a run does is what figure/Run says.
 -- The way back leads to y, and nothing else does.

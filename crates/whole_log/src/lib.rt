@@ -1,4 +1,6 @@
 // A pass over records: the one tally that every pass keeps that judges them, of levels, faults and opened records, and the gate on a whole log.
+#![tactic(auto)]
+
 ghost use Rattle.std.specs.Prelude.{◌≡◌, List, [], ◌∷◌, ◌++◌, ◌≤◌, eqb};
 ghost use Rattle.hill.specs.Verdict.{low, ask as asking};
 ghost use Rattle.hill.specs.Log.{Record, start_level, end_level, opens as opened_by};
@@ -12,7 +14,7 @@ use record::{Fields, Read};
 
 // What a pass over records keeps beside what it computes: whether there was one, the start level, the level reached, the lowest of faults 7 and 8, and
 // the opened records.
-#[derive(Drop)]
+#[derive(Clone, Copy)]
 pub struct Tally {
     pub begun: bool,
     pub start: u16,
