@@ -1,3 +1,4 @@
+-- The three numbers are the front, one after the other.
 use Rattle.emit.specs.WriteLaws.{front-stores}
 use Rattle.emit.proofs.bytes.put_front.Goals as goal
 

@@ -1,3 +1,4 @@
+-- The four numbers are the levels, one after the other.
 use Rattle.emit.specs.WriteLaws.{level-stores}
 use Rattle.emit.proofs.bytes.put_levels.Goals as goal
 

@@ -1,3 +1,4 @@
+-- The front is the whole summary.
 use Rattle.emit.specs.WriteLaws.{blank-written}
 use Rattle.emit.proofs.bytes.write_blank.Goals as goal
 
