@@ -1,4 +1,4 @@
--- `judge::held_in` meets its contract: by the mode.
+-- By the mode.
 use mathlib.Core.Path.{sym, ap, ◌∙◌}
 use mir.Facts.{to_z-of_z}
 use Rattle.figure.specs.FourModes.{read_held}
