@@ -1,4 +1,6 @@
 // Questions 4 to 11 of a row, and what is noted of its pieces then, in arrays.
+#![tactic(auto)]
+
 ghost use Rattle.row_gate.specs.Asks.{Finds};
 
 use ask::{Asked, ask};
