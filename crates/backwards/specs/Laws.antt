@@ -17,10 +17,10 @@ use Rattle.summary.specs.Decide.{layout_fits}
 use Rattle.summary.proofs.DecideLaws.{tells-layout}
 use Rattle.outcome.specs.Outcomes.{run_length}
 use Rattle.outcome.proofs.RunLaws.{length-least}
-use Rattle.run_back.specs.Judge.{run_at, Near, RunNumbers, IsRunBytes}
+use Rattle.run_back.specs.Judge.{run_at, RunNumbers, IsRunBytes}
 use Rattle.run_back.specs.Decide.{near, net_fits, heaviest_fits, stamp_fits, eaten_fits, numbers_fit, is_run_bytes}
 use Rattle.run_back.specs.Backwards.{back_net, back_stamp, inner_of}
-use Rattle.run_back.proofs.DecideLaws.{tells-near, decide-run}
+use Rattle.run_back.proofs.DecideLaws.{decide-run}
 use Rattle.run_back.proofs.ForwardLaws.{stamp-num}
 
 -- ---- the numbers, by the mode

@@ -1,4 +1,6 @@
 // The call that goes backwards through a run: from an outer figure to the one inner figure that leads to it. Document 02, L6, questions 15 to 17.
+#![tactic(auto)]
+
 ghost use Rattle.std.specs.Prelude.{◌≡◌, length};
 ghost use Rattle.gate.specs.Outcome.{question, granted};
 ghost use Rattle.gate.specs.Answers.{finished_answer};

@@ -10,7 +10,7 @@ use Rattle.judge.specs.declared.Head.TheVariants.{Blank, Spoilt, Hill}
 use Rattle.judge.specs.Judged.{held_in}
 use Rattle.hill.specs.Verdict.{Verdict, pass, refuse, low, joint, count}
 use Rattle.hill.proofs.VerdictLaws.{low-fst, low-snd, joint-pass, refuse-pass}
-use Rattle.hill.specs.Summary.{Hill as HillOf, Part, blank, part, spoilt, whole, rise, fall, start, end, opened, verdict, peak, slopes}
+use Rattle.hill.specs.Summary.{Hill as HillOf, Part, blank, part, spoilt, whole, rise, fall, start, end, opened, verdict, slopes}
 use Rattle.hill.specs.Building.{merge}
 use Rattle.hill.proofs.Building.{merge-empty, empty-merge}
 use Rattle.hill.specs.Merge.{merge_summary}

@@ -1,4 +1,6 @@
 // One level of a run, read straight from the bytes of a row. Each caller shows that the pieces are hills with that level.
+#![tactic(auto)]
+
 ghost use Rattle.std.specs.Prelude.{◌≡◌, ◌+◌, ◌≤◌, ◌<◌, length};
 ghost use Rattle.run_level.specs.Levels.{Begun, Reads, piece_of, level_at, level_in, place_in};
 

@@ -1,4 +1,6 @@
 // The day table: the log written from it, and the table of a log.
+#![tactic(auto)]
+
 ghost use Rattle.std.specs.Prelude.{◌≡◌, List, length};
 ghost use Rattle.gate.specs.Outcome.{written, buffer_after};
 ghost use Rattle.gate.specs.Answers.{written_answer, length_answered};
