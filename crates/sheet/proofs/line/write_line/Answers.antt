@@ -1,4 +1,4 @@
--- `sheet::line::write_line` meets its contract: three columns, one after another, are the line. Assumes nothing.
+-- Three columns, one after another, are the line.
 use mathlib.Core.Path.{◌≡◌, ap, ◌∙◌}
 use mathlib.Core.List.{List, [], ◌∷◌, ◌++◌, append_assoc}
 use Prim.Native.Nat.{ℕ, ◌+◌, ◌^◌, ◌<◌}
@@ -15,9 +15,7 @@ use Rattle.text.specs.Columns.{right_aligned}
 use Rattle.text.proofs.ColumnLaws.{length-aligned}
 use Rattle.day_sheet.specs.Sheet.{sheet_line}
 use Rattle.day_sheet.specs.Claims.{InColumns}
-use borrow.Author.Rules.{rules}
-use Rattle.sheet.proofs.line.write_line.Statement.{statement}
-use Rattle.sheet.proofs.line.write_line.Tie as tie
+use Rattle.sheet.proofs.line.write_line.Goals as goal
 
 -- the text of a number that is not negative, as a local holds it
 plain : (n : ℕ) → n < 2 ^ 63 → decimal_of (to_z w64 n) ≡ digits_of n
@@ -50,53 +48,18 @@ module _ (n d : ℕ) (z : ℤ) (c : InColumns n d z) (o : List ℕ) (at : ℕ) w
   unfolding first second third
   columns ea eb ef e₁ e₂ e₃ = rw (e₃, e₂, e₁, ea, eb, ef) three-columns
 
-cast-write-column : tie.Need-overflow-cast-write-column
-cast-write-column c = search rules
+pub write_column-requires : goal.write_column-requires
+write_column-requires c =
+    (omega (arith, ap length (plain c.args.number (omega arith)), c.requires.in_columns.number_fits), omega (arith, c.requires.at_in_bounds))
 
-write-column-requires : tie.Need-write-column-requires
-write-column-requires c κs =
-    let a = c.before.before in
-    (omega (arith, ap length (plain a.args.number (omega arith)), a.requires.0.number_fits), omega (arith, a.requires.1))
+pub write_column-requires-2 : goal.write_column-requires-2
+write_column-requires-2 c =
+    (omega (arith, ap length (plain c.args.depth (omega arith)), c.requires.in_columns.depth-fits), omega (arith, c.requires.at_in_bounds, c.write_column.auto.out))
 
-add-write-column : tie.Need-overflow-add-write-column
-add-write-column c = search rules
-
-cast-write-column-2 : tie.Need-overflow-cast-write-column-2
-cast-write-column-2 c = search rules
-
-write-column-requires-2 : tie.Need-write-column-requires-2
-write-column-requires-2 c κs =
-    let a = c.before.before.before.before.before.before in
-    (omega (arith, ap length (plain a.args.depth (omega arith)), a.requires.0.depth-fits), omega (arith, a.requires.1, c.before.before.before.write-column.auto.0))
-
-add-write-column-2 : tie.Need-overflow-add-write-column-2
-add-write-column-2 c = search rules
-
-write-column-requires-3 : tie.Need-write-column-requires-3
-write-column-requires-3 c κs = search rules
-
-same_length : tie.Need-same-length
-same_length c = search rules
-
-returns : tie.Need-returns
+pub returns : goal.returns
 returns c =
-    let a = c.before.before.before.before.before.before.before.before.before.before.before.before.before in
-    columns a.args.number a.args.depth a.args.figure a.requires.0 a.args.out.now a.args.at
-    (plain a.args.number (omega arith)) (plain a.args.depth (omega arith)) (ap decimal_of (to_z-of_z a.ranges.figure))
-    c.before.before.before.before.before.before.before.before.before.before.write-column.ensures
-    c.before.before.before.before.before.before.write-column2.ensures
-    c.before.before.write-column3.ensures
-
-pub write-line-spec : {M : Type 1} → statement M
-write-line-spec =
-    tie.close
-    (tie.spec
-    cast-write-column
-    write-column-requires
-    add-write-column
-    cast-write-column-2
-    write-column-requires-2
-    add-write-column-2
-    write-column-requires-3
-    same_length
-    returns)
+    columns c.args.number c.args.depth c.args.figure c.requires.in_columns c.args.out.now c.args.at
+    (plain c.args.number (omega arith)) (plain c.args.depth (omega arith)) (ap decimal_of (to_z-of_z c.ranges.figure))
+    c.write_column.ensures
+    c.write_column-2.ensures
+    c.write_column-3.ensures
