@@ -9,7 +9,7 @@ use Rattle.record.proofs.Handed as handed
 use Rattle.record.proofs.Handed.{Handed}
 use Rattle.record.specs.declared.Fields.{Fields}
 use Rattle.hill.specs.Verdict.{pass}
-use Rattle.hill.specs.Log.{Record, opening, closing, depth, start_level, end_of, peak_of, opens, opened_of, joints, fault_of}
+use Rattle.hill.specs.Log.{Record, opening, closing, start_level, end_of, peak_of, opens, opened_of, joints, fault_of}
 use Rattle.hill.specs.Summary.{Hill, whole, rise, fall, start, end, part_of}
 use Rattle.hill.specs.Building.{empty, step, hill_of}
 use Rattle.hill.proofs.Building.{run-append}

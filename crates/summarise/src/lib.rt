@@ -1,4 +1,6 @@
 // Summarising a chunk in a mode: questions 1, 2, 3 and 12. Document 01, "Summaries".
+#![tactic(auto)]
+
 ghost use Rattle.std.specs.Prelude.{◌≡◌, List, ◌≤◌, length};
 ghost use Rattle.hill.specs.Log.{Record};
 ghost use Rattle.hill.specs.Summary.{summary_of};
