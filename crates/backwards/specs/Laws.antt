@@ -8,10 +8,10 @@ use Rattle.std.specs.Int.{w64}
 use Rattle.gate.specs.Outcome.{granted, refused, question}
 use Rattle.number.specs.Bytes.{le_at, i64_at}
 use Rattle.number.specs.IntegerLaws.{canon, neg-law, abs-law, abs-+}
-use Rattle.figure.specs.FourModes.{read_stamp, is_stamp}
-use Rattle.figure.specs.Run.{read_stamp_run}
-use Rattle.figure.specs.StoreLaws.{is-stamp, stored-range}
-use Rattle.figure.specs.declared.Run.{Run}
+use Rattle.modes.specs.FourModes.{read_stamp, is_stamp}
+use Rattle.modes.specs.Run.{read_stamp_run}
+use Rattle.modes.proofs.StoreLaws.{is-stamp, stored-range}
+use Rattle.modes.specs.declared.Run.{Run}
 use Rattle.summary.specs.Judge.{mode_at}
 use Rattle.summary.specs.Decide.{layout_fits}
 use Rattle.summary.proofs.DecideLaws.{tells-layout}

@@ -2,7 +2,7 @@
 #![tactic(auto)]
 
 ghost use Rattle.std.specs.Prelude.{◌≡◌, List};
-ghost use Rattle.figure.specs.FourModes.{Amounts};
+ghost use Rattle.modes.specs.FourModes.{Amounts};
 ghost use Rattle.hill.specs.Log.{Record};
 ghost use Rattle.chunk.specs.Chunk.{IsWellFormed};
 ghost use Rattle.chunk.specs.Laws.{IsLog};

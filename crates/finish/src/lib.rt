@@ -4,7 +4,7 @@
 ghost use Rattle.std.specs.Prelude.{◌≡◌};
 ghost use Rattle.hill.specs.Verdict.{ends};
 ghost use Rattle.hill.specs.Finish.{outcome};
-ghost use Rattle.figure.specs.FourModes.{store_held};
+ghost use Rattle.modes.specs.FourModes.{store_held};
 ghost use Rattle.gate.specs.Answers.{finished_answer};
 ghost use Rattle.summary.specs.Outcomes.{finish_outcome};
 

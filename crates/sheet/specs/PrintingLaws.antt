@@ -13,7 +13,7 @@ use Rattle.gate.specs.Outcome.{granted, buffer_after}
 use Rattle.record.specs.Record.{read_of}
 use Rattle.record.proofs.Laws.{sound}
 use Rattle.record.specs.declared.Fields.{Fields}
-use Rattle.figure.specs.FourModes.{Amounts, InRange}
+use Rattle.modes.specs.FourModes.{Amounts, InRange}
 use Rattle.figure.specs.Mode.{mode_of}
 use Rattle.figure.specs.Stored.{none, amounts, passed}
 use Rattle.hill.specs.Log.{Record, opening, closing, opened_of}

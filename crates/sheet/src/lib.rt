@@ -6,7 +6,7 @@ ghost use Rattle.std.specs.Prelude.{◌≡◌, true, List, ◌-◌, ◌<◌, min
 ghost use Rattle.gate.specs.Outcome.{buffer_after};
 ghost use Rattle.gate.specs.Answers.{written_answer, length_answered};
 ghost use Rattle.gate.specs.Promises.{Answers};
-ghost use Rattle.figure.specs.FourModes.{Amounts};
+ghost use Rattle.modes.specs.FourModes.{Amounts};
 ghost use Rattle.figure.specs.Mode.{mode_in_use};
 ghost use Rattle.hill.specs.Log.{Record};
 ghost use Rattle.whole_log.specs.AskLaws.{Opens};

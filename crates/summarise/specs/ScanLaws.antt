@@ -18,7 +18,7 @@ use Rattle.hill.proofs.VerdictLaws.{count-few}
 use Rattle.hill.proofs.SummaryLaws.{part_of-built, levels}
 use Rattle.hill.specs.Valid.{Readable, AllReadable}
 use Rattle.hill.proofs.ValidLaws.{readable-append}
-use Rattle.figure.specs.FourModes.{Amounts, InRange}
+use Rattle.modes.specs.FourModes.{Amounts, InRange}
 use Rattle.figure.specs.Mode.{Mode}
 use Rattle.figure.specs.Stored.{amounts, none}
 use Rattle.fault.specs.Fault.{no_fault}

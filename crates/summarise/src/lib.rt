@@ -4,7 +4,7 @@
 ghost use Rattle.std.specs.Prelude.{◌≡◌, List, ◌≤◌, length};
 ghost use Rattle.hill.specs.Log.{Record};
 ghost use Rattle.hill.specs.Summary.{summary_of};
-ghost use Rattle.figure.specs.FourModes.{Amounts};
+ghost use Rattle.modes.specs.FourModes.{Amounts};
 ghost use Rattle.figure.specs.Mode.{mode_of};
 ghost use Rattle.gate.specs.Outcome.{buffer_after, written};
 ghost use Rattle.gate.specs.Answers.{written_answer, length_answered};

@@ -1,7 +1,7 @@
 use Rattle.std.proofs.Common.{◌≡◌, ℕ, ◌+◌, ◌%◌, ◌^◌, true, sym, refl, ap, ◌∙◌, to_z-of_z, w64, rules}
 use Rattle.number.specs.Word.{back}
-use Rattle.figure.specs.FourModes.{is_stamp, read_stamp}
-use Rattle.figure.specs.Run.{read_stamp_run}
+use Rattle.modes.specs.FourModes.{is_stamp, read_stamp}
+use Rattle.modes.specs.Run.{read_stamp_run}
 use Rattle.figure.specs.Mode.{mode_of}
 use Rattle.run_back.specs.Inverse.{inverse}
 use Rattle.run_back.proofs.WayLaws.{back_is}

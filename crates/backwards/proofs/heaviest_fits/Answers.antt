@@ -1,6 +1,6 @@
 use Rattle.std.proofs.Common.{◌∙◌, w64, rules}
 use Rattle.number.specs.Word.{back}
-use Rattle.figure.specs.FourModes.{store_held}
+use Rattle.modes.specs.FourModes.{store_held}
 use Rattle.figure.specs.Mode.{mode_of}
 use Rattle.figure.specs.Stored.{none}
 use Rattle.run_back.specs.Decide.{heaviest_fits}

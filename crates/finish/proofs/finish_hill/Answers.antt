@@ -7,7 +7,7 @@ use Rattle.number.specs.Word.{back}
 use Rattle.fault.specs.Laws.{found-is, clear-is}
 use Rattle.hill.specs.Verdict.{Verdict}
 use Rattle.hill.specs.Finish.{outcome}
-use Rattle.figure.specs.FourModes.{store_held}
+use Rattle.modes.specs.FourModes.{store_held}
 use Rattle.judge.specs.declared.HillHead.{HillHead}
 use Rattle.finish.proofs.finish_hill.Goals as goal
 

@@ -1,4 +1,3 @@
-
 use mathlib.Core.Path.{◌∙◌, sym}
 use borrow.Author.Rules.{rules}
 use Rattle.outcome.proofs.RunLaws.{length-four, length_three}

@@ -9,7 +9,7 @@ use Rattle.record.specs.Record.{answer_of}
 use Rattle.record.proofs.Laws.{sound}
 use Rattle.record.proofs.Handed.{unreadable, finished}
 use Rattle.hill.specs.Log.{Record}
-use Rattle.figure.specs.FourModes.{Amounts}
+use Rattle.modes.specs.FourModes.{Amounts}
 use Rattle.figure.specs.Mode.{mode_of}
 use Rattle.figure.specs.Stored.{amounts}
 use Rattle.slopes.specs.Actions.{entry}

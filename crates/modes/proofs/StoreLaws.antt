@@ -5,13 +5,13 @@ use Rattle.std.proofs.Math.Dec.{leb-zero}
 use Rattle.std.specs.Int.{w64}
 use Rattle.number.specs.Integer.{max_z}
 use Rattle.number.specs.IntegerLaws.{zed, max-law, max_comm, sfits-abs}
-use Rattle.figure.specs.FourModes.{Stamp, lift, nothing, store_held, read_held, held_if, store_stamp, read_stamp, is_stamp}
-use Rattle.figure.specs.ModeLaws.{stamp-≡}
-use Rattle.figure.specs.Run.{net_run, HeaviestNumbers, at_least, heaviest_run, read_heaviest_run, EatenNumbers, eaten_run, Affine, stamp_run, read_stamp_run}
-use Rattle.figure.specs.Bound.{size_held, LineIn, EatenIn}
-use Rattle.figure.specs.declared.Held.{Held}
-use Rattle.figure.specs.declared.Held.TheVariants.{Nothing, Figure}
-use Rattle.figure.specs.declared.Run.{Run}
+use Rattle.modes.specs.FourModes.{Stamp, lift, nothing, store_held, read_held, held_if, store_stamp, read_stamp, is_stamp}
+use Rattle.modes.proofs.ModeLaws.{stamp-≡}
+use Rattle.modes.specs.Run.{net_run, HeaviestNumbers, at_least, heaviest_run, read_heaviest_run, EatenNumbers, eaten_run, Affine, stamp_run, read_stamp_run}
+use Rattle.modes.specs.Bound.{size_held, LineIn, EatenIn}
+use Rattle.modes.specs.declared.Held.{Held}
+use Rattle.modes.specs.declared.Held.TheVariants.{Nothing, Figure}
+use Rattle.modes.specs.StoreLaws.{RunFits}
 
 -- ---- figures
 
@@ -90,14 +90,6 @@ stored_is x = stamp-is (store_stamp x) (ap store_stamp (stamp-back x))
 -- a stored stamp is 0 to 2^32 - 1
 pub stored-range : (z : ℤ) → store_stamp (read_stamp z) ≡ z → (pos 0 ≤ℤ z) × (z <ℤ pos 4294967296)
 stored-range z e = omega zed
-
--- ---- runs
-
-pub record RunFits (k : Run) : Type 0 where
-  pub first_fits : FitsSigned w64 k.first
-  pub second_fits : FitsSigned w64 k.second
-  pub third-fits : FitsSigned w64 k.third
-  pub fourth-fits : FitsSigned w64 k.fourth
 
 zero-fits : FitsSigned w64 (pos 0)
 zero-fits = record { sfits = lit< tt }

@@ -4,17 +4,14 @@ use Rattle.std.proofs.Common.{ap, ◌∙◌, arith}
 use mathlib.Core.HLevel.{is_prop→PathP}
 use Rattle.std.proofs.Math.Nat.{add-mod-mod}
 use Rattle.std.proofs.Math.Bridge.{le_prop}
-use Rattle.std.proofs.Math.IntN.{+ℤ_assoc, +ℤ_comm, +ℤ_idl, +ℤ_idr}
+use Rattle.std.proofs.Math.IntN.{+ℤ_assoc, +ℤ_comm}
 use Rattle.algebra.specs.Algebra.{Laws, Commutative}
 use Rattle.number.specs.Integer.{max_z, wrap}
 use Rattle.number.specs.IntegerLaws.{max_comm, max_assoc}
 use Rattle.number.specs.Modulo.{wrap-+}
-use Rattle.figure.specs.FourModes.{Amounts, net, heaviest, eaten, stamp, lift, Stamp, stamp_of}
-use Rattle.figure.specs.declared.Held.{Held}
-use Rattle.figure.specs.declared.Held.TheVariants.{Nothing, Figure}
-
-abbrev pub net_laws : Laws net
-net_laws = record { assoc = +ℤ_assoc; unit-l = +ℤ_idl; unit-r = +ℤ_idr }
+use Rattle.modes.specs.FourModes.{Amounts, heaviest, eaten, stamp, lift, Stamp, stamp_of}
+use Rattle.modes.specs.declared.Held.{Held}
+use Rattle.modes.specs.declared.Held.TheVariants.{Nothing, Figure}
 
 -- ---- an operation with nothing for its unit
 

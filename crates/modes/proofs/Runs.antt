@@ -1,5 +1,5 @@
 -- The contexts of the four modes: the numbers of one level, and of one run after another, so that `run_is` holds of each. Assumes nothing.
-use Rattle.std.specs.Prelude.{◌≡◌, ℕ, ◌+◌, ◌*◌, ◌%◌, ◌^◌, ℤ, pos, ◌+ℤ◌, ◌-ℤ◌, ◌≤ℤ◌, refl}
+use Rattle.std.specs.Prelude.{◌≡◌, ℕ, ◌+◌, ◌%◌, ◌^◌, ℤ, pos, ◌+ℤ◌, ◌-ℤ◌, ◌≤ℤ◌, refl}
 use Rattle.std.proofs.Common.{sym, ap, ◌∙◌, arith}
 use Rattle.std.proofs.Math.IntN.{+ℤ_assoc, -ℤ-+ℤ_cancel, +ℤ_comm, +ℤ_idl, +ℤ_idr}
 use Rattle.std.specs.Int.Signed.{≤ℤ_refl}
@@ -7,11 +7,12 @@ use Rattle.algebra.specs.Run.{Level, step, Context}
 use Rattle.number.specs.Integer.{max_z, clamp}
 use Rattle.number.specs.IntegerLaws.{zed, add-law, view, diffs, diff-≡, +-mono, max_comm, max_assoc, max-+, clamp-+, clamp-clamp, clamp-mono, clamp-low, clamp-high, clamp-in}
 use Rattle.number.specs.Modulo.{mods}
-use Rattle.figure.specs.FourModes.{Amounts, InRange, net, heaviest, eaten, stamp, lift, line_of, eaten_of, Stamp, stamp_of}
-use Rattle.figure.specs.ModeLaws.{lift-r, stamp-≡, stamp-node}
-use Rattle.figure.specs.Run.{net_along, HeaviestNumbers, at_least, along, Between, between, EatenNumbers, eaten_along, addend, Affine, affine}
-use Rattle.figure.specs.declared.Held.{Held}
-use Rattle.figure.specs.declared.Held.TheVariants.{Nothing, Figure}
+use Rattle.modes.specs.FourModes.{Amounts, InRange, net, heaviest, eaten, stamp, lift, line_of, eaten_of, Stamp, stamp_of}
+use Rattle.modes.proofs.ModeLaws.{lift-r, stamp-≡, stamp-node}
+use Rattle.modes.specs.Run.{net_along, HeaviestNumbers, at_least, along, Between, between, EatenNumbers, eaten_along, addend, Affine, affine}
+use Rattle.modes.specs.declared.Held.{Held}
+use Rattle.modes.specs.declared.Held.TheVariants.{Nothing, Figure}
+use Rattle.modes.specs.Runs.{moved, line_level, line_after, affine_level, affine_after, between_after, between_level, eaten_level, eaten_after, bound_of}
 
 +-left : (a b c : ℤ) → a +ℤ (b +ℤ c) ≡ b +ℤ (a +ℤ c)
 +-left a b c = omega (zed, add-law b c, add-law a (b +ℤ c), add-law a c, add-law b (a +ℤ c))
@@ -42,25 +43,6 @@ net_context = record {
   apply-level = net-app;
   apply-compose = net-after;
 }
-
--- ---- mode 2: z for nothing, else the greater of A and x + B
-
-unfoldable pub moved : Held → ℤ → Held
-moved Nothing v = Nothing
-moved (Figure a) v = Figure (a +ℤ v)
-
-abbrev pub line_level : Level heaviest → HeaviestNumbers
-line_level l =
-    let s : Held = lift max_z l.before l.after in
-    record { empty = line_of l.carried.value s; other = moved s l.carried.value; add = l.carried.value }
-
-abbrev pub line_after : HeaviestNumbers → HeaviestNumbers → HeaviestNumbers
-line_after f g =
-    record {
-      empty = at_least f.other (g.empty +ℤ f.add);
-      other = lift max_z f.other (moved g.other f.add);
-      add = g.add +ℤ f.add;
-    }
 
 at-least-twice : (A B : Held) (y b : ℤ) → at_least (lift max_z A (moved B b)) (y +ℤ b) ≡ at_least A (at_least B y +ℤ b)
 unfolding lift at_least moved
@@ -106,18 +88,6 @@ heaviest_context = record {
   apply-compose = line_after_lem;
 }
 
--- ---- mode 4: m x + q modulo 2^32
-
-abbrev pub affine_level : Level stamp → Affine
-affine_level l = record { times = stamp_of 31; plus = stamp.node l.carried (stamp.◌⊗◌ l.before l.after) }
-
-abbrev pub affine_after : Affine → Affine → Affine
-affine_after f g =
-    record {
-      times = stamp_of (f.times.num * g.times.num);
-      plus = stamp_of (f.times.num * g.plus.num + f.plus.num);
-    }
-
 pub affine-after : (f g : Affine) → Unit {0} → (x : Stamp) → affine (affine_after f g) x ≡ affine f (affine g x)
 affine-after f g _ x = stamp-≡ (simp mods (ap (λ (y : ℕ). y % 2 ^ 32) (omega arith)))
 
@@ -141,11 +111,6 @@ stamp_context = record {
   apply-compose = affine-after;
 }
 
--- ---- mode 5: z for nothing, else x + a held between l and h
-
-abbrev pub between_after : Between → Between → Between
-between_after f g = record { add = g.add +ℤ f.add; low = between f g.low; high = between f g.high }
-
 pub between-after : (f g : Between) → g.low ≤ℤ g.high → (x : ℤ) → between (between_after f g) x ≡ between f (between g x)
 between-after f g p x = sym
     (ap (λ (y : ℤ). clamp y f.low f.high) (clamp-+ (x +ℤ g.add) g.low g.high f.add)
@@ -164,16 +129,6 @@ between-low k p = ap (λ (y : ℤ). clamp y k.low k.high) (-ℤ-+ℤ_cancel k.lo
 
 pub between-high : (k : Between) → k.low ≤ℤ k.high → between k (k.high -ℤ k.add) ≡ k.high
 between-high k p = ap (λ (y : ℤ). clamp y k.low k.high) (-ℤ-+ℤ_cancel k.high k.add) ∙ clamp-in k.high k.low k.high p (≤ℤ_refl k.high)
-
-abbrev pub between_level : Amounts → ℤ → ℤ → Between
-between_level r b c = record { add = r.value +ℤ (b +ℤ c); low = r.floor; high = r.ceiling }
-
--- the numbers of one level, and of one run after another
-abbrev pub eaten_level : Level eaten → EatenNumbers
-eaten_level l = record { empty = eaten_of l.carried (lift ◌+ℤ◌ l.before l.after); some = between_level l.carried (addend l.before) (addend l.after) }
-
-abbrev pub eaten_after : EatenNumbers → EatenNumbers → EatenNumbers
-eaten_after f g = record { empty = between f.some g.empty; some = between_after f.some g.some }
 
 pub eaten-after : (f g : EatenNumbers) → g.some.low ≤ℤ g.some.high → (x : Held) → Figure (eaten_along (eaten_after f g) x) ≡ Figure (eaten_along f (Figure (eaten_along g x)))
 unfolding eaten_along
@@ -198,11 +153,6 @@ addend-sum Nothing Nothing = refl
 addend-sum Nothing (Figure c) = sym (+ℤ_idl c)
 addend-sum (Figure b) Nothing = sym (+ℤ_idr b)
 addend-sum (Figure b) (Figure c) = refl
-
--- a bound of a record that holds h: where it holds nothing, its value stands for both bounds
-abbrev pub bound_of : Held → (v bound : ℤ) → ℤ
-bound_of Nothing v b = v
-bound_of (Figure x) v b = b
 
 pub bound-eaten : (r : Amounts) (h : Held) → clamp (r.value +ℤ addend h) (bound_of h r.value r.floor) (bound_of h r.value r.ceiling) ≡ eaten_of r h
 unfolding eaten_of

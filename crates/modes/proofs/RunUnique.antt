@@ -2,22 +2,18 @@
 use Rattle.std.specs.Prelude.{◌≡◌, ℕ, ◌+◌, ◌*◌, ◌%◌, ◌^◌, ◌<◌, List, [], ◌∷◌, ℤ, pos, ◌+ℤ◌, ◌-ℤ◌, neg_ℤ, ◌≤ℤ◌, unsigned_abs, refl}
 use Rattle.std.proofs.Common.{sym, ap, ap₂, ◌∙◌, subst, arith}
 use Rattle.std.proofs.Math.IntN.{+ℤ_assoc, -ℤ-+ℤ_cancel, +ℤ_idl, +ℤ_idr}
-use Rattle.algebra.specs.Algebra.{Algebra}
-use Rattle.algebra.specs.Run.{Level, through, Context, AllSound, run, run_on}
+use Rattle.algebra.specs.Run.{Level, through, AllSound, run, run_on}
 use Rattle.algebra.proofs.Run.{run_is, run-fine}
 use Rattle.number.specs.Integer.{max_z}
 use Rattle.number.specs.IntegerLaws.{zed, add-law, neg-law, abs-law, max-law, ≤-antisym}
-use Rattle.figure.specs.FourModes.{Amounts, InRange, net, heaviest, eaten, stamp, lift, Stamp, stamp_of}
-use Rattle.figure.specs.ModeLaws.{stamp-≡}
-use Rattle.figure.specs.Run.{IsNetRun, HeaviestNumbers, at_least, along, IsHeaviestRun, EatenNumbers, eaten_along, addend, total, IsEatenRun, Affine, affine, IsStampRun}
-use Rattle.figure.specs.Runs.{net_context, heaviest_context, eaten_context, stamp_context, moved, line_level, line_after, eaten_level, eaten_after, between_ends, between-low, between-high}
-use Rattle.figure.specs.declared.Held.{Held}
-use Rattle.figure.specs.declared.Held.TheVariants.{Nothing, Figure}
-
--- A mode's numbers are the run of their levels, and no others are; IsRun says which numbers are.
-pub record Pinned {𝒜 : Algebra Amounts} (C : Context 𝒜 InRange) (IsRun : List (Level 𝒜) → C.K → Type 0) : Type 0 where
-  pub is : (l : Level 𝒜) (ls : List (Level 𝒜)) → AllSound InRange (l ∷ ls) → IsRun (l ∷ ls) (run C l ls)
-  pub only : (ls : List (Level 𝒜)) (j k : C.K) → IsRun ls j → IsRun ls k → j ≡ k
+use Rattle.modes.specs.FourModes.{InRange, net, heaviest, eaten, stamp, lift, Stamp, stamp_of}
+use Rattle.modes.proofs.ModeLaws.{stamp-≡}
+use Rattle.modes.specs.Run.{IsNetRun, HeaviestNumbers, at_least, along, IsHeaviestRun, EatenNumbers, eaten_along, addend, total, IsEatenRun, Affine, affine, IsStampRun}
+use Rattle.modes.specs.Runs.{moved, line_level, line_after, eaten_level, eaten_after}
+use Rattle.modes.proofs.Runs.{net_context, heaviest_context, eaten_context, stamp_context, between_ends, between-low, between-high}
+use Rattle.modes.specs.declared.Held.{Held}
+use Rattle.modes.specs.declared.Held.TheVariants.{Nothing, Figure}
+use Rattle.modes.specs.RunUnique.{Pinned, Same, NoOther}
 
 pub figure-same : {y z : ℤ} → Figure y ≡ Figure z → y ≡ z
 figure-same e = ap addend e
@@ -35,9 +31,6 @@ net_pinned = record { is = run_is net_context; only = net-only }
 -- a number as far up as four others reach
 far : ℤ → ℤ → ℤ → ℤ → ℕ
 far a b c d = unsigned_abs a + unsigned_abs b + (unsigned_abs c + unsigned_abs d)
-
-abbrev Same : Held → Held → ℤ → ℤ → Type 0
-Same A A' B B' = (x : ℤ) → at_least A (x +ℤ B) ≡ at_least A' (x +ℤ B')
 
 no-floor : (c B B' : ℤ) → Same Nothing (Figure c) B B' → ⊥
 unfolding at_least
@@ -75,12 +68,6 @@ heaviest-only ls j k p q = line-≡ j k (λ x. figure-same (p x ∙ sym (q x)))
 
 abbrev pub heaviest_pinned : Pinned heaviest_context IsHeaviestRun
 heaviest_pinned = record { is = run_is heaviest_context; only = heaviest-only }
-
--- A is nothing exactly where no other figure is on the way.
-
-abbrev pub NoOther : List (Level heaviest) → Type 0
-NoOther [] = Unit {0}
-NoOther (l ∷ ls) = ((l.before ≡ Nothing) × (l.after ≡ Nothing)) × NoOther ls
 
 lift-nothing : (f : ℤ → ℤ → ℤ) (a b : Held) → lift f a b ≡ Nothing → (a ≡ Nothing) × (b ≡ Nothing)
 unfolding lift

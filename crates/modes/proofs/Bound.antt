@@ -7,11 +7,13 @@ use Rattle.algebra.specs.Run.{Level}
 use Rattle.algebra.specs.Sizes.{Sizes, cost, RunSizes}
 use Rattle.number.specs.Integer.{max_z}
 use Rattle.number.specs.IntegerLaws.{abs-+, abs-max, abs-clamp}
-use Rattle.figure.specs.FourModes.{Amounts, limit, InRange, net, heaviest, eaten, stamp, lift, line_of, eaten_of, Stamp}
-use Rattle.figure.specs.Run.{HeaviestNumbers, at_least, Between, between, EatenNumbers, addend}
-use Rattle.figure.specs.Runs.{net_context, heaviest_context, eaten_context, stamp_context, moved, line_after, between_after, eaten_after}
-use Rattle.figure.specs.declared.Held.{Held}
-use Rattle.figure.specs.declared.Held.TheVariants.{Nothing, Figure}
+use Rattle.modes.specs.FourModes.{Amounts, limit, InRange, net, heaviest, eaten, stamp, lift, line_of, eaten_of, Stamp}
+use Rattle.modes.specs.Run.{HeaviestNumbers, at_least, Between, between, EatenNumbers, addend}
+use Rattle.modes.specs.Runs.{moved, line_after, between_after, eaten_after}
+use Rattle.modes.proofs.Runs.{net_context, heaviest_context, eaten_context, stamp_context}
+use Rattle.modes.specs.declared.Held.{Held}
+use Rattle.modes.specs.declared.Held.TheVariants.{Nothing, Figure}
+use Rattle.modes.specs.Bound.{size_held, LineIn, BetweenIn, EatenIn}
 
 -- ---- mode 1
 
@@ -29,12 +31,6 @@ net-compose f g m n p q = omega (arith, abs-+ g f)
 
 abbrev pub net_run_sizes : RunSizes net_context net_sizes
 net_run_sizes = record { Within = λ a n. unsigned_abs a ≤ n; within_level = net-size; within-compose = net-compose }
-
--- ---- mode 2
-
-unfoldable pub size_held : Held → ℕ
-size_held Nothing = 0
-size_held (Figure z) = unsigned_abs z
 
 pub size-nothing : size_held Nothing ≡ 0
 unfolding size_held
@@ -57,11 +53,6 @@ line-node r (Figure s) i = net-node r s i
 abbrev pub heaviest_sizes : Sizes heaviest InRange
 heaviest_sizes =
     record { unit = limit; size = size_held; unit-pos = lit< tt; size-ι = size-nothing; size-⊗ = size-lift max_z max-sum; size-node = line-node }
-
-pub record LineIn (k : HeaviestNumbers) (n : ℕ) : Type 0 where
-  pub empty-in : unsigned_abs k.empty ≤ n
-  pub other-in : size_held k.other ≤ n
-  pub add-in : unsigned_abs k.add ≤ n
 
 pub size-max : (a b : Held) → size_held (lift max_z a b) ≤ max (size_held a) (size_held b)
 unfolding size_held lift
@@ -129,15 +120,6 @@ eaten-node r h i = eaten-of r h i
 
 abbrev pub eaten_sizes : Sizes eaten InRange
 eaten_sizes = record { unit = limit; size = size_held; unit-pos = lit< tt; size-ι = size-nothing; size-⊗ = size-lift ◌+ℤ◌ abs-+; size-node = eaten-node }
-
-pub record BetweenIn (k : Between) (n : ℕ) : Type 0 where
-  pub add-in : unsigned_abs k.add ≤ n
-  pub low-in : unsigned_abs k.low ≤ n
-  pub high-in : unsigned_abs k.high ≤ n
-
-pub record EatenIn (k : EatenNumbers) (n : ℕ) : Type 0 where
-  pub empty-in : unsigned_abs k.empty ≤ n
-  pub some_in : BetweenIn k.some n
 
 -- a number put through f
 pub between_in : (f : Between) (x : ℤ) (m n : ℕ) → BetweenIn f m → unsigned_abs x ≤ n → unsigned_abs (between f x) ≤ m + n

@@ -3,10 +3,10 @@
 use Rattle.std.specs.Prelude.{◌≡◌, ◌+◌, ◌*◌, List, [], ◌∷◌, ℤ, pos, ◌+ℤ◌, ◌≤ℤ◌}
 use Rattle.algebra.specs.Run.{Level, through}
 use Rattle.number.specs.Integer.{max_z, clamp}
-use Rattle.figure.specs.FourModes.{net, heaviest, eaten, stamp, Stamp, stamp_of, store_held, read_held, store_stamp, read_stamp}
-use Rattle.figure.specs.declared.Held.{Held}
-use Rattle.figure.specs.declared.Held.TheVariants.{Nothing, Figure}
-use Rattle.figure.specs.declared.Run.{Run}
+use Rattle.modes.specs.FourModes.{net, heaviest, eaten, stamp, Stamp, stamp_of, store_held, read_held, store_stamp, read_stamp}
+use Rattle.modes.specs.declared.Held.{Held}
+use Rattle.modes.specs.declared.Held.TheVariants.{Nothing, Figure}
+use Rattle.modes.specs.declared.Run.{Run}
 
 -- "The run of a join is the figure of its lowest-depth record as a function of x": `through` the levels, the deepest first.
 

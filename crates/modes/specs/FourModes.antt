@@ -4,8 +4,8 @@ use Rattle.std.proofs.Common.{mod-lt, lit<}
 use Rattle.algebra.specs.Algebra.{Algebra}
 use Rattle.number.specs.Integer.{max_z, clamp, wrap, up}
 use Rattle.number.specs.Modulo.{wrap-small}
-use Rattle.figure.specs.declared.Held.{Held}
-use Rattle.figure.specs.declared.Held.TheVariants.{Nothing, Figure}
+use Rattle.modes.specs.declared.Held.{Held}
+use Rattle.modes.specs.declared.Held.TheVariants.{Nothing, Figure}
 
 -- What an open record says, in grams.
 pub record Amounts : Type 0 where
