@@ -4,7 +4,7 @@
  * A summary does not know its place in the log. Two that meet at one level are merged, whether or not a stretch between them is
  * missing. So each carries the numbers of its stretches, and the office merges neighbours only: see merge().
  *
- *     rt staticlib tulghimo
+ *     tools/library
  *     cc -Iinclude examples/two_stations.c target/staticlib/libtulghimo.a -o two_stations
  */
 #include "tulghimo.h"

@@ -260,7 +260,7 @@ def rust(crate, file, numbered):
 
 def libraries():
     """Each library that has code, with those that it stands on. crates.txt has it after these."""
-    listed = re.findall(r"^([a-z0-9_]+) *:(.*)$", (edits.ROOT / "crates.txt").read_text(), flags=re.M)
+    listed = re.findall(r"^([a-z0-9_]+)(?: staticlib)? *:(.*)$", (edits.ROOT / "crates.txt").read_text(), flags=re.M)
     coded = [name for name, _ in listed if (edits.CRATES / name / "src" / "lib.rt").exists()
              and any(re.search(r"\b(fn|enum) ", f.read_text()) for f in (edits.CRATES / name / "src").glob("*.rt"))]
     return [(name, [d for d in words.split() if d in coded]) for name, words in listed if name in coded]

@@ -1,4 +1,4 @@
-/* Tulghimo's C interface. Link target/staticlib/libtulghimo.a.
+/* Tulghimo's C interface. Link target/staticlib/libtulghimo.a, which tools/library makes.
  *
  * A call answers 0, a length or a record number, or it is refused: the answer is minus the number of the question that got a "no",
  * and nothing is written. Of several the first in the order that the call lists is answered. A pointer may be NULL where its length

@@ -34,7 +34,7 @@
 //!
 //! [`raw`] has the same calls with buffers that the caller lends, for those who do not want an allocation.
 //!
-//! `rt staticlib tulghimo`, from the repository's root, makes the archive that this crate links.
+//! `tools/library`, from the repository's root, makes the archive that this crate links.
 
 #![deny(missing_docs, unsafe_code)]
 

@@ -8,19 +8,19 @@ use Rattle.std.specs.Int.{w64}
 use Rattle.gate.specs.Outcome.{granted, refused, question}
 use Rattle.number.specs.Bytes.{le_at, i64_at}
 use Rattle.number.specs.IntegerLaws.{canon, neg-law, abs-law, abs-+}
-use Rattle.figure.specs.FourModes.{read_stamp, is_stamp}
-use Rattle.figure.specs.Run.{read_stamp_run}
-use Rattle.figure.specs.StoreLaws.{is-stamp, stored-range}
-use Rattle.figure.specs.declared.Run.{Run}
+use Rattle.modes.specs.FourModes.{read_stamp, is_stamp}
+use Rattle.modes.specs.Run.{read_stamp_run}
+use Rattle.modes.proofs.StoreLaws.{is-stamp, stored-range}
+use Rattle.modes.specs.declared.Run.{Run}
 use Rattle.summary.specs.Judge.{mode_at}
 use Rattle.summary.specs.Decide.{layout_fits}
 use Rattle.summary.proofs.DecideLaws.{tells-layout}
 use Rattle.outcome.specs.Outcomes.{run_length}
 use Rattle.outcome.proofs.RunLaws.{length-least}
-use Rattle.run_back.specs.Judge.{run_at, Near, RunNumbers, IsRunBytes}
+use Rattle.run_back.specs.Judge.{run_at, RunNumbers, IsRunBytes}
 use Rattle.run_back.specs.Decide.{near, net_fits, heaviest_fits, stamp_fits, eaten_fits, numbers_fit, is_run_bytes}
 use Rattle.run_back.specs.Backwards.{back_net, back_stamp, inner_of}
-use Rattle.run_back.proofs.DecideLaws.{tells-near, decide-run}
+use Rattle.run_back.proofs.DecideLaws.{decide-run}
 use Rattle.run_back.proofs.ForwardLaws.{stamp-num}
 
 -- ---- the numbers, by the mode

@@ -1,8 +1,10 @@
 // The call that goes backwards through a run: from an outer figure to the one inner figure that leads to it. Document 02, L6, questions 15 to 17.
+#![tactic(auto)]
+
 ghost use Rattle.std.specs.Prelude.{◌≡◌, length};
 ghost use Rattle.gate.specs.Outcome.{question, granted};
 ghost use Rattle.gate.specs.Answers.{finished_answer};
-ghost use Rattle.figure.specs.FourModes.{is_stamp};
+ghost use Rattle.modes.specs.FourModes.{is_stamp};
 ghost use Rattle.number.specs.Integer.{same};
 ghost use Rattle.outcome.specs.Outcomes.{run_length};
 ghost use Rattle.run_back.specs.Judge.{run_at, RunNumbers};

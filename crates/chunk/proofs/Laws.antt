@@ -9,7 +9,7 @@ use Rattle.record.proofs.Laws.{records-3}
 use Rattle.record.proofs.RangeLaws.{range-parts}
 use Rattle.record.proofs.Ranged.{AllInRange, records-in-range}
 use Rattle.record.specs.declared.Fields.{Fields}
-use Rattle.figure.specs.FourModes.{Amounts}
+use Rattle.modes.specs.FourModes.{Amounts}
 use Rattle.figure.specs.Stored.{amounts}
 use Rattle.hill.specs.Verdict.{Verdict, pass, refuse}
 use Rattle.hill.specs.Log.{Record, opening, closing, depth, log_fault}

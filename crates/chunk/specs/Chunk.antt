@@ -3,7 +3,7 @@ use Rattle.std.specs.Prelude.{◌≡◌, cond, List, map, ℕ, leb, eqb, ℤ, le
 use Rattle.gate.specs.Outcome.{Outcome, granted, question, onward}
 use Rattle.record.specs.Record.{records_of}
 use Rattle.record.specs.declared.Fields.{Fields}
-use Rattle.figure.specs.FourModes.{Amounts}
+use Rattle.modes.specs.FourModes.{Amounts}
 use Rattle.figure.specs.Mode.{mode_of}
 use Rattle.hill.specs.Verdict.{pass}
 use Rattle.hill.specs.Log.{Record, opening, closing, log_fault}

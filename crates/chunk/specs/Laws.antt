@@ -1,6 +1,6 @@
 -- Laws of a chunk's records, and of a call on a whole log, question by question. Assumes nothing.
 use Rattle.std.specs.Prelude.{List, ℕ, ◌≤◌, length}
-use Rattle.figure.specs.FourModes.{Amounts}
+use Rattle.modes.specs.FourModes.{Amounts}
 use Rattle.hill.specs.Log.{Record}
 use Rattle.chunk.specs.Chunk.{IsWellFormed}
 

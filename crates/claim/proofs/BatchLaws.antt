@@ -10,7 +10,7 @@ use Rattle.record.proofs.Laws.{records-next, onto}
 use Rattle.record.proofs.Joined.{records-append}
 use Rattle.record.proofs.Encoding.{open-length, batch-length, read-open, read-with-batch}
 use Rattle.record.specs.declared.Fields.{Fields}
-use Rattle.figure.specs.FourModes.{Amounts}
+use Rattle.modes.specs.FourModes.{Amounts}
 use Rattle.hill.specs.Log.{Record}
 use Rattle.hill.specs.Row.{Call, replay}
 use Rattle.summary.specs.Outcomes.{summary_bytes, summarise_outcome}

@@ -14,7 +14,7 @@ use Rattle.record.proofs.Laws.{sound, records-nil, records-next}
 use Rattle.record.proofs.Joined.{open-same, short-same, close-same}
 use Rattle.record.proofs.Readable.{First, first_read, none_read}
 use Rattle.record.specs.declared.Fields.{Fields}
-use Rattle.figure.specs.FourModes.{Amounts}
+use Rattle.modes.specs.FourModes.{Amounts}
 use Rattle.hill.specs.Log.{Record}
 use Rattle.hill.specs.Row.{joined}
 use Rattle.chunk.specs.Chunk.{record_of, chunk_of}

@@ -8,12 +8,12 @@ use mathlib.Core.List.{List, [], ◌∷◌, map, Memᴰ}
 use Rattle.std.proofs.Math.IntN.{+ℤ_idr}
 use Rattle.gate.specs.Outcome.{Outcome, refused, granted, onward, written}
 use Rattle.row.specs.Row.{row_pieces}
-use Rattle.figure.specs.FourModes.{Amounts, lift, eaten_of, eaten, store_held}
-use Rattle.figure.specs.ModeLaws.{eaten_laws}
-use Rattle.figure.specs.Run.{addend}
+use Rattle.modes.specs.FourModes.{Amounts, lift, eaten_of, eaten, store_held}
+use Rattle.modes.proofs.ModeLaws.{eaten_laws}
+use Rattle.modes.specs.Run.{addend}
 use Rattle.figure.specs.Mode.{mode_of, mode_in_use}
-use Rattle.figure.specs.declared.Held.{Held}
-use Rattle.figure.specs.declared.Held.TheVariants.{Nothing, Figure}
+use Rattle.modes.specs.declared.Held.{Held}
+use Rattle.modes.specs.declared.Held.TheVariants.{Nothing, Figure}
 use Rattle.hill.specs.Log.{Record, opening}
 use Rattle.hill.specs.Closing.{at, OpensAt, Holds, Places}
 use Rattle.hill.specs.Tree.{Forest, nil, tree, value}

@@ -8,7 +8,7 @@ use Rattle.number.specs.Integer.{min_z, max_z, clamp}
 use Rattle.row.specs.Row.{first_length, pieces_in, row_pieces}
 use Rattle.record.specs.Record.{within, in_range, accepted, whole, by_shape, read_of, records_in, records_of, batch_bytes}
 use Rattle.record.proofs.Examples.{log_d}
-use Rattle.figure.specs.FourModes.{Amounts, lift, eaten_of, store_held, read_held, is_stamp}
+use Rattle.modes.specs.FourModes.{Amounts, lift, eaten_of, store_held, read_held, is_stamp}
 use Rattle.figure.specs.Mode.{mode_of, mode_in_use}
 use Rattle.hill.specs.Verdict.{pass, joint, count, cut, ends}
 use Rattle.hill.specs.Log.{log_fault}

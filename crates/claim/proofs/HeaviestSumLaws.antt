@@ -7,7 +7,7 @@ use Rattle.gate.specs.Outcome.{refused, granted, written}
 use Rattle.gate.proofs.Laws.{not-result, one_number}
 use Rattle.record.specs.Record.{records_of}
 use Rattle.record.specs.declared.Fields.{Fields}
-use Rattle.figure.specs.FourModes.{Amounts, store_held}
+use Rattle.modes.specs.FourModes.{Amounts, store_held}
 use Rattle.figure.specs.Mode.{mode_of, mode_in_use}
 use Rattle.hill.specs.Verdict.{Verdict, pass, refuse}
 use Rattle.hill.specs.Log.{Record, opening, closing, log_fault}

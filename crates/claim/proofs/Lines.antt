@@ -5,7 +5,7 @@ use Rattle.std.proofs.Math.Bool.{and-eq-true_iff}
 use mathlib.Core.List.Memᴰ
 use mathlib.Core.List.{List, [], ◌∷◌, map, Memᴰ}
 use Rattle.algebra.specs.Algebra.{Algebra, Laws}
-use Rattle.figure.specs.FourModes.{Amounts}
+use Rattle.modes.specs.FourModes.{Amounts}
 use Rattle.hill.specs.Verdict.{pass}
 use Rattle.hill.specs.Log.{Record, log_fault}
 use Rattle.hill.specs.Summary.{summary_of}

@@ -12,7 +12,7 @@ use Rattle.record.proofs.Laws.{sound, Shape, full, short, batched, closed, shape
 use Rattle.record.proofs.Readable.{First, first_read}
 use Rattle.record.proofs.Encoding.{Reread, open-back, AllReread, chunk_read, bytes-again, read_back}
 use Rattle.record.specs.declared.Fields.{Fields}
-use Rattle.figure.specs.FourModes.{Amounts}
+use Rattle.modes.specs.FourModes.{Amounts}
 use Rattle.figure.specs.Mode.{mode_of, mode_in_use}
 use Rattle.hill.specs.Verdict.{pass}
 use Rattle.hill.specs.Log.{Record, log_fault}

@@ -5,7 +5,7 @@ use Rattle.number.specs.Bytes.{le_at}
 use Rattle.number.specs.Integer.{min_z, max_z, clamp, wrap}
 use Rattle.record.specs.Record.{within, in_range, accepted, whole, by_shape, read_of, records_in, records_of}
 use Rattle.record.proofs.Examples.{log_d}
-use Rattle.figure.specs.FourModes.{Amounts, lift, line_of, eaten_of, store_held}
+use Rattle.modes.specs.FourModes.{Amounts, lift, line_of, eaten_of, store_held}
 use Rattle.figure.specs.Stored.{amounts}
 use Rattle.figure.specs.Mode.{mode_of, mode_in_use}
 use Rattle.hill.specs.Verdict.{joint, count, ends}

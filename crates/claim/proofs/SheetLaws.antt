@@ -7,7 +7,7 @@ use Rattle.record.proofs.Laws.{and_right}
 use Rattle.record.proofs.RangeLaws.{range-parts}
 use Rattle.record.proofs.Ranged.{AllInRange, records-in-range}
 use Rattle.record.specs.declared.Fields.{Fields}
-use Rattle.figure.specs.FourModes.{Amounts}
+use Rattle.modes.specs.FourModes.{Amounts}
 use Rattle.figure.specs.Mode.{mode_in_use}
 use Rattle.hill.specs.Verdict.{pass}
 use Rattle.hill.specs.Log.{Record, opening, closing, depth, log_fault}

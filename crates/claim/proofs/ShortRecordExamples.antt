@@ -9,7 +9,7 @@ use Rattle.number.specs.Integer.{min_z, max_z, clamp}
 use Rattle.row.specs.Row.{end_to_end}
 use Rattle.record.specs.Record.{default_floor, within, in_range, accepted, whole, by_shape, read_of, records_in, records_of, short_bytes, close_bytes}
 use Rattle.record.proofs.Encoding.{short-bytes, close-bytes}
-use Rattle.figure.specs.FourModes.{lift, eaten_of, store_held, read_held, is_stamp}
+use Rattle.modes.specs.FourModes.{lift, eaten_of, store_held, read_held, is_stamp}
 use Rattle.figure.specs.Mode.{mode_of, mode_in_use}
 use Rattle.hill.specs.Verdict.{joint, count, cut, ends}
 use Rattle.hill.specs.Row.{Call, Proper, replay, on_result}

@@ -8,7 +8,7 @@ use Rattle.record.specs.Record.{read_of, records_of, short_fields, close_fields}
 use Rattle.record.proofs.Laws.{short-is}
 use Rattle.record.proofs.Readable.{Each, each_read}
 use Rattle.record.specs.declared.Fields.{Fields}
-use Rattle.figure.specs.FourModes.{Amounts, eaten}
+use Rattle.modes.specs.FourModes.{Amounts, eaten}
 use Rattle.figure.specs.Stored.{amounts}
 use Rattle.hill.specs.Log.{Record, opening}
 use Rattle.hill.specs.Closing.{at, Holds}

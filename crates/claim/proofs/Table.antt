@@ -6,9 +6,9 @@ use Rattle.number.specs.Bytes.{le_at, bytes_of}
 use Rattle.number.specs.Integer.{min_z, max_z, clamp, wrap}
 use Rattle.row.specs.Row.{first_length, pieces_in, row_pieces}
 use Rattle.record.specs.Record.{within, in_range, accepted, whole, by_shape, read_of, records_in, records_of}
-use Rattle.figure.specs.FourModes.{lift, line_of, eaten_of, store_held, read_held, is_stamp}
-use Rattle.figure.specs.Run.{at_least, eaten_along}
-use Rattle.figure.specs.Runs.{moved}
+use Rattle.modes.specs.FourModes.{lift, line_of, eaten_of, store_held, read_held, is_stamp}
+use Rattle.modes.specs.Run.{at_least, eaten_along}
+use Rattle.modes.specs.Runs.{moved}
 use Rattle.figure.specs.Mode.{mode_of, mode_in_use}
 use Rattle.hill.specs.Verdict.{joint, count, cut, ends}
 use Rattle.summary.specs.Layout.{encode}

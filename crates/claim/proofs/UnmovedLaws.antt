@@ -8,11 +8,11 @@ use Rattle.number.specs.Modulo.{wrap-small}
 use Rattle.number.specs.IntegerLaws.{zed, add-law, max-law, min-law, nat_le}
 use Rattle.record.proofs.Readable.{Each, each_read}
 use Rattle.record.specs.declared.Fields.{Fields}
-use Rattle.figure.specs.FourModes.{Amounts, net, heaviest, eaten, stamp, lift, line_of, eaten_of}
+use Rattle.modes.specs.FourModes.{Amounts, net, heaviest, eaten, stamp, lift, line_of, eaten_of}
 use Rattle.figure.specs.Mode.{mode_of}
 use Rattle.figure.specs.Stored.{amounts}
-use Rattle.figure.specs.declared.Held.{Held}
-use Rattle.figure.specs.declared.Held.TheVariants.{Nothing, Figure}
+use Rattle.modes.specs.declared.Held.{Held}
+use Rattle.modes.specs.declared.Held.TheVariants.{Nothing, Figure}
 use Rattle.hill.specs.Verdict.{Verdict}
 use Rattle.hill.specs.Log.{Record, opening, closing}
 use Rattle.hill.specs.Finish.{outcome}

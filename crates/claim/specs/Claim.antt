@@ -7,7 +7,7 @@ use Rattle.gate.specs.Answers.{length_answered}
 use Rattle.row.specs.Row.{end_to_end}
 use Rattle.record.specs.Record.{records_of}
 use Rattle.record.specs.declared.Fields.{Fields}
-use Rattle.figure.specs.FourModes.{Amounts}
+use Rattle.modes.specs.FourModes.{Amounts}
 use Rattle.figure.specs.Mode.{mode_of, mode_in_use}
 use Rattle.hill.specs.Log.{Record}
 use Rattle.hill.specs.Questions.{NoOfLog}

@@ -4,8 +4,8 @@ use mathlib.Core.List.{List, [], ◌∷◌, map, Memᴰ}
 use Rattle.gate.specs.Outcome.{refused, granted}
 use Rattle.number.specs.Integer.{clamp}
 use Rattle.row.specs.Row.{row_pieces}
-use Rattle.figure.specs.FourModes.{Amounts, eaten}
-use Rattle.figure.specs.Run.{addend}
+use Rattle.modes.specs.FourModes.{Amounts, eaten}
+use Rattle.modes.specs.Run.{addend}
 use Rattle.hill.specs.Log.{Record}
 use Rattle.hill.specs.Closing.{Holds, Places}
 use Rattle.hill.specs.Tree.{Forest, nil, tree, write}

@@ -1,6 +1,6 @@
 -- Document 02, L9: what is claimed of the figures of a sheet beside the other calls. Definitions only.
 use Rattle.std.specs.Prelude.{◌≡◌, List, ℕ, ◌<◌, ℤ, length, take}
-use Rattle.figure.specs.FourModes.{Amounts}
+use Rattle.modes.specs.FourModes.{Amounts}
 use Rattle.hill.specs.Log.{Record}
 use Rattle.hill.specs.OwnLog.{own_log}
 use Rattle.chunk.specs.Chunk.{IsWellFormed}

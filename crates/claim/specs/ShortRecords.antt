@@ -7,7 +7,7 @@ use Rattle.number.specs.Bytes.{AllBytes, le_at, i32_at}
 use Rattle.row.specs.Row.{end_to_end}
 use Rattle.record.specs.Record.{default_ceiling, within, whole, read_of, and_then, records_of, full_fields, chunk_bytes}
 use Rattle.record.specs.declared.Fields.{Fields}
-use Rattle.figure.specs.FourModes.{Amounts}
+use Rattle.modes.specs.FourModes.{Amounts}
 use Rattle.figure.specs.Stored.{amounts}
 use Rattle.hill.specs.Log.{Record}
 use Rattle.hill.specs.Closing.{Holds}

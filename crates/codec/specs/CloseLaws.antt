@@ -3,7 +3,7 @@ use Rattle.std.specs.Prelude.{◌≡◌, List, ℕ, zero, suc, ◌+◌, ◌-◌,
 use Rattle.std.proofs.Common.{sym, ◌∙◌, zero-add, suc-add, arith}
 use Rattle.std.proofs.Math.Path.{ap, subst}
 use Rattle.std.proofs.Math.Numerals.{add-one}
-use Rattle.figure.specs.FourModes.{Amounts, limit}
+use Rattle.modes.specs.FourModes.{Amounts, limit}
 use Rattle.figure.specs.Mode.{Mode}
 use Rattle.figure.specs.Stored.{size_of, none, combined, passed, amounts, Combines, Passes, none_read, none-size, none-stored, combined-read, combined-size, combined-stored, passed-read, passed-size, passed-stored, passes}
 use Rattle.hill.specs.Summary.{Hill, hill}

@@ -5,7 +5,7 @@ use Rattle.std.proofs.Common.{sym, ◌∙◌, add-zero, zero-add, suc-add}
 use Prim.Native.Nat.{ℕ, zero, suc, ◌+◌, ◌-◌, ◌^◌, ◌≤◌, ◌<◌}
 use Rattle.std.proofs.Math.Numerals.{add-one}
 use native.Mathlib.Omega.{arith}
-use Rattle.figure.specs.FourModes.{Amounts, InRange}
+use Rattle.modes.specs.FourModes.{Amounts, InRange}
 use Rattle.figure.specs.Mode.{Mode, mode_of}
 use Rattle.figure.specs.Stored.{size_of, none, combined, Combines}
 use Rattle.hill.specs.Summary.{Hill, hill}

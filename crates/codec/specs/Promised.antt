@@ -1,6 +1,6 @@
 -- What each function of `codec` asks and leaves. Definitions only.
 use Rattle.std.specs.Prelude.{◌≡◌, List, ℕ, ◌+◌, ◌-◌, ◌*◌, ◌^◌, ◌≤◌, ◌<◌, ℤ, length}
-use Rattle.figure.specs.FourModes.{InRange}
+use Rattle.modes.specs.FourModes.{InRange}
 use Rattle.figure.specs.Mode.{Mode, mode_of}
 use Rattle.figure.specs.Stored.{IsStored, size_of}
 use Rattle.hill.specs.Summary.{hill}

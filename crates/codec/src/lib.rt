@@ -1,4 +1,6 @@
 // A summary's bytes read: their hill joins the hill under construction in the arrays, in any mode. The caller shows that they are a hill's, and that it fits.
+#![tactic(auto)]
+
 ghost use Rattle.std.specs.Prelude.{◌≡◌, List, ◌+◌, ◌*◌, ◌≤◌, min, ℤ, length};
 ghost use Rattle.figure.specs.Mode.{mode_of};
 ghost use Rattle.hill.specs.Building.{merge};

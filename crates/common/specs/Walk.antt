@@ -1,6 +1,6 @@
 -- What the pass keeps that finds the record in common, and what it asks. Definitions only.
 use Rattle.std.specs.Prelude.{◌↔◌, List, [], ◌∷◌, ℕ, ◌≤◌, ◌<◌, length}
-use Rattle.figure.specs.FourModes.{Amounts}
+use Rattle.modes.specs.FourModes.{Amounts}
 use Rattle.hill.specs.Log.{Record, opened_of}
 use Rattle.chunk.specs.Chunk.{IsWellFormed}
 use Rattle.log_records.specs.Numbers.{IsRecord}

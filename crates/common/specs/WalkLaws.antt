@@ -7,8 +7,8 @@ use Rattle.gate.specs.Outcome.{granted}
 use Rattle.record.specs.Record.{read_of}
 use Rattle.record.proofs.Laws.{sound}
 use Rattle.record.specs.declared.Fields.{Fields}
-use Rattle.figure.specs.FourModes.{Amounts}
-use Rattle.hill.specs.Log.{Record, opening, closing, start_level, end_level, opens}
+use Rattle.modes.specs.FourModes.{Amounts}
+use Rattle.hill.specs.Log.{Record, opening, closing, start_level, end_level}
 use Rattle.hill.specs.Closing.{at, OpensAt}
 use Rattle.hill.proofs.HeldPlaces.{opening-closing, opens-inside}
 use Rattle.chunk.specs.Chunk.{record_of, IsWellFormed}

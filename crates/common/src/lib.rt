@@ -1,6 +1,8 @@
 // The record that two records of a whole log have in common: questions 2, 3, 7 to 11 and 19, and then one pass that goes up to the later of the two.
+#![tactic(auto)]
+
 ghost use Rattle.std.specs.Prelude.{◌≡◌, List};
-ghost use Rattle.figure.specs.FourModes.{Amounts};
+ghost use Rattle.modes.specs.FourModes.{Amounts};
 ghost use Rattle.hill.specs.Log.{Record};
 ghost use Rattle.chunk.specs.Chunk.{IsWellFormed};
 ghost use Rattle.chunk.specs.Laws.{IsLog};

@@ -2,7 +2,7 @@
 // them, from the root down, are or hold the earlier one too, and the last of these is the record in common. So beside the numbers of the open records it is enough
 // to count these: all that are open when the earlier one is opened, and after each close no more than are left open.
 ghost use Rattle.std.specs.Prelude.{◌≡◌, cond, List, ℕ, suc, ◌+◌, ◌≤◌, ◌<◌, min, eqb, length};
-ghost use Rattle.figure.specs.FourModes.{Amounts};
+ghost use Rattle.modes.specs.FourModes.{Amounts};
 ghost use Rattle.hill.specs.Log.{Record};
 ghost use Rattle.hill.specs.Closing.{at};
 ghost use Rattle.chunk.specs.Chunk.{record_of, IsWellFormed};

@@ -9,7 +9,7 @@ use Rattle.std.proofs.Math.Dec.{ltb}
 use borrow.Author.Tests.{lt-ltb, le-ltb}
 use Rattle.gate.specs.Outcome.{Outcome, refused, granted, question}
 use Rattle.gate.proofs.Laws.{not-result, one_number, result-same}
-use Rattle.figure.specs.FourModes.{Amounts}
+use Rattle.modes.specs.FourModes.{Amounts}
 use Rattle.hill.specs.Log.{Record, opened_of}
 use Rattle.chunk.specs.Chunk.{whole_log}
 use Rattle.chunk.proofs.Laws.{is-log, refused-low}

@@ -1,7 +1,7 @@
 -- What is claimed of the record that two have in common, by places in the log. Definitions only.
 use Rattle.std.specs.Prelude.{◌≡◌, ◌⊎◌, ◌↔◌, List, ℕ, ◌≤◌, ◌<◌}
 use Rattle.gate.specs.Outcome.{refused, granted}
-use Rattle.figure.specs.FourModes.{Amounts}
+use Rattle.modes.specs.FourModes.{Amounts}
 use Rattle.hill.specs.Log.{Record, opened_of}
 use Rattle.hill.specs.Closing.{OpensAt, ClosedBy, Holds}
 use Rattle.chunk.specs.Chunk.{whole_log}

@@ -2,7 +2,7 @@
 -- that Claims describes.
 use Rattle.std.specs.Prelude.{Bool, false, not, cond, ◌&&◌, List, ℕ, zero, suc, ◌-◌, leb, ltb, length, take, drop}
 use Rattle.gate.specs.Outcome.{Outcome, granted, question, onward}
-use Rattle.figure.specs.FourModes.{Amounts}
+use Rattle.modes.specs.FourModes.{Amounts}
 use Rattle.hill.specs.Log.{Record, opening, closing, depth, opened_of}
 use Rattle.hill.specs.Closing.{at}
 use Rattle.hill.specs.Summary.{closed_in}

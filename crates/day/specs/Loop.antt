@@ -13,7 +13,7 @@ use Rattle.hill.proofs.FigureLaws.{log-tree}
 use Rattle.hill.specs.Summary.{middle}
 use Rattle.hill.specs.Building.{hill_of}
 use Rattle.hill.specs.Finish.{outcome}
-use Rattle.figure.specs.FourModes.{Amounts}
+use Rattle.modes.specs.FourModes.{Amounts}
 use Rattle.figure.specs.Mode.{mode_of}
 use Rattle.figure.specs.Stored.{IsStored, amounts}
 use Rattle.slopes.specs.Rising.{Stands, stands-none}

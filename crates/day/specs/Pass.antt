@@ -2,7 +2,7 @@
 use Rattle.std.specs.Prelude.{◌≡◌, refl, List, [], ◌∷◌, ◌++◌, ℕ, suc, ◌≤◌, ◌<◌, ℤ}
 use Rattle.std.proofs.Common.{sym, subst, arith}
 use Rattle.hill.specs.Log.{Record, closing, start_level, end_level, opened_of}
-use Rattle.figure.specs.FourModes.{Amounts, InRange}
+use Rattle.modes.specs.FourModes.{Amounts, InRange}
 use Rattle.figure.specs.Mode.{mode_of}
 use Rattle.figure.specs.Stored.{amounts, none}
 use Rattle.slopes.specs.Actions.{Pushed, Top, ClosedTop}

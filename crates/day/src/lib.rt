@@ -1,4 +1,6 @@
 // The day's figures: net, heaviest, eaten and stamp of one log, in one pass over its records.
+#![tactic(auto)]
+
 ghost use Rattle.std.specs.Prelude.{◌≡◌, ◌<◌};
 ghost use Rattle.day.specs.Day.{day_answer};
 ghost use Rattle.outcome.specs.Day.{day_outcome};

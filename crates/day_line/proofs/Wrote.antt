@@ -37,13 +37,13 @@ item z after = decimal_of z ++ (after ∷ [])
 
 -- what `write_item` ensures of a number as a local holds it, y, is one item more of the number itself, z
 pub next : {before text now now' : List ℕ} {at at' : ℕ} {y z : ℤ} (after : ℕ) → Wrote before text now at → y ≡ z
-    → (at' ≡ at + (length (decimal_of y) + 1)) × (now' ≡ sets now at (item y after))
+    → at' ≡ at + (length (decimal_of y) + 1) → now' ≡ sets now at (item y after)
     → Wrote before (text ++ item z after) now' at'
-next {before} {text} {now} {now'} {at} {at'} {y} {z} after w e p =
+next {before} {text} {now} {now'} {at} {at'} {y} {z} after w e p q =
     let whole : length (text ++ item z after) ≡ length text + (length (decimal_of z) + 1) = length-append text (item z after) ∙ ap (λ (k : ℕ). length text + k) (length-append (decimal_of z) (after ∷ [])) in
     let same : length (decimal_of y) ≡ length (decimal_of z) = ap (λ (x : ℤ). length (decimal_of x)) e in
     record {
-      is = p.1 ∙ ap (λ (x : ℤ). sets now at (item x after)) e ∙ rw (w.is, w.end, sets-append before 0 text (item z after), zero-add);
+      is = q ∙ ap (λ (x : ℤ). sets now at (item x after)) e ∙ rw (w.is, w.end, sets-append before 0 text (item z after), zero-add);
       end = omega arith;
     }
 

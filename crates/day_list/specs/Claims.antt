@@ -5,7 +5,7 @@ use Rattle.gate.specs.Outcome.{refused, granted}
 use Rattle.number.specs.Bytes.{AllBytes}
 use Rattle.record.specs.Record.{close_fields}
 use Rattle.record.specs.declared.Fields.{Fields}
-use Rattle.figure.specs.FourModes.{Amounts}
+use Rattle.modes.specs.FourModes.{Amounts}
 use Rattle.hill.specs.Log.{Record, opened_of}
 use Rattle.hill.specs.Sorted.{Sorted, NoDuplicates}
 use Rattle.hill.specs.Row.{joined}

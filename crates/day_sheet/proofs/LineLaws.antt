@@ -8,9 +8,9 @@ use Rattle.text.specs.Decimal.{digits_of, decimal_of, read_digits, read_decimal}
 use Rattle.text.proofs.DecimalLaws.{digits-length}
 use Rattle.text.specs.Columns.{right_aligned, after_blanks}
 use Rattle.text.proofs.ColumnLaws.{length-aligned, number-back, decimal-back}
-use Rattle.figure.specs.FourModes.{Amounts, Stamp, stamp, store_held}
+use Rattle.modes.specs.FourModes.{Amounts, Stamp, stamp, store_held}
 use Rattle.figure.specs.Mode.{mode_of, mode_in_use}
-use Rattle.figure.specs.Bound.{size_held}
+use Rattle.modes.specs.Bound.{size_held}
 use Rattle.figure.specs.Stored.{by_mode}
 use Rattle.day_sheet.specs.Sheet.{sheet_line}
 use Rattle.day_sheet.specs.Claims.{InColumns, LineRead, read_line}

@@ -7,9 +7,9 @@ use Prim.Native.Nat.{ℕ, zero, suc, ◌+◌, ◌-◌, ◌*◌, ◌≤◌, ◌<�
 use native.Mathlib.Omega.{arith}
 use Rattle.std.proofs.Math.IntN.{nat_abs}
 use Rattle.std.proofs.Math.ListN.{take, drop}
-use Rattle.figure.specs.FourModes.{Amounts}
+use Rattle.modes.specs.FourModes.{Amounts}
 use Rattle.figure.specs.Mode.{mode_of, mode_in_use}
-use Rattle.figure.specs.Bound.{bound-fits}
+use Rattle.modes.proofs.Bound.{bound-fits}
 use Rattle.hill.specs.Log.{Record, opening, closing, depth, opened_of}
 use Rattle.hill.specs.Closing.{OpensAt, ClosedBy}
 use Rattle.hill.proofs.HeldPlaces.{opening-closing, opens-inside}

@@ -3,7 +3,7 @@ use Rattle.std.specs.Prelude.{◌≡◌, true, false, ◌↔◌, List, [], ◌++
 use Rattle.gate.specs.Outcome.{refused, granted, written}
 use Rattle.text.specs.Decimal.{digits_of, decimal_of, read_digits, read_decimal}
 use Rattle.text.specs.Columns.{after_blanks}
-use Rattle.figure.specs.FourModes.{Amounts}
+use Rattle.modes.specs.FourModes.{Amounts}
 use Rattle.figure.specs.Mode.{mode_of, mode_in_use}
 use Rattle.hill.specs.Verdict.{pass}
 use Rattle.hill.specs.Log.{Record, opened_of, log_fault}

@@ -3,7 +3,7 @@ use Rattle.std.specs.Prelude.{ℤ}
 use mathlib.Core.List.{List}
 use Prim.Native.Nat.{ℕ, ◌-◌}
 use Rattle.std.proofs.Math.ListN.{drop}
-use Rattle.figure.specs.FourModes.{Amounts}
+use Rattle.modes.specs.FourModes.{Amounts}
 use Rattle.hill.specs.Log.{Record}
 use Rattle.chunk.specs.Chunk.{figure_in}
 

@@ -3,7 +3,7 @@ use Rattle.std.specs.Prelude.{List, [], ◌∷◌, ◌++◌, ℕ, suc, ◌*◌, 
 use Rattle.gate.specs.Outcome.{Outcome, question, onward, written}
 use Rattle.text.specs.Decimal.{digits_of, decimal_of}
 use Rattle.text.specs.Columns.{right_aligned}
-use Rattle.figure.specs.FourModes.{Amounts}
+use Rattle.modes.specs.FourModes.{Amounts}
 use Rattle.figure.specs.Mode.{mode_in_use}
 use Rattle.hill.specs.Log.{Record, opening, closing, opened_of}
 use Rattle.hill.specs.Row.{joined}

@@ -11,7 +11,7 @@ use Rattle.record.proofs.RangeLaws.{range-parts}
 use Rattle.record.proofs.Readable.{First, first_read}
 use Rattle.record.proofs.Encoding.{open-length, close-length, open-bytes, close-bytes, chunk-again, AllReread, open-back, close-back, chunk_read}
 use Rattle.record.specs.declared.Fields.{Fields}
-use Rattle.figure.specs.FourModes.{Amounts}
+use Rattle.modes.specs.FourModes.{Amounts}
 use Rattle.hill.specs.Log.{Record, opening, closing, opens, opened_of}
 use Rattle.hill.proofs.Levels.{log-pairs}
 use Rattle.chunk.specs.Chunk.{record_of, chunk_of, IsWellFormed}

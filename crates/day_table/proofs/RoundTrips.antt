@@ -10,7 +10,7 @@ use Rattle.record.proofs.Laws.{short-is, sound}
 use Rattle.record.proofs.Encoding.{read-open}
 use Rattle.record.proofs.Ranged.{AllInRange, records-in-range}
 use Rattle.record.specs.declared.Fields.{Fields}
-use Rattle.figure.specs.FourModes.{Amounts}
+use Rattle.modes.specs.FourModes.{Amounts}
 use Rattle.figure.specs.Stored.{amounts}
 use Rattle.hill.specs.Verdict.{Verdict, pass, refuse}
 use Rattle.hill.specs.Log.{Record, opening, closing, opened_of, log_fault}

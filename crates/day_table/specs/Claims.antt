@@ -4,7 +4,7 @@ use Rattle.gate.specs.Outcome.{refused, granted, written}
 use Rattle.number.specs.Bytes.{AllBytes}
 use Rattle.record.specs.Record.{read_of, records_of, full_fields}
 use Rattle.record.specs.declared.Fields.{Fields}
-use Rattle.figure.specs.FourModes.{Amounts}
+use Rattle.modes.specs.FourModes.{Amounts}
 use Rattle.hill.specs.Log.{Record}
 use Rattle.chunk.specs.Chunk.{IsWellFormed, whole_log}
 use Rattle.day_table.specs.Table.{TableLine, table_of}

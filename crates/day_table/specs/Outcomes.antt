@@ -5,7 +5,7 @@ use Rattle.std.proofs.Common.{of_z}
 use Rattle.gate.specs.Outcome.{Outcome, question, onward, written}
 use Rattle.number.specs.Bytes.{le_at, bytes_of, i32_at}
 use Rattle.record.specs.Record.{in_range, open_bytes, close_bytes}
-use Rattle.figure.specs.FourModes.{Amounts}
+use Rattle.modes.specs.FourModes.{Amounts}
 use Rattle.hill.specs.Log.{Record, opening, closing}
 use Rattle.chunk.specs.Chunk.{whole_log}
 use Rattle.day_table.specs.Table.{TableLine, table_line, table_of, log_of, nested}

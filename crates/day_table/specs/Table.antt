@@ -1,6 +1,6 @@
 -- The day table: "lines in log order". The table of a log, the log of a table, and question 13. Definitions only.
 use Rattle.std.specs.Prelude.{Bool, true, cond, ◌&&◌, List, [], ◌∷◌, ◌++◌, ℕ, zero, suc, leb, ltb, eqb}
-use Rattle.figure.specs.FourModes.{Amounts}
+use Rattle.modes.specs.FourModes.{Amounts}
 use Rattle.hill.specs.Log.{Record, opening, closing}
 
 -- A line: the depth of an opened record, and its value, floor and ceiling.

@@ -1,6 +1,6 @@
 -- The summary that a head and the arrays say, and what a function that writes it asks. Definitions only.
 use Rattle.std.specs.Prelude.{◌≡◌, ℕ, ◌-◌, ◌≤◌}
-use Rattle.figure.specs.FourModes.{store_held}
+use Rattle.modes.specs.FourModes.{store_held}
 use Rattle.figure.specs.Mode.{Mode, mode_of}
 use Rattle.hill.specs.Summary.{blank, part, spoilt, whole}
 use Rattle.summary.specs.Layout.{SummaryIn}

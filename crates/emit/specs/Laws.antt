@@ -6,9 +6,9 @@ use Rattle.gate.specs.Promises.{Answers}
 use Rattle.gate.proofs.Promises.{answer-fits, answer-same}
 use Rattle.gate.specs.declared.Written.{Written}
 use Rattle.gate.specs.declared.Written.TheVariants.{Bytes}
-use Rattle.figure.specs.FourModes.{store_held}
+use Rattle.modes.specs.FourModes.{store_held}
 use Rattle.figure.specs.Mode.{Mode, mode_of}
-use Rattle.figure.specs.declared.Held.{Held}
+use Rattle.modes.specs.declared.Held.{Held}
 use Rattle.hill.specs.Summary.{blank, part, whole}
 use Rattle.judge.specs.declared.SpoiltHead.{SpoiltHead}
 use Rattle.judge.specs.declared.HillHead.{HillHead}

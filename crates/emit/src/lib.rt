@@ -1,4 +1,6 @@
 // A summary, as its head and the arrays of its slopes, written into a lent buffer where it fits: question 12.
+#![tactic(auto)]
+
 ghost use Rattle.std.specs.Prelude.{length};
 ghost use Rattle.gate.specs.Outcome.{written};
 ghost use Rattle.gate.specs.Promises.{Answers};

@@ -1,6 +1,6 @@
 -- The slots of a state: what is held there, what is written there, and what the farms draw. Assumes nothing.
-use Rattle.std.specs.Prelude.{◌≡◌, refl, List, [], ◌∷◌, ◌++◌, ℕ, zero, suc, ◌+◌, ◌-◌, ◌*◌, ◌^◌, ◌≤◌, ◌<◌, min, length, get_or, take, drop, set, replicate}
-use Rattle.std.proofs.Common.{sym, ap, ◌∙◌, append_assoc, append-nil, add-zero, zero-add, arith, length-set, length-append, length-drop, drop_of_length-le, take_all, drop-cons, take_at, length-take-le, le-leb}
+use Rattle.std.specs.Prelude.{◌≡◌, refl, List, [], ◌++◌, ℕ, zero, suc, ◌+◌, ◌-◌, ◌*◌, ◌^◌, ◌≤◌, ◌<◌, min, length, get_or, take, drop, set, replicate}
+use Rattle.std.proofs.Common.{sym, ap, ◌∙◌, append_assoc, append-nil, add-zero, zero-add, arith, length-set, length-append, drop_of_length-le, take_all, drop-cons, take_at, length-take-le, le-leb}
 use Rattle.std.proofs.lemmas.List.{length-replicate}
 use Rattle.std.proofs.Math.Seq.{take-length, paste, paste-zero, paste-suc}
 use Rattle.std.proofs.lemmas.Bool.{lt-leb}
@@ -13,7 +13,7 @@ use Rattle.summary.specs.Layout.{encode}
 use Rattle.summary.specs.Outcomes.{blank_bytes}
 use Rattle.valley_station.specs.Station.{fresh_station, opened_in, drawn, excess_of}
 use Rattle.valley_station.specs.State.{slot_holds, station_of, slot_of, state_of, put_slot}
-use Rattle.valley_station.proofs.StateLaws.{held-slot, eight-farms, slot-length, state-append}
+use Rattle.valley_station.proofs.StateLaws.{held-slot, eight-farms, slot-length}
 
 -- ---- what is held
 

@@ -1,4 +1,6 @@
 // The calls of a valley station that serves eight farms, on the state that the caller keeps: fresh, a send and an end of day.
+#![tactic(auto)]
+
 ghost use Rattle.std.specs.Prelude.{◌≡◌, suc, ◌+◌, ◌*◌, ◌^◌, ◌≤◌, ◌<◌, min, ◌++◌, length, take, drop};
 ghost use Rattle.gate.specs.Outcome.{written, buffer_after};
 ghost use Rattle.gate.specs.Answers.{written_answer, length_answered};

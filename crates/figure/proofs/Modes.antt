@@ -1,7 +1,7 @@
 -- The modes as a match on the number leaves them, and the ranges of stored stamps. Assumes nothing.
 use Rattle.std.proofs.Common.{◌≡◌, ℕ, zero, suc, ◌%◌, ◌^◌, true, ℤ, pos, ◌+ℤ◌, nat_abs, ◌≤ℤ◌, ◌<ℤ◌, sym, refl, ap}
 use Rattle.number.specs.Integer.{up}
-use Rattle.figure.specs.StoreLaws.{stored-range}
+use Rattle.modes.proofs.StoreLaws.{stored-range}
 use Rattle.figure.specs.Mode.{Mode, mode_of}
 use Rattle.figure.specs.Stored.{IsStored, size_of, combined}
 

@@ -2,11 +2,11 @@
 use Rattle.std.proofs.Common.{◌≡◌, ◌+◌, ◌^◌, ◌<◌, ℤ, nat_abs, ap, arith, w64, to_z, of_z}
 use lib.Signed.{mag}
 use Rattle.number.specs.Word.{back}
-use Rattle.figure.specs.FourModes.{Amounts, read_held}
-use Rattle.figure.specs.Bound.{size_held}
+use Rattle.modes.specs.FourModes.{Amounts, read_held}
+use Rattle.modes.specs.Bound.{size_held}
 use Rattle.figure.specs.Mode.{Mode, mode_of}
 use Rattle.figure.specs.Stored.{IsStored, size_of, combined, passed, IsRun, RunWithin, Composes, combined-read}
-use Rattle.figure.specs.declared.Run.{Run}
+use Rattle.modes.specs.declared.Run.{Run}
 
 module _ (f g : Run) where
   pub net-room : Composes (mode_of 1) f g → nat_abs g.first + nat_abs f.first < 2 ^ 63

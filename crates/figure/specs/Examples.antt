@@ -1,11 +1,11 @@
 -- Slips that document 01 has seen drawn on paper, and document 02's negative record, by computation. Assumes nothing.
 use Rattle.std.specs.Prelude.{◌≡◌, pos, negsuc, ◌+ℤ◌, refl}
 use Rattle.number.specs.Integer.{min_z, max_z, clamp}
-use Rattle.figure.specs.FourModes.{Amounts, lift, line_of, eaten_of, nothing, store_held, read_held}
-use Rattle.figure.specs.Run.{EatenNumbers, eaten_along, read_eaten_run}
+use Rattle.modes.specs.FourModes.{Amounts, lift, line_of, eaten_of, nothing, store_held, read_held}
+use Rattle.modes.specs.Run.{EatenNumbers, eaten_along, read_eaten_run}
 use Rattle.figure.specs.Mode.{mode_of}
 use Rattle.figure.specs.Stored.{amounts, none, passed, level_run, run_after}
-use Rattle.figure.specs.declared.Held.TheVariants.{Nothing, Figure}
+use Rattle.modes.specs.declared.Held.TheVariants.{Nothing, Figure}
 
 -- "open 0 value 10 floor 0 ceiling 100; open 1 value 5 floor 0 ceiling 4; ..; open 1 value -3 floor 0 ceiling 100; .."
 abbrev first : Amounts

@@ -7,14 +7,17 @@ use Rattle.algebra.specs.Algebra.{Algebra, Laws, Commutative}
 use Rattle.algebra.specs.Run.{Level, Context}
 use Rattle.algebra.specs.Sizes.{Sizes, RunSizes}
 use Rattle.number.specs.IntegerLaws.{sfits-abs}
-use Rattle.figure.specs.FourModes.{Amounts, limit, InRange, net, heaviest, eaten, stamp, store_held, read_held, store_stamp, read_stamp, is_stamp}
-use Rattle.figure.specs.ModeLaws.{net_laws, eaten_laws, eaten-comm, heaviest_laws, heaviest-comm, stamp_laws, stamp-comm}
-use Rattle.figure.specs.Run.{net_run, read_net_run, IsNetRun, heaviest_run, read_heaviest_run, IsHeaviestRun, eaten_run, read_eaten_run, IsEatenRun, stamp_run, read_stamp_run, IsStampRun}
-use Rattle.figure.specs.Runs.{net_context, heaviest_context, eaten_context, stamp_context}
-use Rattle.figure.specs.RunUnique.{Pinned, net_pinned, heaviest_pinned, eaten_pinned, stamp_pinned}
-use Rattle.figure.specs.Bound.{net_sizes, net_run_sizes, heaviest_sizes, heaviest_run_sizes, eaten_sizes, eaten_run_sizes, stamp_sizes, stamp_run_sizes}
-use Rattle.figure.specs.StoreLaws.{held-stored, is-stamp, stamp-is, held_back, held_fits, stamp-back, stamp-fits, RunFits, net-run-fits, line-back, line-run-fits, eaten-run-fits, affine-back, affine-run-fits}
-use Rattle.figure.specs.declared.Run.{Run}
+use Rattle.modes.specs.FourModes.{Amounts, limit, InRange, net, heaviest, eaten, stamp, store_held, read_held, store_stamp, read_stamp, is_stamp}
+use Rattle.modes.specs.ModeLaws.{net_laws}
+use Rattle.modes.proofs.ModeLaws.{eaten_laws, eaten-comm, heaviest_laws, heaviest-comm, stamp_laws, stamp-comm}
+use Rattle.modes.specs.Run.{net_run, read_net_run, IsNetRun, heaviest_run, read_heaviest_run, IsHeaviestRun, eaten_run, read_eaten_run, IsEatenRun, stamp_run, read_stamp_run, IsStampRun}
+use Rattle.modes.proofs.Runs.{net_context, heaviest_context, eaten_context, stamp_context}
+use Rattle.modes.specs.RunUnique.{Pinned}
+use Rattle.modes.proofs.RunUnique.{net_pinned, heaviest_pinned, eaten_pinned, stamp_pinned}
+use Rattle.modes.proofs.Bound.{net_sizes, net_run_sizes, heaviest_sizes, heaviest_run_sizes, eaten_sizes, eaten_run_sizes, stamp_sizes, stamp_run_sizes}
+use Rattle.modes.specs.StoreLaws.{RunFits}
+use Rattle.modes.proofs.StoreLaws.{held-stored, is-stamp, stamp-is, held_back, held_fits, stamp-back, stamp-fits, net-run-fits, line-back, line-run-fits, eaten-run-fits, affine-back, affine-run-fits}
+use Rattle.modes.specs.declared.Run.{Run}
 
 pub record Mode : Type 1 where
   pub algebra : Algebra Amounts

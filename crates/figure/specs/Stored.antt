@@ -4,10 +4,10 @@ use Rattle.std.proofs.Common.{sym, ◌∙◌, arith, lit≤, ne_eqb}
 use Rattle.std.proofs.Math.Path.{ap, subst}
 use Rattle.algebra.specs.Run.{Level}
 use Rattle.algebra.specs.Sizes.{cost}
-use Rattle.figure.specs.FourModes.{Amounts, limit, InRange, nothing, store_held, read_held}
+use Rattle.modes.specs.FourModes.{Amounts, limit, InRange, nothing, store_held, read_held}
 use Rattle.figure.specs.Mode.{Mode, mode_in_use, stores_nothing, mode_of}
-use Rattle.figure.specs.Bound.{size_held}
-use Rattle.figure.specs.declared.Run.{Run}
+use Rattle.modes.specs.Bound.{size_held}
+use Rattle.modes.specs.declared.Run.{Run}
 
 -- ---- definitions
 

@@ -3,30 +3,17 @@
 
 ghost use Rattle.std.specs.Prelude.{◌≡◌, ◌+◌, ◌*◌, ◌^◌, ◌<◌, pos, ◌+ℤ◌, unsigned_abs};
 ghost use Rattle.number.specs.Integer.{clamp, wrap};
-ghost use Rattle.figure.specs.FourModes.{lift, line_of, eaten_of, read_held, store_held};
-ghost use Rattle.figure.specs.Run.{addend};
-ghost use Rattle.figure.specs.Runs.{moved, bound_of};
-ghost use Rattle.figure.specs.Bound.{size_held};
+ghost use Rattle.modes.specs.FourModes.{lift, line_of, eaten_of, read_held, store_held};
+ghost use Rattle.modes.specs.Run.{addend};
+ghost use Rattle.modes.specs.Runs.{moved, bound_of};
+ghost use Rattle.modes.specs.Bound.{size_held};
 ghost use Rattle.figure.specs.Mode.{mode_in_use, stores_nothing, mode_of};
 ghost use Rattle.figure.specs.Stored.{size_of, none, combined, passed, amounts, Combines, Passes};
 
 pub mod runs;
 
-// What a record holds, in a mode where "nothing held" is no number.
-#[derive(Clone, Copy)]
-pub enum Held {
-    Nothing,
-    Figure(i64),
-}
-
-// The numbers of a run, as they are stored; the fourth is 0 but in mode 5.
-#[derive(Drop)]
-pub struct Run {
-    pub first: i64,
-    pub second: i64,
-    pub third: i64,
-    pub fourth: i64,
-}
+// The types of the figures and of the numbers of a run.
+pub use modes::{Held, Run};
 
 // ---- what a record holds
 

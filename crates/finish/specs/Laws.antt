@@ -4,7 +4,7 @@ use Rattle.std.proofs.Common.{sym, ap, ◌∙◌}
 use Rattle.gate.specs.Outcome.{refused}
 use Rattle.hill.specs.Verdict.{ends}
 use Rattle.hill.specs.Finish.{outcome}
-use Rattle.figure.specs.FourModes.{store_held}
+use Rattle.modes.specs.FourModes.{store_held}
 use Rattle.summary.specs.Judge.{mode_at, start_at, end_at, middle_at}
 use Rattle.summary.specs.Decide.{is_summary}
 use Rattle.summary.proofs.FinishBytes.{finish-blank, finish-spoilt, finish-hill}

@@ -1,8 +1,10 @@
 // The call that finishes one summary, "answering the figure as a signed 64-bit number": document 01, questions 5 and 7 to 11.
+#![tactic(auto)]
+
 ghost use Rattle.std.specs.Prelude.{◌≡◌};
 ghost use Rattle.hill.specs.Verdict.{ends};
 ghost use Rattle.hill.specs.Finish.{outcome};
-ghost use Rattle.figure.specs.FourModes.{store_held};
+ghost use Rattle.modes.specs.FourModes.{store_held};
 ghost use Rattle.gate.specs.Answers.{finished_answer};
 ghost use Rattle.summary.specs.Outcomes.{finish_outcome};
 

@@ -1,6 +1,6 @@
 -- What the pass that writes the numbers of the line keeps. Definitions only.
 use Rattle.std.specs.Prelude.{◌≡◌, List, [], ◌∷◌, map, ℕ, suc, ◌+◌, ◌*◌, ◌≤◌, length, take, drop}
-use Rattle.figure.specs.FourModes.{Amounts}
+use Rattle.modes.specs.FourModes.{Amounts}
 use Rattle.hill.specs.Log.{Record}
 use Rattle.log_records.specs.Numbers.{number_at}
 use Rattle.log_records.specs.Line.{number_bytes}

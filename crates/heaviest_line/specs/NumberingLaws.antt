@@ -11,7 +11,7 @@ use Rattle.number.specs.Bytes.{bytes_of, put_at}
 use Rattle.number.specs.Laws.{length-bytes_of}
 use Rattle.record.specs.Record.{read_of}
 use Rattle.record.specs.declared.Fields.{Fields}
-use Rattle.figure.specs.FourModes.{Amounts}
+use Rattle.modes.specs.FourModes.{Amounts}
 use Rattle.hill.specs.Log.{Record, opening, closing, depth as depth_of, start_level, opens}
 use Rattle.hill.specs.Closing.{at}
 use Rattle.chunk.specs.Chunk.{record_of, IsWellFormed}

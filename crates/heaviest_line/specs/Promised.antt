@@ -2,7 +2,7 @@
 use Rattle.std.specs.Prelude.{true, false, cond, ◌&&◌, List, ℕ, ◌+◌, ◌*◌, ◌≤◌, ◌<◌, ℤ, pos, nat_abs, get_or}
 use Rattle.std.specs.Int.Signed.{lt_z}
 use Rattle.record.specs.declared.Fields.{Fields}
-use Rattle.figure.specs.FourModes.{Amounts, limit}
+use Rattle.modes.specs.FourModes.{Amounts, limit}
 use Rattle.hill.specs.Log.{Record}
 use Rattle.chunk.specs.Chunk.{IsWellFormed}
 use Rattle.heaviest_line.specs.declared.ends.Search.{Search}

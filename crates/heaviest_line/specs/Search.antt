@@ -1,6 +1,6 @@
 -- What the pass that looks for the end of the line keeps, and what it finds. Definitions only.
 use Rattle.std.specs.Prelude.{◌≡◌, Bool, true, false, ◌⊎◌, List, [], ◌∷◌, ℕ, suc, ◌*◌, ◌≤◌, ◌<◌, ℤ, pos, nat_abs, length, get_or}
-use Rattle.figure.specs.FourModes.{Amounts, limit, nothing}
+use Rattle.modes.specs.FourModes.{Amounts, limit, nothing}
 use Rattle.hill.specs.Log.{Record}
 use Rattle.hill.specs.Closing.{OpensAt}
 use Rattle.log_records.specs.Numbers.{number_at}

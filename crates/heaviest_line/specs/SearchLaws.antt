@@ -10,7 +10,7 @@ use Rattle.record.specs.Record.{read_of}
 use Rattle.record.proofs.Laws.{sound, within-size}
 use Rattle.record.proofs.RangeLaws.{range-parts}
 use Rattle.record.specs.declared.Fields.{Fields}
-use Rattle.figure.specs.FourModes.{Amounts, limit, nothing}
+use Rattle.modes.specs.FourModes.{Amounts, limit, nothing}
 use Rattle.hill.specs.Log.{Record, opening, closing, depth, start_level, end_level, opens}
 use Rattle.hill.specs.Closing.{at, OpensAt}
 use Rattle.hill.proofs.HeldPlaces.{opening-closing}

@@ -2,7 +2,7 @@
 // first record that holds nothing and to which the values from the root add to the most, and no figure of another record is needed.
 ghost use Rattle.std.specs.Prelude.{◌≡◌, ◌&&◌, List, ℕ, suc, ◌+◌, ◌≤◌, ◌<◌, pos, ◌+ℤ◌, length, get_or, set};
 ghost use Rattle.std.specs.Int.Signed.{lt_z};
-ghost use Rattle.figure.specs.FourModes.{Amounts};
+ghost use Rattle.modes.specs.FourModes.{Amounts};
 ghost use Rattle.hill.specs.Log.{Record};
 ghost use Rattle.hill.specs.Closing.{at};
 ghost use Rattle.chunk.specs.Chunk.{record_of, IsWellFormed};

@@ -1,9 +1,11 @@
 // The records behind the heaviest line: one pass over the log finds where the line ends, and another writes the numbers of its records.
+#![tactic(auto)]
+
 ghost use Rattle.std.specs.Prelude.{◌≡◌, List, length};
 ghost use Rattle.gate.specs.Outcome.{written, buffer_after};
 ghost use Rattle.gate.specs.Answers.{written_answer, length_answered};
 ghost use Rattle.gate.specs.Promises.{Answers};
-ghost use Rattle.figure.specs.FourModes.{Amounts};
+ghost use Rattle.modes.specs.FourModes.{Amounts};
 ghost use Rattle.hill.specs.Log.{Record};
 ghost use Rattle.chunk.specs.Chunk.{IsWellFormed};
 ghost use Rattle.log_records.specs.Line.{line_numbers, number_bytes, heaviest_line_outcome};

@@ -2,7 +2,7 @@
 // end those of the records stand there that are open at the end, from the root down.
 ghost use Rattle.std.specs.Prelude.{◌≡◌, List, ℕ, suc, ◌+◌, ◌*◌, ◌≤◌, ◌<◌, length};
 ghost use Rattle.gate.specs.Outcome.{granted, buffer_after};
-ghost use Rattle.figure.specs.FourModes.{Amounts};
+ghost use Rattle.modes.specs.FourModes.{Amounts};
 ghost use Rattle.hill.specs.Log.{Record};
 ghost use Rattle.hill.specs.Closing.{at};
 ghost use Rattle.chunk.specs.Chunk.{record_of, IsWellFormed};

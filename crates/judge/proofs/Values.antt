@@ -10,8 +10,8 @@ use lib.IntN.{ℤ, nat_abs}
 use borrow.Author.Tests.{leb-true, leb-false, lt-ltb, le-ltb, eq-eqb, ne_eqb}
 use Rattle.number.specs.Integer.{same}
 use Rattle.number.specs.Bytes.{i64_at}
-use Rattle.figure.specs.FourModes.{limit, nothing, read_held, is_stamp}
-use Rattle.figure.specs.Bound.{size_held}
+use Rattle.modes.specs.FourModes.{limit, nothing, read_held, is_stamp}
+use Rattle.modes.specs.Bound.{size_held}
 use Rattle.figure.specs.Mode.{stores_nothing, mode_of}
 use Rattle.figure.specs.Stored.{size_of, none, none_is, size_is}
 use Rattle.summary.specs.Judge.{mode_at, rise_at, fall_at, opened_at, left_at, middle_at, held_at, sum_to, nothing_in, counted}

@@ -1,10 +1,10 @@
 -- What `judge` answers of bytes, by question 5 and by where the numbers stand. Definitions only.
 use Rattle.std.specs.Prelude.{cond, List, ℕ, eqb, ℤ}
 use Rattle.gate.specs.Outcome.{Outcome, refused, granted, question}
-use Rattle.figure.specs.FourModes.{read_held}
+use Rattle.modes.specs.FourModes.{read_held}
 use Rattle.figure.specs.Mode.{stores_nothing}
-use Rattle.figure.specs.declared.Held.{Held}
-use Rattle.figure.specs.declared.Held.TheVariants.{Figure}
+use Rattle.modes.specs.declared.Held.{Held}
+use Rattle.modes.specs.declared.Held.TheVariants.{Figure}
 use Rattle.summary.specs.Judge.{kind_at, mode_at, fault_at, spoilt_start_at, start_at, peak_at, end_at, opened_at, middle_at}
 use Rattle.summary.specs.Decide.{is_summary}
 use Rattle.judge.specs.declared.SpoiltHead.{SpoiltHead}

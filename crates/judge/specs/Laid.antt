@@ -2,7 +2,7 @@
 use Rattle.std.specs.Prelude.{Bool, ◌&&◌, List, ℕ, ◌+◌, ◌*◌, ◌^◌, ◌≤◌, ◌<◌, leb, length, ℤ}
 use Rattle.number.specs.Bytes.{i32_at, i64_at}
 use Rattle.record.specs.Record.{amounts_fit}
-use Rattle.figure.specs.FourModes.{limit, is_stamp}
+use Rattle.modes.specs.FourModes.{limit, is_stamp}
 use Rattle.figure.specs.Mode.{mode_of}
 use Rattle.figure.specs.Stored.{size_of}
 use Rattle.summary.specs.Judge.{start_at, peak_at, end_at, opened_at, rise_at, fall_at, left_at, middle_at, held_at, sum_to}

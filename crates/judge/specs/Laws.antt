@@ -3,10 +3,10 @@ use Rattle.std.specs.Prelude.{◌≡◌, refl, Bool, true, false, cond, List, �
 use Rattle.std.proofs.Common.{sym, ap, ◌∙◌, subst, arith}
 use borrow.Author.Tests.{ne_eqb}
 use Rattle.gate.specs.Outcome.{refused, granted}
-use Rattle.figure.specs.FourModes.{read_held, store_held}
+use Rattle.modes.specs.FourModes.{read_held, store_held}
 use Rattle.figure.specs.Mode.{stores_nothing}
-use Rattle.figure.specs.StoreLaws.{held-stored}
-use Rattle.figure.specs.declared.Held.TheVariants.{Figure}
+use Rattle.modes.proofs.StoreLaws.{held-stored}
+use Rattle.modes.specs.declared.Held.TheVariants.{Figure}
 use Rattle.summary.specs.Judge.{kind_at, mode_at, HasLayout, IsSpoilt, IsHill, IsSummary, is_blank, is_spoilt, is_hill}
 use Rattle.summary.specs.Decide.{layout_fits, is_summary}
 use Rattle.summary.proofs.DecideLaws.{decide-summary}

@@ -7,9 +7,9 @@ use Rattle.std.proofs.Math.Decide.{dec_lt}
 use Rattle.std.proofs.Math.IntN.{+ℤ_idr}
 use Rattle.std.specs.Int.Signed.{≤ℤ_refl}
 use Rattle.number.specs.IntegerLaws.{zed, add-law, ≤_trans, +-mono}
-use Rattle.figure.specs.FourModes.{Amounts, heaviest}
-use Rattle.figure.specs.RunUnique.{figure-same}
-use Rattle.figure.specs.declared.Held.TheVariants.{Figure}
+use Rattle.modes.specs.FourModes.{Amounts, heaviest}
+use Rattle.modes.proofs.RunUnique.{figure-same}
+use Rattle.modes.specs.declared.Held.TheVariants.{Figure}
 use Rattle.hill.specs.Log.{Record, start_level, end_level}
 use Rattle.hill.specs.Closing.{at, OpensAt, Holds}
 use Rattle.hill.specs.Figure.{figure_at}

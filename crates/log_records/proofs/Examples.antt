@@ -5,7 +5,7 @@ use Rattle.number.specs.Integer.{max_z}
 use Rattle.number.specs.Bytes.{le_at, bytes_of}
 use Rattle.record.specs.Record.{within, in_range, accepted, whole, by_shape, read_of, records_in, records_of}
 use Rattle.record.proofs.Examples.{log_d}
-use Rattle.figure.specs.FourModes.{Amounts, lift, line_of}
+use Rattle.modes.specs.FourModes.{Amounts, lift, line_of}
 use Rattle.figure.specs.Stored.{amounts}
 use Rattle.hill.specs.Verdict.{joint, count, ends}
 use Rattle.hill.specs.Log.{Record, opening, closing}

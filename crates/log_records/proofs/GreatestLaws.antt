@@ -7,10 +7,10 @@ use mathlib.Core.List.{List, [], ◌∷◌, map, Memᴰ}
 use Rattle.std.specs.Int.Signed.{le_z, ≤ℤ_refl}
 use Rattle.number.specs.Integer.{max_z}
 use Rattle.number.specs.IntegerLaws.{zed, max-law, ≤_trans, +-mono}
-use Rattle.figure.specs.FourModes.{Amounts, heaviest, lift, line_of}
-use Rattle.figure.specs.RunUnique.{figure-same}
-use Rattle.figure.specs.declared.Held.{Held}
-use Rattle.figure.specs.declared.Held.TheVariants.{Nothing, Figure}
+use Rattle.modes.specs.FourModes.{Amounts, heaviest, lift, line_of}
+use Rattle.modes.proofs.RunUnique.{figure-same}
+use Rattle.modes.specs.declared.Held.{Held}
+use Rattle.modes.specs.declared.Held.TheVariants.{Nothing, Figure}
 use Rattle.hill.specs.Log.{Record}
 use Rattle.hill.specs.Closing.{OpensAt, Holds, Places}
 use Rattle.hill.specs.Sorted.{Sorted}

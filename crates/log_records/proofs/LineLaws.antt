@@ -9,10 +9,10 @@ use Prim.Native.Nat.{ℕ, zero, suc, ◌+◌, ◌≤◌, ◌<◌}
 use Rattle.std.proofs.Math.IntN.{+ℤ_idr, +ℤ_idl}
 use Rattle.std.specs.Int.Signed.{le_z}
 use Rattle.number.specs.IntegerLaws.{zed, add-law, le-true, le-false}
-use Rattle.figure.specs.FourModes.{Amounts, heaviest}
-use Rattle.figure.specs.RunUnique.{figure-same}
-use Rattle.figure.specs.declared.Held.{Held}
-use Rattle.figure.specs.declared.Held.TheVariants.{Nothing, Figure}
+use Rattle.modes.specs.FourModes.{Amounts, heaviest}
+use Rattle.modes.proofs.RunUnique.{figure-same}
+use Rattle.modes.specs.declared.Held.{Held}
+use Rattle.modes.specs.declared.Held.TheVariants.{Nothing, Figure}
 use Rattle.hill.specs.Verdict.{pass}
 use Rattle.hill.specs.Log.{Record, log_fault}
 use Rattle.hill.specs.Closing.{OpensAt, Holds}

@@ -7,8 +7,8 @@ use mathlib.Core.List.{List, [], ◌∷◌, ◌++◌, append_assoc}
 use Rattle.std.proofs.Math.Decide.{dec_lt}
 use Rattle.std.proofs.Math.IntN.{+ℤ_idr}
 use Rattle.number.specs.IntegerLaws.{zed, add-law}
-use Rattle.figure.specs.FourModes.{Amounts}
-use Rattle.figure.specs.RunUnique.{figure-same}
+use Rattle.modes.specs.FourModes.{Amounts}
+use Rattle.modes.proofs.RunUnique.{figure-same}
 use Rattle.hill.specs.Log.{Record, opening, closing, depth, start_level, end_level}
 use Rattle.hill.specs.Closing.{at, OpensAt, ClosedBy, Holds}
 use Rattle.hill.proofs.HeldPlaces.{opening-closing, opens-inside}

@@ -2,8 +2,8 @@
 use Rattle.std.specs.Prelude.{◌≡◌, ◌↔◌, List, [], ◌∷◌, map, ℕ, ◌*◌, ◌≤◌, ◌<◌, ℤ, pos, ◌+ℤ◌, length, get_or, ◌≤ℤ◌}
 use Rattle.gate.specs.Outcome.{refused, granted, written}
 use Rattle.number.specs.Bytes.{le_at}
-use Rattle.figure.specs.FourModes.{Amounts, heaviest}
-use Rattle.figure.specs.declared.Held.TheVariants.{Figure}
+use Rattle.modes.specs.FourModes.{Amounts, heaviest}
+use Rattle.modes.specs.declared.Held.TheVariants.{Figure}
 use Rattle.hill.specs.Log.{Record, opening, closing, opened_of}
 use Rattle.hill.specs.Closing.{at, OpensAt, Holds}
 use Rattle.hill.specs.Figure.{figure_at}

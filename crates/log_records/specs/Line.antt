@@ -4,9 +4,9 @@ use Rattle.std.specs.Prelude.{Bool, true, false, cond, List, [], ◌∷◌, ◌+
 use Rattle.gate.specs.Outcome.{Outcome, onward, written}
 use Rattle.number.specs.Bytes.{bytes_of}
 use Rattle.number.specs.Integer.{same}
-use Rattle.figure.specs.FourModes.{Amounts, heaviest}
-use Rattle.figure.specs.declared.Held.{Held}
-use Rattle.figure.specs.declared.Held.TheVariants.{Nothing, Figure}
+use Rattle.modes.specs.FourModes.{Amounts, heaviest}
+use Rattle.modes.specs.declared.Held.{Held}
+use Rattle.modes.specs.declared.Held.TheVariants.{Nothing, Figure}
 use Rattle.hill.specs.Log.{Record}
 use Rattle.hill.specs.Figure.{figure_at, combined}
 use Rattle.hill.specs.HeldPlaces.{held_from}

@@ -1,7 +1,7 @@
 -- The records open at a place, deepest first: how a pass over the log comes by them, and that those down to the first heaviest end are the line. Assumes nothing.
 use Rattle.std.specs.Prelude.{◌≡◌, ℕ, suc, ◌-◌, ◌≤◌, ◌<◌, ℤ, length, ◌≤ℤ◌, ◌<ℤ◌}
 use mathlib.Core.List.{List, [], ◌∷◌}
-use Rattle.figure.specs.FourModes.{Amounts}
+use Rattle.modes.specs.FourModes.{Amounts}
 use Rattle.hill.specs.Log.{Record, closing, depth, start_level}
 use Rattle.hill.specs.Closing.{at, OpensAt}
 use Rattle.log_records.specs.Claims.{sum_of}

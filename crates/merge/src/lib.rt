@@ -1,4 +1,6 @@
 // The call that merges two summaries: document 01, "Summaries" and questions 5, 6 and 12.
+#![tactic(auto)]
+
 ghost use Rattle.std.specs.Prelude.{◌≡◌, length};
 ghost use Rattle.gate.specs.Outcome.{written, buffer_after};
 ghost use Rattle.gate.specs.Answers.{written_answer, length_answered};

@@ -60,12 +60,12 @@ module _ (m : ℕ) where
   these ps = map (decode m) ps
 
   -- what accepted pieces merge to is accepted
-  in_order : (ps : List (List ℕ)) → AllIn m ps → Accepted m (in_order (merge_summary (mode_of m).algebra) blank (these ps))
-  in_order [] a = tt
-  in_order (p ∷ ps) a = valid-merge_summary (mode_of m).algebra (mode_of m).sizes (mode_of m).laws (decode m p) (in_order (merge_summary (mode_of m).algebra) blank (these ps)) (decoded m p a.0) (in_order ps a.1)
+  in_order-accepted : (ps : List (List ℕ)) → AllIn m ps → Accepted m (in_order (merge_summary (mode_of m).algebra) blank (these ps))
+  in_order-accepted [] a = tt
+  in_order-accepted (p ∷ ps) a = valid-merge_summary (mode_of m).algebra (mode_of m).sizes (mode_of m).laws (decode m p) (in_order (merge_summary (mode_of m).algebra) blank (these ps)) (decoded m p a.0) (in_order-accepted ps a.1)
 
   row-accepted : (ps : List (List ℕ)) → AllIn m ps → Accepted m (merge_row (mode_of m).algebra (these ps))
-  row-accepted ps a = subst (Accepted m) (sym (merge_row-in_order (mode_of m).algebra (mode_of m).laws (these ps))) (in_order ps a)
+  row-accepted ps a = subst (Accepted m) (sym (merge_row-in_order (mode_of m).algebra (mode_of m).laws (these ps))) (in_order-accepted ps a)
 
 -- the row is one summary of mode m, and s is what it says
 pub record OnePiece (m : ℕ) (row : List ℕ) (s : SummaryIn m) : Type 0 where

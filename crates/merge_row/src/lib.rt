@@ -1,4 +1,6 @@
 // The call that merges a row of summaries, half with half: document 01, "Plan and runs" and questions 4, 5, 6 and 12.
+#![tactic(auto)]
+
 ghost use Rattle.std.specs.Prelude.{◌≡◌, ◌≤◌, ◌<◌, length};
 ghost use Rattle.gate.specs.Outcome.{written, buffer_after};
 ghost use Rattle.gate.specs.Answers.{written_answer, length_answered};

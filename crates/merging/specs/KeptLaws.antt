@@ -2,15 +2,15 @@
 use Rattle.std.specs.Prelude.{◌≡◌, refl, List, ℕ, ◌+◌, ◌*◌, ◌-◌, ◌^◌, ◌≤◌, ◌<◌, ℤ, pos, replicate}
 use Rattle.std.proofs.Common.{ap, ap₂, sym, subst, ◌∙◌, arith}
 use Rattle.algebra.specs.Algebra.{Algebra}
-use Rattle.figure.specs.FourModes.{Amounts}
+use Rattle.modes.specs.FourModes.{Amounts}
 use Rattle.figure.specs.Mode.{mode_of}
 use Rattle.figure.specs.Stored.{none}
-use Rattle.figure.specs.declared.Held.{Held}
+use Rattle.modes.specs.declared.Held.{Held}
 use Rattle.judge.specs.declared.Head.TheVariants.{Blank, Spoilt, Hill}
 use Rattle.judge.specs.Judged.{held_in}
 use Rattle.hill.specs.Verdict.{Verdict, pass, refuse, low, joint, count}
 use Rattle.hill.proofs.VerdictLaws.{low-fst, low-snd, joint-pass, refuse-pass}
-use Rattle.hill.specs.Summary.{Hill as HillOf, Part, blank, part, spoilt, whole, rise, fall, start, end, opened, verdict, peak, slopes}
+use Rattle.hill.specs.Summary.{Hill as HillOf, Part, blank, part, spoilt, whole, rise, fall, start, end, opened, verdict, slopes}
 use Rattle.hill.specs.Building.{merge}
 use Rattle.hill.proofs.Building.{merge-empty, empty-merge}
 use Rattle.hill.specs.Merge.{merge_summary}

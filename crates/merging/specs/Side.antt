@@ -1,6 +1,6 @@
 -- What a summary says before its slopes, as the code holds it, and what that means. Definitions only.
 use Rattle.std.specs.Prelude.{◌≡◌, ℕ, ◌≤◌}
-use Rattle.figure.specs.FourModes.{Amounts}
+use Rattle.modes.specs.FourModes.{Amounts}
 use Rattle.figure.specs.Mode.{mode_of}
 use Rattle.hill.specs.Verdict.{pass}
 use Rattle.fault.specs.Fault.{verdict_of}

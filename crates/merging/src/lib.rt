@@ -1,4 +1,6 @@
 // Merging summaries piece by piece: what a side says, the faults of a join, and what was merged so far. Each caller shows that the pieces are accepted.
+#![tactic(auto)]
+
 ghost use Rattle.std.specs.Prelude.{◌≡◌, List, ℕ, ◌+◌, min, ℤ, length};
 ghost use Rattle.gate.specs.Outcome.{written};
 ghost use Rattle.gate.specs.Promises.{Answers};
@@ -23,7 +25,7 @@ use slopes::Counts;
 // What a summary that is not blank says before its slopes, in one form for a spoilt one and a hill. `fault` is fault::NONE in a hill; a spoilt
 // one has no peak, and any level may stand there. No level that passes the gate is above 64, so levels have 8 bits here; in bytes and in a head they
 // have 16.
-#[derive(Drop)]
+#[derive(Clone, Copy)]
 struct Numbers {
     fault: u8,
     start: u8,

@@ -7,10 +7,10 @@ use Rattle.number.specs.Bytes.{le_at, bytes_of}
 use Rattle.number.specs.Integer.{min_z, max_z, clamp}
 use Rattle.row.specs.Row.{first_length, pieces_in, row_pieces}
 use Rattle.record.specs.Record.{within, in_range}
-use Rattle.figure.specs.FourModes.{Amounts, lift, line_of, eaten_of, store_held, read_held, is_stamp}
-use Rattle.figure.specs.declared.Held.TheVariants.{Nothing, Figure}
-use Rattle.figure.specs.Run.{at_least}
-use Rattle.figure.specs.Runs.{moved}
+use Rattle.modes.specs.FourModes.{Amounts, lift, line_of, eaten_of, store_held, read_held, is_stamp}
+use Rattle.modes.specs.declared.Held.TheVariants.{Nothing, Figure}
+use Rattle.modes.specs.Run.{at_least}
+use Rattle.modes.specs.Runs.{moved}
 use Rattle.figure.specs.Mode.{mode_of, mode_in_use}
 use Rattle.hill.specs.Verdict.{joint, count, ends}
 use Rattle.hill.specs.Summary.{Summary, hill, blank, part, spoilt, whole}

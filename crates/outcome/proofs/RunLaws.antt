@@ -5,7 +5,7 @@ use Rattle.std.proofs.Math.Bool.{true, false, cond}
 use native.Mathlib.Omega.{arith}
 use Rattle.number.specs.Bytes.{bytes_of}
 use Rattle.figure.specs.Mode.{mode_of}
-use Rattle.figure.specs.declared.Run.{Run}
+use Rattle.modes.specs.declared.Run.{Run}
 use Rattle.summary.specs.Layout.{i64_bytes}
 use Rattle.outcome.specs.Outcomes.{has_fourth, run_length, run_front, run_bytes, each_run}
 

@@ -7,7 +7,7 @@ use Prim.Native.Nat.{ℕ, suc, ◌-◌, ◌≤◌, ◌<◌}
 use Rattle.gate.specs.Outcome.{granted, written}
 use Rattle.row.specs.Row.{row_pieces}
 use Rattle.algebra.specs.Run.{Level, AllSound, run}
-use Rattle.figure.specs.FourModes.{InRange}
+use Rattle.modes.specs.FourModes.{InRange}
 use Rattle.figure.specs.Mode.{mode_of}
 use Rattle.summary.specs.Layout.{SummaryIn}
 use Rattle.join_plan.specs.Plan.{Line, plan_of_row}

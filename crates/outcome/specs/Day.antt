@@ -1,7 +1,7 @@
 -- The day's four figures of a whole log. Definitions only.
 use Rattle.std.specs.Prelude.{List, ℕ}
 use Rattle.gate.specs.Outcome.{Outcome, granted, onward}
-use Rattle.figure.specs.FourModes.{Amounts}
+use Rattle.modes.specs.FourModes.{Amounts}
 use Rattle.hill.specs.Log.{Record}
 use Rattle.chunk.specs.Chunk.{figure_in, whole_log}
 use Rattle.outcome.specs.declared.Figures.{Figures}

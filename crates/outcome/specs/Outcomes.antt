@@ -4,7 +4,7 @@ use Rattle.gate.specs.Outcome.{Outcome, question, onward, written, granted}
 use Rattle.number.specs.Bytes.{bytes_of}
 use Rattle.row.specs.Row.{row_pieces}
 use Rattle.figure.specs.Mode.{mode_of}
-use Rattle.figure.specs.declared.Run.{Run}
+use Rattle.modes.specs.declared.Run.{Run}
 use Rattle.hill.specs.Finish.{outcome}
 use Rattle.hill.specs.Row.{merge_row}
 use Rattle.summary.specs.Layout.{i64_bytes, SummaryIn, encode}

@@ -17,7 +17,7 @@ ghost use Rattle.record.specs.Record.{
 };
 
 // A record's fields. Value, floor and ceiling are 0 for a close, and the batch is 0 where the record has none.
-#[derive(Drop)]
+#[derive(Clone, Copy)]
 pub struct Fields {
     pub kind: u16,
     pub length: u16,

@@ -4,7 +4,7 @@ use Rattle.std.proofs.Common.{sym, ap, subst, ◌∙◌, inl, inr, arith}
 use borrow.Author.Tests.{ne_eqb}
 use Rattle.gate.specs.Outcome.{refused, granted, question}
 use Rattle.gate.proofs.Laws.{not-result, one_number, result-same}
-use Rattle.figure.specs.FourModes.{is_stamp}
+use Rattle.modes.specs.FourModes.{is_stamp}
 use Rattle.figure.specs.Mode.{mode_in_use}
 use Rattle.figure.specs.Stored.{by_mode}
 use Rattle.summary.specs.Judge.{mode_at}

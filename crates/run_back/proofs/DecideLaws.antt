@@ -3,10 +3,10 @@ use Rattle.std.specs.Prelude.{◌≡◌, ◌≢◌, ◌⊎◌, true, List, ℕ, 
 use Rattle.std.proofs.Math.Path.{refl}
 use Rattle.std.proofs.Common.{ap, arith}
 use Rattle.std.proofs.Math.Logic.{inl, inr}
-use Rattle.figure.specs.FourModes.{nothing, is_stamp}
+use Rattle.modes.specs.FourModes.{nothing, is_stamp}
 use Rattle.figure.specs.Mode.{mode_in_use}
 use Rattle.figure.specs.Stored.{by_mode}
-use Rattle.figure.specs.declared.Run.{Run}
+use Rattle.modes.specs.declared.Run.{Run}
 use Rattle.summary.specs.Judge.{mode_at}
 use Rattle.summary.proofs.Tests.{Tells, tells-le, tells-eq, tells-true, tells-and, tells-or, tells-then, tells-order, tells-same, tells-also}
 use Rattle.summary.proofs.DecideLaws.{tells-layout}

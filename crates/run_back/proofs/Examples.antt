@@ -2,7 +2,7 @@
 use Rattle.std.specs.Prelude.{◌≡◌, refl, List, [], ◌∷◌, ◌++◌, ℕ, ◌%◌, ◌^◌, ℤ, pos, negsuc, take}
 use Rattle.gate.specs.Outcome.{Outcome, refused, granted}
 use Rattle.number.specs.Bytes.{le_at, bytes_of}
-use Rattle.figure.specs.FourModes.{is_stamp, nothing}
+use Rattle.modes.specs.FourModes.{is_stamp, nothing}
 use Rattle.figure.specs.Mode.{mode_in_use}
 use Rattle.summary.specs.Layout.{i64_bytes}
 use Rattle.summary.specs.Decide.{layout_fits}

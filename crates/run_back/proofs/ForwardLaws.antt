@@ -1,11 +1,11 @@
 -- What a run does to an inner figure is what figure/Run says of its numbers, in each mode. Assumes nothing.
 use Rattle.std.specs.Prelude.{◌≡◌, refl, true, ℕ, ◌+◌, ◌*◌, ◌%◌, ◌^◌, ◌<◌, ℤ, pos, nat_abs, ◌+ℤ◌}
 use Rattle.std.proofs.Common.{ap, mod-eq_of_lt}
-use Rattle.figure.specs.FourModes.{store_held, read_held, read_stamp, is_stamp}
-use Rattle.figure.specs.Run.{along, read_heaviest_run, eaten_along, read_eaten_run}
-use Rattle.figure.specs.StoreLaws.{is-stamp}
+use Rattle.modes.specs.FourModes.{store_held, read_held, read_stamp, is_stamp}
+use Rattle.modes.specs.Run.{along, read_heaviest_run, eaten_along, read_eaten_run}
+use Rattle.modes.proofs.StoreLaws.{is-stamp}
 use Rattle.figure.specs.Mode.{mode_of}
-use Rattle.figure.specs.declared.Run.{Run}
+use Rattle.modes.specs.declared.Run.{Run}
 use Rattle.run_back.specs.Backwards.{forwards}
 
 -- "Mode 1: (a,0,0), x + a."

@@ -5,13 +5,13 @@ use Rattle.std.proofs.Math.Nat.{div-add-mod}
 use Rattle.std.proofs.Math.IntN.{+ℤ-neg_ℤ_cancel, -ℤ-+ℤ_cancel}
 use Rattle.number.specs.Modulo.{mod-unique, times_mod}
 use Rattle.algebra.specs.Run.{Level, run_on, run}
-use Rattle.figure.specs.FourModes.{stamp, stamp_of, Stamp, store_stamp, read_stamp, is_stamp}
-use Rattle.figure.specs.ModeLaws.{stamp-≡}
-use Rattle.figure.specs.Run.{Affine, affine, read_stamp_run}
-use Rattle.figure.specs.Runs.{stamp_context}
-use Rattle.figure.specs.StoreLaws.{is-stamp, stored_is, stamp-back}
+use Rattle.modes.specs.FourModes.{stamp, stamp_of, Stamp, store_stamp, read_stamp, is_stamp}
+use Rattle.modes.proofs.ModeLaws.{stamp-≡}
+use Rattle.modes.specs.Run.{Affine, affine, read_stamp_run}
+use Rattle.modes.proofs.Runs.{stamp_context}
+use Rattle.modes.proofs.StoreLaws.{is-stamp, stored_is, stamp-back}
 use Rattle.figure.specs.Mode.{mode_of}
-use Rattle.figure.specs.declared.Run.{Run}
+use Rattle.modes.specs.declared.Run.{Run}
 use Rattle.run_back.specs.Judge.{RunNumbers}
 use Rattle.run_back.specs.Inverse.{newton, inverse}
 use Rattle.run_back.proofs.InverseLaws.{inverse-product}

@@ -21,16 +21,18 @@ use Rattle.algebra.specs.Run.{Level, AllSound, run, run_on}
 use Rattle.algebra.proofs.Run.{run_is, run-fine}
 use Rattle.algebra.specs.Sizes.{cost, costs}
 use Rattle.algebra.proofs.Sizes.{run-within}
-use Rattle.figure.specs.FourModes.{InRange, stamp, store_held, nothing}
-use Rattle.figure.specs.Run.{Affine, HeaviestNumbers, heaviest_run}
-use Rattle.figure.specs.Runs.{stamp_context, affine_level, affine_after}
-use Rattle.figure.specs.Bound.{size_held}
-use Rattle.figure.specs.StoreLaws.{stored_is, RunFits}
+use Rattle.modes.specs.FourModes.{InRange, stamp, store_held, nothing}
+use Rattle.modes.specs.Run.{Affine, HeaviestNumbers, heaviest_run}
+use Rattle.modes.specs.Runs.{affine_level, affine_after}
+use Rattle.modes.proofs.Runs.{stamp_context}
+use Rattle.modes.specs.Bound.{size_held}
+use Rattle.modes.specs.StoreLaws.{RunFits}
+use Rattle.modes.proofs.StoreLaws.{stored_is}
 use Rattle.figure.specs.Mode.{mode_of, mode_in_use}
 use Rattle.figure.specs.Stored.{mode_small, by_mode}
-use Rattle.figure.specs.declared.Held.{Held}
-use Rattle.figure.specs.declared.Held.TheVariants.{Nothing, Figure}
-use Rattle.figure.specs.declared.Run.{Run}
+use Rattle.modes.specs.declared.Held.{Held}
+use Rattle.modes.specs.declared.Held.TheVariants.{Nothing, Figure}
+use Rattle.modes.specs.declared.Run.{Run}
 use Rattle.summary.specs.Layout.{i64_bytes, SummaryIn}
 use Rattle.summary.specs.Judge.{length_at, kind_at, mode_at}
 use Rattle.summary.proofs.ReadBack.{number-back}

@@ -1,10 +1,10 @@
 -- Backwards through a run: document 02, L6. What a run's numbers make of an inner figure, the way back, and what the call comes to. Definitions only.
 use Rattle.std.specs.Prelude.{Bool, cond, ◌||◌, List, ℕ, ◌+◌, ◌-◌, ◌*◌, ◌^◌, eqb, ℤ, ◌-ℤ◌}
 use Rattle.gate.specs.Outcome.{Outcome, question, granted}
-use Rattle.figure.specs.FourModes.{Stamp, stamp_of, store_stamp, read_stamp, is_stamp}
-use Rattle.figure.specs.Run.{Affine, read_stamp_run}
+use Rattle.modes.specs.FourModes.{Stamp, stamp_of, store_stamp, read_stamp, is_stamp}
+use Rattle.modes.specs.Run.{Affine, read_stamp_run}
 use Rattle.figure.specs.Mode.{mode_of}
-use Rattle.figure.specs.declared.Run.{Run}
+use Rattle.modes.specs.declared.Run.{Run}
 use Rattle.summary.specs.Judge.{mode_at}
 use Rattle.run_back.specs.Judge.{run_at}
 use Rattle.run_back.specs.Decide.{near, is_run_bytes}

@@ -3,7 +3,7 @@ use Rattle.std.specs.Prelude.{◌≡◌, ◌⊎◌, ◌↔◌, true, false, List
 use Rattle.gate.specs.Outcome.{refused, granted}
 use Rattle.row.specs.Row.{row_pieces}
 use Rattle.algebra.specs.Run.{Level, through}
-use Rattle.figure.specs.FourModes.{is_stamp}
+use Rattle.modes.specs.FourModes.{is_stamp}
 use Rattle.figure.specs.Mode.{mode_of}
 use Rattle.summary.specs.Judge.{mode_at}
 use Rattle.join_plan.specs.Plan.{Line, plan_of_row}

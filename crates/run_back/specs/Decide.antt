@@ -2,8 +2,8 @@
 use Rattle.std.specs.Prelude.{Bool, false, cond, ◌&&◌, ◌||◌, List, ℕ, ◌%◌, leb, eqb, ℤ, pos, nat_abs}
 use Rattle.std.specs.Int.Signed.{le_z}
 use Rattle.number.specs.Integer.{same}
-use Rattle.figure.specs.FourModes.{nothing, is_stamp}
-use Rattle.figure.specs.declared.Run.{Run}
+use Rattle.modes.specs.FourModes.{nothing, is_stamp}
+use Rattle.modes.specs.declared.Run.{Run}
 use Rattle.summary.specs.Judge.{mode_at}
 use Rattle.summary.specs.Decide.{layout_fits}
 use Rattle.outcome.specs.Outcomes.{run_length}

@@ -2,8 +2,8 @@
 -- The bytes of a slice are each 0 to 255; no clause asks for that again.
 use Rattle.std.specs.Prelude.{◌≡◌, ◌≢◌, ◌⊎◌, true, List, ℕ, ◌%◌, ◌≤◌, ℤ, pos, nat_abs, ◌≤ℤ◌}
 use Rattle.number.specs.Bytes.{i64_at}
-use Rattle.figure.specs.FourModes.{nothing, is_stamp}
-use Rattle.figure.specs.declared.Run.{Run}
+use Rattle.modes.specs.FourModes.{nothing, is_stamp}
+use Rattle.modes.specs.declared.Run.{Run}
 use Rattle.summary.specs.Judge.{mode_at, HasLayout}
 use Rattle.outcome.specs.Outcomes.{run_length}
 

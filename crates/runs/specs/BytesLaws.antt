@@ -6,7 +6,7 @@ use Rattle.std.specs.Int.{w64}
 use Rattle.number.specs.Bytes.{bytes_of, put_at}
 use Rattle.number.specs.Laws.{sets-append}
 use Rattle.figure.specs.Mode.{mode_of}
-use Rattle.figure.specs.declared.Run.{Run}
+use Rattle.modes.specs.declared.Run.{Run}
 use Rattle.summary.specs.Layout.{i64_bytes}
 use Rattle.outcome.specs.Outcomes.{has_fourth, run_length, run_front, run_bytes, each_run}
 use Rattle.outcome.proofs.RunLaws.{length_most, length_front}

@@ -9,7 +9,7 @@ use Rattle.number.specs.Laws.{sets-append}
 use Rattle.algebra.specs.Run.{Level}
 use Rattle.algebra.specs.Sizes.{costs}
 use Rattle.figure.specs.Mode.{mode_of}
-use Rattle.figure.specs.declared.Run.{Run}
+use Rattle.modes.specs.declared.Run.{Run}
 use Rattle.summary.specs.Layout.{SummaryIn}
 use Rattle.join_plan.specs.Plan.{Line}
 use Rattle.plan_work.specs.Runs.{run_of, run_levels, runs_along}

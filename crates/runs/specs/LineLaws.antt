@@ -5,7 +5,7 @@ use Rattle.algebra.specs.Run.{Level, run}
 use Rattle.algebra.specs.Sizes.{costs}
 use Rattle.figure.specs.Mode.{mode_of}
 use Rattle.figure.specs.Stored.{amounts, level_run, run_after, Levels, Composes}
-use Rattle.figure.specs.declared.Run.{Run}
+use Rattle.modes.specs.declared.Run.{Run}
 use Rattle.plan_work.specs.Runs.{run_of}
 use Rattle.plan_work.proofs.WorkLaws.{levels-none}
 use Rattle.run_level.specs.declared.Place.{Place}

@@ -4,10 +4,10 @@ use Rattle.std.proofs.Common.{sym, ◌∙◌, arith}
 use Rattle.std.proofs.Math.Path.{ap}
 use Rattle.algebra.specs.Run.{Level, run_on, run}
 use Rattle.algebra.specs.Sizes.{cost, costs}
-use Rattle.figure.specs.FourModes.{Amounts, InRange, limit}
+use Rattle.modes.specs.FourModes.{Amounts, InRange, limit}
 use Rattle.figure.specs.Mode.{Mode}
 use Rattle.figure.specs.Stored.{IsStored, size_of, level_of, level_run, run_after, IsRun, RunWithin, Levels, Composes, level_run-read, level_run-within, level_run-is, levels, run_after-read, run_after-within, run_after-is}
-use Rattle.figure.specs.declared.Run.{Run}
+use Rattle.modes.specs.declared.Run.{Run}
 use Rattle.runs.specs.Runs.{most}
 
 module _ (M : Mode) where

@@ -4,7 +4,7 @@ use Rattle.algebra.specs.Run.{Level}
 use Rattle.algebra.specs.Sizes.{cost, costs}
 use Rattle.figure.specs.Mode.{mode_of}
 use Rattle.figure.specs.Stored.{amounts, level_run}
-use Rattle.figure.specs.declared.Run.{Run}
+use Rattle.modes.specs.declared.Run.{Run}
 use Rattle.summary.specs.Judge.{mode_at}
 use Rattle.join_plan.specs.Plan.{Line}
 use Rattle.plan_work.specs.Runs.{run_levels, run_of, runs_along}

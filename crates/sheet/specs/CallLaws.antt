@@ -8,7 +8,7 @@ use Rattle.gate.specs.Outcome.{granted, written, buffer_after}
 use Rattle.gate.specs.Promises.{Answers}
 use Rattle.gate.proofs.Promises.{answer-fits, answer-short}
 use Rattle.gate.specs.declared.Written.TheVariants.{Bytes, Refused}
-use Rattle.figure.specs.FourModes.{Amounts}
+use Rattle.modes.specs.FourModes.{Amounts}
 use Rattle.figure.specs.Mode.{mode_in_use}
 use Rattle.hill.specs.Log.{Record, opened_of}
 use Rattle.hill.specs.Row.{joined}

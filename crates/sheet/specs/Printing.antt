@@ -1,7 +1,7 @@
 -- What the pass over a log keeps that prints the lines of a page. Definitions only.
 use Rattle.std.specs.Prelude.{◌≡◌, ◌⊎◌, ℕ, suc, ◌+◌, ◌-◌, ◌*◌, ◌≤◌, ◌<◌, ℤ, length, take, drop}
 use mathlib.Core.List.{List, Memᴰ}
-use Rattle.figure.specs.FourModes.{Amounts, InRange}
+use Rattle.modes.specs.FourModes.{Amounts, InRange}
 use Rattle.figure.specs.Mode.{mode_of}
 use Rattle.figure.specs.Stored.{amounts}
 use Rattle.hill.specs.Log.{Record}

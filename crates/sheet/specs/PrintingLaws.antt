@@ -13,10 +13,10 @@ use Rattle.gate.specs.Outcome.{granted, buffer_after}
 use Rattle.record.specs.Record.{read_of}
 use Rattle.record.proofs.Laws.{sound}
 use Rattle.record.specs.declared.Fields.{Fields}
-use Rattle.figure.specs.FourModes.{Amounts, InRange}
+use Rattle.modes.specs.FourModes.{Amounts, InRange}
 use Rattle.figure.specs.Mode.{mode_of}
 use Rattle.figure.specs.Stored.{none, amounts, passed}
-use Rattle.hill.specs.Log.{Record, opening, closing, opened_of, opens}
+use Rattle.hill.specs.Log.{Record, opening, closing, opened_of}
 use Rattle.hill.specs.Closing.{at, OpensAt}
 use Rattle.hill.proofs.HeldPlaces.{opening-closing, opens-inside}
 use Rattle.hill.specs.Summary.{Hill, rights}

@@ -1,10 +1,12 @@
 // A page of the sheet with a figure for every record: questions 1, 2, 3, 7 to 11, 18 and 12, and then one pass over the log that prints each line where its
 // record is closed.
+#![tactic(auto)]
+
 ghost use Rattle.std.specs.Prelude.{◌≡◌, true, List, ◌-◌, ◌<◌, min, length};
 ghost use Rattle.gate.specs.Outcome.{buffer_after};
 ghost use Rattle.gate.specs.Answers.{written_answer, length_answered};
 ghost use Rattle.gate.specs.Promises.{Answers};
-ghost use Rattle.figure.specs.FourModes.{Amounts};
+ghost use Rattle.modes.specs.FourModes.{Amounts};
 ghost use Rattle.figure.specs.Mode.{mode_in_use};
 ghost use Rattle.hill.specs.Log.{Record};
 ghost use Rattle.whole_log.specs.AskLaws.{Opens};

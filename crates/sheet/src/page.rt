@@ -3,7 +3,7 @@
 // and no figure of a closed record.
 ghost use Rattle.std.specs.Prelude.{◌≡◌, List, ◌*◌, ◌≤◌, ◌<◌, length, get_or, set};
 ghost use Rattle.gate.specs.Outcome.{granted, buffer_after};
-ghost use Rattle.figure.specs.FourModes.{Amounts};
+ghost use Rattle.modes.specs.FourModes.{Amounts};
 ghost use Rattle.figure.specs.Mode.{mode_of};
 ghost use Rattle.figure.specs.Stored.{none};
 ghost use Rattle.hill.specs.Log.{Record};

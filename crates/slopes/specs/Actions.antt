@@ -1,7 +1,7 @@
 -- What each function of `slopes` asks and leaves. Definitions only.
 use Rattle.std.specs.Prelude.{◌≡◌, Bool, true, false, List, ℕ, zero, suc, ◌+◌, ◌^◌, ◌≤◌, ◌<◌, ℤ, length, set}
 use Rattle.hill.specs.Log.{Record, opening, closing}
-use Rattle.figure.specs.FourModes.{Amounts, InRange}
+use Rattle.modes.specs.FourModes.{Amounts, InRange}
 use Rattle.figure.specs.Mode.{Mode}
 use Rattle.figure.specs.Stored.{IsStored, size_of, combined, Combines, amounts, passed}
 use Rattle.slopes.specs.declared.Counts.{Counts}

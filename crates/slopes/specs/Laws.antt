@@ -11,7 +11,7 @@ use Rattle.hill.specs.Log.{opening}
 use Rattle.hill.specs.Summary.{Hill, hill, rise, fall}
 use Rattle.hill.specs.Building.{push, join, close, step, empty}
 use Rattle.hill.proofs.ValidLaws.{weight-join, fine-join}
-use Rattle.figure.specs.FourModes.{Amounts, limit, InRange}
+use Rattle.modes.specs.FourModes.{Amounts, limit, InRange}
 use Rattle.figure.specs.Mode.{Mode}
 use Rattle.figure.specs.Stored.{IsStored, size_of, none, combined, passed, amounts, Passes, none_read, none-size, none-stored, combined-read, combined-stored, passed-read, passed-size, passed-stored, passes}
 use Rattle.slopes.specs.declared.Counts.{Counts}

@@ -6,7 +6,7 @@ use Rattle.hill.specs.Summary.{Hill}
 use Rattle.hill.specs.Building.{empty, close, step, hill_of}
 use Rattle.hill.proofs.Building.{run-append}
 use Rattle.hill.proofs.Growth.{opened-append}
-use Rattle.figure.specs.FourModes.{Amounts, limit, InRange}
+use Rattle.modes.specs.FourModes.{Amounts, limit, InRange}
 use Rattle.figure.specs.Mode.{Mode, mode_of}
 use Rattle.figure.specs.Stored.{none}
 use Rattle.slopes.specs.Arrays.{Arrays, arrays, Fig, Able, StandsFor}

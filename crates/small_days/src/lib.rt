@@ -1,4 +1,6 @@
 // All small days, written one log after another: document 02, L5.
+#![tactic(auto)]
+
 ghost use Rattle.std.specs.Prelude.{◌≡◌, [], ◌+◌, ◌≤◌, length, get_or};
 ghost use Rattle.std.proofs.lemmas.List.Edits.{sets};
 ghost use Rattle.gate.specs.Outcome.{written, buffer_after};

@@ -7,9 +7,9 @@ use Rattle.hill.specs.Log.{Record, peak_of, opened_of, fault_of}
 use Rattle.hill.specs.Summary.{Hill as HillOf, part, spoilt, judged, part_of, summary_of}
 use Rattle.hill.specs.Building.{hill_of}
 use Rattle.hill.proofs.SummaryLaws.{part_of-built}
-use Rattle.figure.specs.FourModes.{Amounts}
+use Rattle.modes.specs.FourModes.{Amounts}
 use Rattle.figure.specs.Mode.{Mode, mode_of}
-use Rattle.figure.specs.declared.Held.{Held}
+use Rattle.modes.specs.declared.Held.{Held}
 use Rattle.judge.specs.declared.Head.TheVariants.{Blank, Spoilt, Hill}
 use Rattle.judge.specs.Judged.{held_in}
 use Rattle.slopes.specs.declared.Counts.{Counts}

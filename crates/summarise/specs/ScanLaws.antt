@@ -9,7 +9,7 @@ use Rattle.record.proofs.Handed as handed
 use Rattle.record.proofs.Handed.{Handed}
 use Rattle.record.specs.declared.Fields.{Fields}
 use Rattle.hill.specs.Verdict.{pass}
-use Rattle.hill.specs.Log.{Record, opening, closing, depth, start_level, end_of, peak_of, opens, opened_of, joints, fault_of}
+use Rattle.hill.specs.Log.{Record, opening, closing, start_level, end_of, peak_of, opens, opened_of, joints, fault_of}
 use Rattle.hill.specs.Summary.{Hill, whole, rise, fall, start, end, part_of}
 use Rattle.hill.specs.Building.{empty, step, hill_of}
 use Rattle.hill.proofs.Building.{run-append}
@@ -18,7 +18,7 @@ use Rattle.hill.proofs.VerdictLaws.{count-few}
 use Rattle.hill.proofs.SummaryLaws.{part_of-built, levels}
 use Rattle.hill.specs.Valid.{Readable, AllReadable}
 use Rattle.hill.proofs.ValidLaws.{readable-append}
-use Rattle.figure.specs.FourModes.{Amounts, InRange}
+use Rattle.modes.specs.FourModes.{Amounts, InRange}
 use Rattle.figure.specs.Mode.{Mode}
 use Rattle.figure.specs.Stored.{amounts, none}
 use Rattle.fault.specs.Fault.{no_fault}

@@ -6,7 +6,7 @@ use Rattle.record.specs.declared.Fields.{Fields}
 use Rattle.hill.specs.Log.{Record, opened_of}
 use Rattle.hill.specs.Building.{step, hill_of}
 use Rattle.hill.specs.Valid.{AllReadable}
-use Rattle.figure.specs.FourModes.{Amounts}
+use Rattle.modes.specs.FourModes.{Amounts}
 use Rattle.figure.specs.Mode.{Mode}
 use Rattle.figure.specs.Stored.{amounts}
 use Rattle.slopes.specs.declared.Counts.{Counts}

@@ -1,8 +1,10 @@
 // Summarising a chunk in a mode: questions 1, 2, 3 and 12. Document 01, "Summaries".
+#![tactic(auto)]
+
 ghost use Rattle.std.specs.Prelude.{◌≡◌, List, ◌≤◌, length};
 ghost use Rattle.hill.specs.Log.{Record};
 ghost use Rattle.hill.specs.Summary.{summary_of};
-ghost use Rattle.figure.specs.FourModes.{Amounts};
+ghost use Rattle.modes.specs.FourModes.{Amounts};
 ghost use Rattle.figure.specs.Mode.{mode_of};
 ghost use Rattle.gate.specs.Outcome.{buffer_after, written};
 ghost use Rattle.gate.specs.Answers.{written_answer, length_answered};

@@ -4,7 +4,7 @@ use Rattle.std.proofs.Math.Bool.{true, false}
 use Rattle.std.proofs.Common.{arith}
 use Rattle.std.proofs.Math.Dec.{leb}
 use Rattle.record.specs.Record.{in_range}
-use Rattle.figure.specs.FourModes.{limit, is_stamp}
+use Rattle.modes.specs.FourModes.{limit, is_stamp}
 use Rattle.figure.specs.Mode.{mode_in_use}
 use Rattle.summary.specs.Judge.{length_at, kind_at, mode_at, fault_at, spoilt_start_at, start_at, peak_at, end_at, opened_at, rise_at, fall_at, left_at, middle_at, value_at, floor_at, ceiling_at, held_at, nothing_in, absolute_values, AllStamps, HasLayout, IsSpoilt, IsHill, IsSummary, is_blank, is_spoilt, is_hill}
 use Rattle.summary.specs.Decide.{all_to, layout_fits, spoilt_fits, levels_fit, opened_fits, middle_fits, records_fit, values_fit, hill_fits, is_summary}

@@ -4,7 +4,7 @@ use Rattle.gate.specs.Outcome.{refused, granted}
 use Rattle.number.specs.Bytes.{le_at, bytes_of}
 use Rattle.record.specs.Record.{within, in_range, accepted, whole, by_shape, read_of, records_in, records_of}
 use Rattle.record.proofs.Examples.{log_d}
-use Rattle.figure.specs.FourModes.{is_stamp}
+use Rattle.modes.specs.FourModes.{is_stamp}
 use Rattle.figure.specs.Mode.{mode_of, mode_in_use}
 use Rattle.hill.specs.Verdict.{joint, count, cut, ends}
 use Rattle.summary.specs.Layout.{encode}

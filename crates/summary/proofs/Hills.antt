@@ -4,7 +4,7 @@ use Rattle.std.proofs.Math.Path.{sym, ap, ap₂, fun_ext}
 use Rattle.std.proofs.Common.{◌∙◌, inl, inr}
 use Prim.Native.Nat.{ℕ, zero, suc, ◌+◌, ◌-◌, ◌*◌, ◌≤◌, ◌<◌, min}
 use native.Mathlib.Omega.{arith}
-use Rattle.figure.specs.FourModes.{limit}
+use Rattle.modes.specs.FourModes.{limit}
 use Rattle.figure.specs.Mode.{Mode}
 use Rattle.figure.specs.Stored.{IsStored, size_of, none, none_read}
 use Rattle.hill.specs.Valid.{ValidHill, weight}

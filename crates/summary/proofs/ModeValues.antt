@@ -2,9 +2,9 @@
 use Rattle.std.specs.Prelude.{◌≡◌, refl, ◌≢◌, Bool, true, false, cond, ℕ, zero, suc, ℤ, nat_abs}
 use Rattle.std.proofs.Common.{ap, arith}
 use Rattle.number.specs.Integer.{same}
-use Rattle.figure.specs.FourModes.{limit, nothing, read_held, store_held, is_stamp}
-use Rattle.figure.specs.Bound.{size_held}
-use Rattle.figure.specs.StoreLaws.{read-figure, held-stored, is-stamp, stamp-is}
+use Rattle.modes.specs.FourModes.{limit, nothing, read_held, store_held, is_stamp}
+use Rattle.modes.specs.Bound.{size_held}
+use Rattle.modes.proofs.StoreLaws.{read-figure, held-stored, is-stamp, stamp-is}
 use Rattle.figure.specs.Mode.{Mode, mode_of, mode_in_use}
 use Rattle.figure.specs.Stored.{mode_small, IsStored, size_of, none}
 use Rattle.summary.specs.Judge.{nothing_in, counted}

@@ -7,7 +7,7 @@ use Rattle.gate.proofs.Laws.{fits}
 use Rattle.record.specs.Record.{records_of}
 use Rattle.record.proofs.Ranged.{AllInRange, records-in-range}
 use Rattle.record.specs.declared.Fields.{Fields}
-use Rattle.figure.specs.FourModes.{Amounts, InRange}
+use Rattle.modes.specs.FourModes.{Amounts, InRange}
 use Rattle.figure.specs.Mode.{mode_of, mode_in_use}
 use Rattle.hill.specs.Log.{Record, opening, closing, log_fault}
 use Rattle.hill.specs.Figure.{figure_of}

@@ -8,7 +8,7 @@ use Rattle.number.specs.Bytes.{AllBytes, le_at}
 use Rattle.number.specs.Laws.{field-here, field_past, length-bytes_of}
 use Rattle.number.specs.IntegerLaws.{sfits-abs}
 use Rattle.number.specs.FieldLaws.{bytes-nil, bytes-append, bytes-bytes_of, behind, field-from, field-further}
-use Rattle.figure.specs.FourModes.{Amounts, InRange, limit}
+use Rattle.modes.specs.FourModes.{Amounts, InRange, limit}
 use Rattle.figure.specs.Mode.{Mode}
 use Rattle.figure.specs.Stored.{IsStored}
 use Rattle.hill.specs.Summary.{Hill, hill, Summary, blank, part, spoilt, whole, rise, fall}

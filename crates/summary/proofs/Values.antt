@@ -6,7 +6,7 @@ use Prim.Native.Nat.{ℕ, zero, suc, ◌+◌, ◌*◌, ◌≤◌, ◌<◌}
 use native.Mathlib.Omega.{arith}
 use Rattle.record.specs.Record.{within, in_range}
 use Rattle.record.proofs.Laws.{within-size}
-use Rattle.figure.specs.FourModes.{Amounts, InRange, limit}
+use Rattle.modes.specs.FourModes.{Amounts, InRange, limit}
 use Rattle.figure.specs.Mode.{Mode}
 use Rattle.figure.specs.Stored.{size_of}
 use Rattle.hill.specs.Summary.{blank, part, spoilt, whole}

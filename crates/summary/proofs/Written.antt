@@ -5,8 +5,8 @@ use Rattle.std.specs.Int.{w64}
 use Rattle.number.specs.Bytes.{le_at, bytes_of}
 use Rattle.number.specs.Laws.{field-here, field_past, length-bytes_of}
 use Rattle.number.specs.FieldLaws.{behind, field-from, drop_past}
-use Rattle.figure.specs.FourModes.{Amounts}
-use Rattle.figure.specs.Bound.{bound-fits}
+use Rattle.modes.specs.FourModes.{Amounts}
+use Rattle.modes.proofs.Bound.{bound-fits}
 use Rattle.figure.specs.Mode.{Mode, mode_in_use}
 use Rattle.figure.specs.Stored.{mode_small, IsStored}
 use Rattle.hill.specs.Summary.{hill, Summary, blank, part, spoilt, whole}

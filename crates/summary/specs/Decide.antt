@@ -2,7 +2,7 @@
 use Rattle.std.specs.Prelude.{Bool, true, cond, not, ◌&&◌, ◌||◌, List, ℕ, zero, suc, ◌+◌, ◌*◌, leb, eqb, length}
 use Rattle.number.specs.Integer.{same}
 use Rattle.record.specs.Record.{in_range}
-use Rattle.figure.specs.FourModes.{limit, is_stamp}
+use Rattle.modes.specs.FourModes.{limit, is_stamp}
 use Rattle.figure.specs.Mode.{mode_in_use}
 use Rattle.summary.specs.Judge.{length_at, kind_at, mode_at, fault_at, spoilt_start_at, start_at, peak_at, end_at, opened_at, rise_at, fall_at, left_at, middle_at, value_at, floor_at, ceiling_at, held_at, nothing_in, absolute_values}
 

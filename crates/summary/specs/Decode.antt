@@ -1,6 +1,6 @@
 -- What bytes say as a summary in mode m, whether they are one or not. Definitions only.
 use Rattle.std.specs.Prelude.{cond, List, [], ◌∷◌, ℕ, zero, suc, eqb, ℤ}
-use Rattle.figure.specs.FourModes.{Amounts}
+use Rattle.modes.specs.FourModes.{Amounts}
 use Rattle.figure.specs.Mode.{mode_of}
 use Rattle.hill.specs.Summary.{Hill, hill, Summary, blank, part, spoilt, whole}
 use Rattle.summary.specs.Judge.{kind_at, fault_at, spoilt_start_at, peak_at, end_at, opened_at, rise_at, fall_at, left_at, middle_at, value_at, floor_at, ceiling_at, held_at}

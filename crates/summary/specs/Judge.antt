@@ -4,7 +4,7 @@ use Rattle.std.specs.Prelude.{◌≡◌, ◌≢◌, ◌⊎◌, true, cond, ◌&&
 use Rattle.number.specs.Bytes.{le_at, i32_at, i64_at}
 use Rattle.number.specs.Integer.{same}
 use Rattle.record.specs.Record.{in_range}
-use Rattle.figure.specs.FourModes.{limit, nothing, is_stamp}
+use Rattle.modes.specs.FourModes.{limit, nothing, is_stamp}
 use Rattle.figure.specs.Mode.{mode_in_use, stores_nothing}
 
 -- "Each begins with length, kind and mode, 16 bits each."

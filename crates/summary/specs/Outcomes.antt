@@ -2,7 +2,7 @@
 use Rattle.std.specs.Prelude.{◌&&◌, List, ℕ, leb, eqb, length, ℤ}
 use Rattle.gate.specs.Outcome.{Outcome, granted, question, onward, written}
 use Rattle.record.specs.Record.{records_of}
-use Rattle.figure.specs.FourModes.{Amounts}
+use Rattle.modes.specs.FourModes.{Amounts}
 use Rattle.figure.specs.Mode.{mode_of, mode_in_use}
 use Rattle.hill.specs.Log.{Record, log_fault}
 use Rattle.hill.specs.Figure.{figure_of}

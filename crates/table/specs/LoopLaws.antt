@@ -12,7 +12,7 @@ use Rattle.record.proofs.Laws.{and_left, and_right}
 use Rattle.record.proofs.RangeLaws.{range-parts}
 use Rattle.record.proofs.Readable.{read_is, no_more}
 use Rattle.record.specs.declared.Fields.{Fields}
-use Rattle.figure.specs.FourModes.{Amounts}
+use Rattle.modes.specs.FourModes.{Amounts}
 use Rattle.figure.specs.Stored.{amounts}
 use Rattle.hill.specs.Log.{Record, opening, closing, opened_of}
 use Rattle.chunk.specs.Chunk.{record_of, chunk_of, IsWellFormed}

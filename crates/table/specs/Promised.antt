@@ -1,6 +1,6 @@
 -- What the functions inside `table` ask and leave. Definitions only.
 use Rattle.std.specs.Prelude.{Bool, cond, List, ℕ, ◌*◌, ◌≤◌}
-use Rattle.figure.specs.FourModes.{Amounts}
+use Rattle.modes.specs.FourModes.{Amounts}
 use Rattle.hill.specs.Log.{Record, opened_of}
 use Rattle.chunk.specs.Chunk.{IsWellFormed}
 

@@ -1,9 +1,11 @@
 // The day table: the log written from it, and the table of a log.
+#![tactic(auto)]
+
 ghost use Rattle.std.specs.Prelude.{◌≡◌, List, length};
 ghost use Rattle.gate.specs.Outcome.{written, buffer_after};
 ghost use Rattle.gate.specs.Answers.{written_answer, length_answered};
 ghost use Rattle.gate.specs.Promises.{Answers};
-ghost use Rattle.figure.specs.FourModes.{Amounts};
+ghost use Rattle.modes.specs.FourModes.{Amounts};
 ghost use Rattle.hill.specs.Log.{Record};
 ghost use Rattle.chunk.specs.Chunk.{IsWellFormed};
 ghost use Rattle.day_table.specs.Table.{table_of, log_of};

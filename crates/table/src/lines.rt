@@ -2,7 +2,7 @@
 ghost use Rattle.std.specs.Prelude.{◌≡◌, List, [], ◌∷◌, ◌+◌, ◌≤◌, length};
 ghost use Rattle.std.proofs.lemmas.List.Edits.{sets};
 ghost use Rattle.number.specs.Writing.{StoredAt};
-ghost use Rattle.figure.specs.FourModes.{Amounts};
+ghost use Rattle.modes.specs.FourModes.{Amounts};
 ghost use Rattle.figure.specs.Stored.{amounts};
 ghost use Rattle.hill.specs.Log.{Record};
 ghost use Rattle.chunk.specs.Chunk.{record_of, IsWellFormed};

@@ -16,7 +16,7 @@ use Rattle.summary.proofs.DecideLaws.{decide-summary}
 use Rattle.summary.specs.Accepted.{IsSummaryIn}
 use Rattle.summary.proofs.Accepted.{summary-length, encode-fits, chunk-accepted}
 use Rattle.summary.specs.Outcomes.{summary_bytes, merge_bytes, summarise_outcome, merge_outcome}
-use Rattle.figure.specs.FourModes.{Amounts}
+use Rattle.modes.specs.FourModes.{Amounts}
 use Rattle.hill.specs.Log.{Record}
 use Rattle.hill.specs.Row.{joined}
 use Rattle.chunk.specs.Chunk.{chunk_of, whole_log}

@@ -8,7 +8,7 @@ use Rattle.std.proofs.Math.ListN.{get_or-replicate}
 use Rattle.std.proofs.lemmas.Bool.{eqb-false}
 use Rattle.gate.specs.Outcome.{Outcome, refused, granted}
 use Rattle.number.specs.Bytes.{AllBytes}
-use Rattle.figure.specs.FourModes.{Amounts}
+use Rattle.modes.specs.FourModes.{Amounts}
 use Rattle.figure.specs.Mode.{mode_of, mode_in_use}
 use Rattle.hill.specs.Log.{Record}
 use Rattle.hill.specs.Row.{joined}

@@ -8,7 +8,7 @@ use Rattle.std.proofs.lemmas.Bool.{lt-leb}
 use Rattle.gate.specs.Outcome.{Outcome, refused, granted, question, written}
 use Rattle.gate.proofs.Laws.{yes, result-same}
 use Rattle.number.specs.Bytes.{bytes_of, le_at}
-use Rattle.figure.specs.FourModes.{Amounts}
+use Rattle.modes.specs.FourModes.{Amounts}
 use Rattle.figure.specs.Mode.{mode_in_use}
 use Rattle.hill.specs.Summary.{Summary, blank, part, opened}
 use Rattle.summary.specs.Judge.{kind_at, mode_at, fault_at, opened_at, IsSummary, is_blank, is_spoilt, is_hill}

@@ -4,7 +4,7 @@ use Rattle.std.proofs.Math.Path.{refl}
 use Rattle.std.proofs.Common.{sym}
 use Rattle.gate.specs.Outcome.{Outcome, refused, granted, onward}
 use Rattle.gate.proofs.Laws.{not-result}
-use Rattle.figure.specs.FourModes.{Amounts}
+use Rattle.modes.specs.FourModes.{Amounts}
 use Rattle.hill.specs.Log.{Record, opened_of}
 use Rattle.chunk.specs.Chunk.{whole_log}
 use Rattle.chunk.specs.Laws.{IsLog}

@@ -12,7 +12,7 @@ use Rattle.hill.specs.Verdict.{Verdict}
 use Rattle.hill.specs.Log.{Record, opened_of}
 use Rattle.hill.specs.Finish.{outcome}
 use Rattle.hill.proofs.Growth.{opened-few}
-use Rattle.figure.specs.FourModes.{Amounts}
+use Rattle.modes.specs.FourModes.{Amounts}
 use Rattle.fault.specs.Fault.{no_fault, verdict_of}
 use Rattle.fault.specs.Laws.{found-is, clear-is}
 use Rattle.chunk.specs.Chunk.{record_of, chunk_of}

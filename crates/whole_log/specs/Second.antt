@@ -7,7 +7,7 @@ use Rattle.number.specs.Laws.{part-rest}
 use Rattle.record.specs.Record.{read_of, records_of}
 use Rattle.record.proofs.Readable as readable
 use Rattle.record.specs.declared.Fields.{Fields}
-use Rattle.figure.specs.FourModes.{Amounts}
+use Rattle.modes.specs.FourModes.{Amounts}
 use Rattle.hill.specs.Log.{Record}
 use Rattle.hill.specs.Closing.{at}
 use Rattle.hill.proofs.Places.{here-inside, here-at, here-rest}

@@ -2,7 +2,7 @@
 use Rattle.std.specs.Prelude.{◌≡◌, true, false, cond, List, [], ◌∷◌, ◌≤◌}
 use Rattle.hill.specs.Verdict.{Verdict, refuse, low, ends}
 use Rattle.hill.specs.Log.{Record, start_level, end_of, opened_of, joints}
-use Rattle.figure.specs.FourModes.{Amounts}
+use Rattle.modes.specs.FourModes.{Amounts}
 use Rattle.fault.specs.Fault.{no_fault, verdict_of}
 use Rattle.whole_log.specs.declared.Tally.{Tally}
 

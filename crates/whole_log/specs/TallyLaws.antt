@@ -5,7 +5,7 @@ use Rattle.hill.specs.Verdict.{pass, refuse, low, ask, joint, ends}
 use Rattle.hill.proofs.VerdictLaws.{low-pass, low-fst, low-snd, joint-pass, count-few}
 use Rattle.hill.specs.Log.{Record, start_level, end_level, end_of, opens, opened_of, joints, log_fault}
 use Rattle.hill.proofs.Growth.{grown}
-use Rattle.figure.specs.FourModes.{Amounts, net}
+use Rattle.modes.specs.FourModes.{Amounts, net}
 use Rattle.whole_log.specs.declared.Tally.{Tally}
 use Rattle.fault.specs.Fault.{no_fault, verdict_of}
 use Rattle.fault.specs.Laws.{clear, clear-is, found, is-clear, ground-pass, raised}

@@ -4,7 +4,7 @@
 ghost use Rattle.std.specs.Prelude.{◌≡◌, List, [], ◌∷◌, ◌++◌, ◌≤◌, eqb};
 ghost use Rattle.hill.specs.Verdict.{low, ask as asking};
 ghost use Rattle.hill.specs.Log.{Record, start_level, end_level, opens as opened_by};
-ghost use Rattle.figure.specs.FourModes.{Amounts};
+ghost use Rattle.modes.specs.FourModes.{Amounts};
 ghost use Rattle.fault.specs.Fault.{verdict_of};
 ghost use Rattle.chunk.specs.Chunk.{record_of};
 ghost use Rattle.whole_log.specs.Gate.{ask_outcome, asked_answer};

@@ -7,7 +7,7 @@ use native.Mathlib.Omega.{arith}
 use Rattle.algebra.specs.Run.{Level, step, through}
 use Rattle.algebra.specs.Sizes.{costs}
 use Rattle.algebra.proofs.Sizes.{Spent, spend}
-use Rattle.figure.specs.FourModes.{Amounts, limit}
+use Rattle.modes.specs.FourModes.{Amounts, limit}
 use Rattle.figure.specs.Mode.{Mode, mode_of}
 use Rattle.figure.specs.Stored.{IsStored, size_of, amounts, combined, passed, Combines, Passes}
 use Rattle.plan_work.proofs.WorkLaws.{levels-none}

@@ -5,7 +5,7 @@ use Rattle.std.proofs.Common.{◌∙◌, arith, ne_eqb}
 use Rattle.std.proofs.Math.Bool.{cond}
 use Rattle.row.specs.Row.{row_pieces}
 use Rattle.algebra.specs.Algebra.{Algebra}
-use Rattle.figure.specs.FourModes.{Amounts}
+use Rattle.modes.specs.FourModes.{Amounts}
 use Rattle.figure.specs.Mode.{mode_of}
 use Rattle.figure.specs.Stored.{IsStored, size_of}
 use Rattle.hill.specs.Summary.{Summary, blank, part, spoilt, whole, middle}

@@ -2,7 +2,7 @@
 use Rattle.std.specs.Prelude.{◌≡◌, refl, ◌+◌, ◌^◌, ◌<◌, ℤ}
 use Rattle.std.proofs.Math.Path.{sym, ap}
 use Rattle.std.proofs.Common.{ap₂, ◌∙◌, subst, arith}
-use Rattle.figure.specs.FourModes.{Amounts, limit, InRange}
+use Rattle.modes.specs.FourModes.{Amounts, limit, InRange}
 use Rattle.figure.specs.Mode.{Mode}
 use Rattle.figure.specs.Stored.{IsStored, size_of, none, combined, passed, none_read, none-stored, Combines, combined-read, combined-stored, Passes, passed-read, passed-stored, passes}
 

@@ -104,7 +104,7 @@ pub fn farms_end_of_day(state: &mut [u8; FARMS_STATE], farm: u32, capacity: usiz
     LentBytes::new(capacity).lend(|out| lend_state(state, 0, |state| raw::farms_end_of_day(state, farm, out)))
 }
 
-/// The day program, as `rt check day_program` makes it.
+/// The day program, as `./day` has it made.
 pub fn program() -> PathBuf {
     Path::new(env!("CARGO_MANIFEST_DIR")).join("../../target/bin/day_program")
 }
@@ -116,7 +116,7 @@ pub fn day_text(log: &[u8]) -> Vec<u8> {
         .stdout(Stdio::piped())
         .stderr(Stdio::piped())
         .spawn()
-        .expect("target/bin/day_program, as `rt check day_program` makes it");
+        .expect("target/bin/day_program, as `./day` has it made");
     let mut stdin = child.stdin.take().expect("standard input");
     // The program reads 65,537 bytes at most, so that the rest of a longer input may find nobody there.
     let _ = stdin.write_all(log);

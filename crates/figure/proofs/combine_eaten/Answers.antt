@@ -1,10 +1,10 @@
 -- Both are read back, added up and stored.
 use Rattle.std.proofs.Common.{◌+ℤ◌, ap, ◌∙◌, ap₂, arith, to_z-of_z, w64}
 use Rattle.number.specs.Word.{back}
-use Rattle.figure.specs.FourModes.{lift, read_held, store_held}
+use Rattle.modes.specs.FourModes.{lift, read_held, store_held}
 use Rattle.figure.specs.Mode.{mode_of}
 use Rattle.figure.specs.Stored.{size_of, combined}
-use Rattle.figure.specs.Bound.{size_held}
+use Rattle.modes.specs.Bound.{size_held}
 use Rattle.figure.proofs.combine_eaten.Goals as goal
 
 pub sum_held-requires : goal.sum_held-requires

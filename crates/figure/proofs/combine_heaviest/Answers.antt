@@ -2,7 +2,7 @@
 use Rattle.std.proofs.Common.{sym, ◌∙◌, to_z-of_z, w64}
 use Rattle.number.specs.Word.{back}
 use Rattle.figure.specs.Mode.{mode_of}
-use Rattle.figure.specs.StoreLaws.{held-max}
+use Rattle.modes.proofs.StoreLaws.{held-max}
 use Rattle.figure.specs.Stored.{combined}
 use Rattle.figure.proofs.combine_heaviest.Goals as goal
 

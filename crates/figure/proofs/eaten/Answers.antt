@@ -1,9 +1,10 @@
 -- The bounds and what is added, as the calls return them, and then the sum held between them.
 use Rattle.std.proofs.Common.{◌≡◌, ◌∙◌, arith, to_z-of_z, w64, to_z, of_z}
 use Rattle.number.specs.Word.{back}
-use Rattle.figure.specs.Run.{addend}
-use Rattle.figure.specs.Runs.{bound_of, bound-eaten}
-use Rattle.figure.specs.Bound.{addend-size}
+use Rattle.modes.specs.Run.{addend}
+use Rattle.modes.specs.Runs.{bound_of}
+use Rattle.modes.proofs.Runs.{bound-eaten}
+use Rattle.modes.proofs.Bound.{addend-size}
 use Rattle.figure.specs.Stored.{amounts}
 use Rattle.figure.proofs.eaten.Goals as goal
 

@@ -1,6 +1,6 @@
 -- In mode 4 the bounds are tested, and in any other mode every number is a figure.
 use Rattle.std.proofs.Common.{ℕ, sym, ap, ◌∙◌, to_z-of_z, rules}
-use Rattle.figure.specs.FourModes.{is_stamp}
+use Rattle.modes.specs.FourModes.{is_stamp}
 use Rattle.figure.specs.Mode.{mode_of}
 use Rattle.figure.proofs.Modes.{any-figure}
 use Rattle.figure.proofs.is_figure.Goals as goal

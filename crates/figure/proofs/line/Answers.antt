@@ -1,8 +1,8 @@
 -- The cases of the match: a value alone, or the sum of value and figure, which fits.
 use Rattle.std.proofs.Common.{sym, ap, ◌∙◌, arith, to_z-of_z, w64, rules}
 use Rattle.number.specs.Word.{back}
-use Rattle.figure.specs.FourModes.{line_of}
-use Rattle.figure.specs.Bound.{size_held}
+use Rattle.modes.specs.FourModes.{line_of}
+use Rattle.modes.specs.Bound.{size_held}
 use Rattle.figure.proofs.line.Goals as goal
 
 pub sum-requires : goal.sum-requires

@@ -1,9 +1,9 @@
 -- The cases of the match: nothing stays nothing, and a figure is added to v.
 use Rattle.std.proofs.Common.{sym, ap, ◌∙◌, arith, to_z-of_z, w64, rules}
 use Rattle.number.specs.Word.{back}
-use Rattle.figure.specs.Runs.{moved}
-use Rattle.figure.specs.Bound.{size_held}
-use Rattle.figure.specs.declared.Held.TheVariants.{Figure}
+use Rattle.modes.specs.Runs.{moved}
+use Rattle.modes.specs.Bound.{size_held}
+use Rattle.modes.specs.declared.Held.TheVariants.{Figure}
 use Rattle.figure.proofs.moved_by.Goals as goal
 
 pub sum-requires : goal.sum-requires

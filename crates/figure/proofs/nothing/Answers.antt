@@ -1,6 +1,6 @@
 -- By the test.
 use Rattle.std.proofs.Common.{Bool, cond, pos, sym, ap, ◌∙◌}
-use Rattle.figure.specs.FourModes.{nothing}
+use Rattle.modes.specs.FourModes.{nothing}
 use Rattle.figure.specs.Stored.{none_is}
 use Rattle.figure.proofs.nothing.Goals as goal
 

@@ -1,8 +1,8 @@
 -- The number that stands for nothing is the least one, and only that.
 use Rattle.std.proofs.Common.{sym, ap, ◌∙◌, to_z-of_z, w64, to_z, of_z}
-use Rattle.figure.specs.FourModes.{read_held}
-use Rattle.figure.specs.StoreLaws.{read-figure}
-use Rattle.figure.specs.declared.Held.TheVariants.{Figure}
+use Rattle.modes.specs.FourModes.{read_held}
+use Rattle.modes.proofs.StoreLaws.{read-figure}
+use Rattle.modes.specs.declared.Held.TheVariants.{Figure}
 use Rattle.figure.proofs.read_held.Goals as goal
 
 pub returns-then-x-eq-NOTHING : goal.returns-then-x-eq-NOTHING

@@ -1,7 +1,7 @@
 -- by the test
 use Rattle.std.proofs.Common.{◌≡◌, ℕ, Bool, true, false, cond, T, ℤ, nat_abs, sym, ap, ◌∙◌, subst, to_z-of_z, rules}
-use Rattle.figure.specs.FourModes.{read_held}
-use Rattle.figure.specs.Bound.{size_held}
+use Rattle.modes.specs.FourModes.{read_held}
+use Rattle.modes.specs.Bound.{size_held}
 use Rattle.figure.specs.Mode.{stores_nothing, mode_of}
 use Rattle.figure.specs.Stored.{size_of, size_is}
 use Rattle.figure.proofs.size.Goals as goal

@@ -1,7 +1,7 @@
 -- The cases of the match, and a figure read back is as it is stored.
 use Rattle.std.proofs.Common.{unsigned_abs, sym, ap, ◌∙◌, w64, rules}
 use Rattle.number.specs.Word.{back}
-use Rattle.figure.specs.Bound.{size_held}
+use Rattle.modes.specs.Bound.{size_held}
 use Rattle.figure.proofs.size_held.Goals as goal
 
 pub returns-in-Nothing : goal.returns-in-Nothing

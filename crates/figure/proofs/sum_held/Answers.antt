@@ -1,10 +1,10 @@
 -- The cases, as the match leaves them.
 use Rattle.std.proofs.Common.{◌≡◌, ℤ, ◌+ℤ◌, sym, ap, ◌∙◌, ap₂, arith, w64, rules}
 use Rattle.number.specs.Word.{back}
-use Rattle.figure.specs.FourModes.{lift}
-use Rattle.figure.specs.Bound.{size_held}
-use Rattle.figure.specs.declared.Held.{Held}
-use Rattle.figure.specs.declared.Held.TheVariants.{Nothing, Figure}
+use Rattle.modes.specs.FourModes.{lift}
+use Rattle.modes.specs.Bound.{size_held}
+use Rattle.modes.specs.declared.Held.{Held}
+use Rattle.modes.specs.declared.Held.TheVariants.{Nothing, Figure}
 use Rattle.figure.proofs.sum_held.Goals as goal
 
 module _ {a b : Held} where

@@ -1,7 +1,7 @@
 -- Each mode by its function; a number other than 2, 4 and 5 stands for mode 1.
 use Rattle.std.proofs.Common.{ℕ, sym, ap, ◌∙◌, subst, to_z-of_z, w64, rules}
 use Rattle.number.specs.Word.{back}
-use Rattle.figure.specs.FourModes.{eaten_of, store_held}
+use Rattle.modes.specs.FourModes.{eaten_of, store_held}
 use Rattle.figure.specs.Mode.{Mode, mode_of}
 use Rattle.figure.specs.Stored.{passed, amounts, Passes}
 use Rattle.figure.proofs.Modes.{other-mode}

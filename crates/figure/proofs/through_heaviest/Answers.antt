@@ -1,8 +1,8 @@
 -- The value is as it was before it was widened, and what is held is as it was stored.
 use Rattle.std.proofs.Common.{ap, ◌∙◌, arith, to_z-of_z}
 use Rattle.number.specs.Word.{widened}
-use Rattle.figure.specs.FourModes.{read_held}
-use Rattle.figure.specs.Bound.{size_held}
+use Rattle.modes.specs.FourModes.{read_held}
+use Rattle.modes.specs.Bound.{size_held}
 use Rattle.figure.specs.Mode.{mode_of}
 use Rattle.figure.specs.Stored.{size_of}
 use Rattle.figure.proofs.through_heaviest.Goals as goal

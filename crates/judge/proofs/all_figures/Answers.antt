@@ -1,4 +1,4 @@
--- `judge::all_figures` meets its contract: each turn judges one value.
+-- Each turn judges one value.
 use mathlib.Core.Path.{ap, ◌∙◌}
 use lib.IntN.{ℤ}
 use mir.Syntax.{w64}

@@ -1,4 +1,4 @@
--- `judge::all_figures` meets its contract: each turn judges one value.
+-- Each turn judges one value.
 use Prim.Native.Nat.{ℕ, ◌-◌}
 use Rattle.figure.specs.Mode.{mode_of}
 use Rattle.judge.specs.Laid.{value_in}

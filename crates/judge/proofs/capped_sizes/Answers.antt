@@ -1,4 +1,4 @@
--- `judge::capped_sizes` meets its contract: each turn adds one size, cut to the cap.
+-- Each turn adds one size, cut to the cap.
 use mathlib.Core.Path.{ap, ◌∙◌}
 use Prim.Native.Nat.{min}
 use native.Mathlib.Omega.{arith}

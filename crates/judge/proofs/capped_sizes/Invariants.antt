@@ -1,4 +1,4 @@
--- `judge::capped_sizes` meets its contract: each turn adds one size, cut to the cap.
+-- Each turn adds one size, cut to the cap.
 use Prim.Native.Nat.{ℕ, ◌-◌, min}
 use Rattle.figure.specs.Mode.{mode_of}
 use Rattle.figure.specs.Stored.{size_of}

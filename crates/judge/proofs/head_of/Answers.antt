@@ -1,4 +1,4 @@
--- the kind, as each arm has it
+-- By the kind, as each arm has it.
 use mathlib.Core.Path.{ap, sym, ◌∙◌}
 use Rattle.judge.specs.Laws.{head-blank, head-spoilt, head-hill}
 use Rattle.judge.specs.declared.Head.TheVariants.{Spoilt, Hill}

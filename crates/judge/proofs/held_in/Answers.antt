@@ -1,8 +1,8 @@
--- `judge::held_in` meets its contract: by the mode.
+-- By the mode.
 use mathlib.Core.Path.{sym, ap, ◌∙◌}
 use mir.Facts.{to_z-of_z}
-use Rattle.figure.specs.FourModes.{read_held}
-use Rattle.figure.specs.declared.Held.TheVariants.{Figure}
+use Rattle.modes.specs.FourModes.{read_held}
+use Rattle.modes.specs.declared.Held.TheVariants.{Figure}
 use Rattle.judge.specs.Laws.{held-nothing, held-other}
 use Rattle.judge.proofs.held_in.Goals as goal
 

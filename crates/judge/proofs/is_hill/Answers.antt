@@ -1,4 +1,4 @@
--- `judge::is_hill` meets its contract: the levels and the layout first, so that the other bytes are there; then the opened records, so that sums fit.
+-- The levels and the layout first, so that the other bytes are there; then the opened records, so that sums fit.
 use mathlib.Core.Path.{◌≡◌, ap₂, sym, ◌∙◌}
 use mathlib.Core.Bool.{Bool}
 use mathlib.Core.List.{List}

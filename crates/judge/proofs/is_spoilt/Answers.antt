@@ -1,4 +1,4 @@
--- `judge::is_spoilt` meets its contract: fewer bytes than 16 are none.
+-- Fewer bytes than 16 are none.
 use mathlib.Core.Path.{sym}
 use Rattle.judge.proofs.Parts.{short-spoilt}
 use Rattle.judge.proofs.is_spoilt.Goals as goal

@@ -1,4 +1,4 @@
--- `judge::is_summary` meets its contract: by the kind; each arm's test is question 5's.
+-- By the kind; each arm's test is question 5's.
 use mathlib.Core.Path.{sym, ◌∙◌}
 use Rattle.judge.specs.Laws.{test-blank, test-spoilt, test-hill}
 use borrow.Author.Rules.{rules}

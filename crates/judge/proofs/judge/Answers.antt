@@ -1,3 +1,4 @@
+-- A summary that passes the test is told by its head, and one that does not is refused.
 use mathlib.Core.Path.{sym, ◌∙◌}
 use Rattle.summary.proofs.DecideLaws.{decide-summary}
 use Rattle.judge.proofs.Parts.{short_none, answer-yes, answer-no}

@@ -1,4 +1,4 @@
--- `judge::layout_fits` meets its contract: the code's `&` is the definition's `&&`.
+-- The code's `&` is the definition's `&&`.
 use Rattle.summary.specs.Decide.{layout_fits}
 use Rattle.judge.proofs.layout_fits.Goals as goal
 

@@ -1,4 +1,4 @@
--- `judge::levels_fit` meets its contract: the code's `&` is the definition's `&&`.
+-- The code's `&` is the definition's `&&`.
 use Rattle.summary.specs.Decide.{levels_fit}
 use Rattle.judge.proofs.levels_fit.Goals as goal
 

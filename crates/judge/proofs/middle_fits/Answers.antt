@@ -1,4 +1,4 @@
--- `judge::middle_fits` meets its contract: the numbers read are put in, and nothing held by the mode's number.
+-- The numbers read are put in, and nothing held by the mode's number.
 use mathlib.Core.Path.{◌∙◌}
 use mir.Syntax.{w64}
 use Rattle.number.specs.Word.{back}

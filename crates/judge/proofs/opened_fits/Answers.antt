@@ -1,4 +1,4 @@
--- `judge::opened_fits` meets its contract: the code's `&` is the definition's `&&`.
+-- The code's `&` is the definition's `&&`.
 use Rattle.summary.specs.Decide.{opened_fits}
 use Rattle.judge.proofs.opened_fits.Goals as goal
 

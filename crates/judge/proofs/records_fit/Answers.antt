@@ -1,4 +1,4 @@
--- `judge::records_fit` meets its contract: each turn judges one record's amounts; its depth fits, as the levels do.
+-- Each turn judges one record's amounts; its depth fits, as the levels do.
 use mathlib.Core.Path.{◌≡◌, sym, ap, ◌∙◌}
 use Prim.Native.Nat.{ℕ, ◌+◌, ◌*◌, ◌≤◌}
 use native.Mathlib.Omega.{arith}

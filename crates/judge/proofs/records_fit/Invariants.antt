@@ -1,4 +1,4 @@
--- `judge::records_fit` meets its contract: each turn judges one record's amounts; its depth fits, as the levels do.
+-- Each turn judges one record's amounts; its depth fits, as the levels do.
 use Prim.Native.Nat.{ℕ, ◌+◌, ◌-◌}
 use Rattle.record.specs.Record.{in_range}
 use Rattle.summary.specs.Judge.{peak_at, value_at, floor_at, ceiling_at}

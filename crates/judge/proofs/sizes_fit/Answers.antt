@@ -1,4 +1,4 @@
--- `judge::sizes_fit` meets its contract: the sum of sizes, each cut to the cap, is too much if and only if that of the sizes is.
+-- The sum of sizes, each cut to the cap, is too much if and only if that of the sizes is.
 use mathlib.Core.Path.{refl}
 use native.Mathlib.Omega.{arith}
 use Rattle.judge.proofs.Loops.{capped-room}

@@ -1,4 +1,4 @@
--- `judge::spoilt_fits` meets its contract: the code's `&` is the definition's `&&`.
+-- The code's `&` is the definition's `&&`.
 use Rattle.summary.specs.Decide.{spoilt_fits}
 use Rattle.judge.proofs.spoilt_fits.Goals as goal
 

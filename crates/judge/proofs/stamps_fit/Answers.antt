@@ -1,4 +1,4 @@
--- `judge::stamps_fit` meets its contract: the left values and the middle one are read in one run, what the records hold in another.
+-- The left values and the middle one are read in one run, what the records hold in another.
 use Rattle.judge.proofs.Values.{stamps-fit}
 use Rattle.judge.proofs.stamps_fit.Goals as goal
 

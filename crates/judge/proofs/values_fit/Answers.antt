@@ -1,4 +1,4 @@
--- `judge::values_fit` meets its contract: by the mode.
+-- By the mode.
 use mathlib.Core.Path.{ap, sym, ◌∙◌}
 use Prim.Native.Nat.{ℕ}
 use Rattle.judge.specs.Laid.{sizes_fit}

@@ -5,7 +5,7 @@ use Rattle.number.specs.Word.{back}
 use Rattle.hill.specs.Log.{opening}
 use Rattle.hill.specs.Summary.{Hill}
 use Rattle.hill.specs.Building.{step}
-use Rattle.figure.specs.FourModes.{Amounts}
+use Rattle.modes.specs.FourModes.{Amounts}
 use Rattle.figure.specs.Mode.{Mode, mode_of}
 use Rattle.figure.specs.Stored.{amounts}
 use Rattle.slopes.specs.declared.Counts.{Counts}

@@ -3,10 +3,11 @@ use Rattle.std.proofs.Common.{◌≡◌, pos, ◌+ℤ◌, sym, ap, ◌∙◌, ar
 use Rattle.number.specs.Integer.{max_z}
 use Rattle.number.specs.IntegerLaws.{abs-+, sfits-abs}
 use Rattle.number.specs.Word.{back}
-use Rattle.figure.specs.FourModes.{lift, read_held, store_held}
-use Rattle.figure.specs.Runs.{moved}
-use Rattle.figure.specs.Bound.{size_held, size-moved}
-use Rattle.figure.specs.StoreLaws.{held_back, at-least-max}
+use Rattle.modes.specs.FourModes.{lift, read_held, store_held}
+use Rattle.modes.specs.Runs.{moved}
+use Rattle.modes.specs.Bound.{size_held}
+use Rattle.modes.proofs.Bound.{size-moved}
+use Rattle.modes.proofs.StoreLaws.{held_back, at-least-max}
 use Rattle.figure.specs.Mode.{mode_of}
 use Rattle.figure.specs.Stored.{combined, run_after}
 use Rattle.figure.proofs.Rooms.{Back, fields_back, heaviest-room}

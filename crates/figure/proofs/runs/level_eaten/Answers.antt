@@ -2,10 +2,11 @@
 use Rattle.std.proofs.Common.{◌≡◌, ◌+◌, ◌^◌, ◌<◌, ◌+ℤ◌, unsigned_abs, ℤ, ap, ◌∙◌, ap₂, arith, to_z-of_z, w64, to_z, of_z}
 use Rattle.number.specs.IntegerLaws.{abs-+}
 use Rattle.number.specs.Word.{back, widened}
-use Rattle.figure.specs.FourModes.{lift, eaten_of, read_held}
-use Rattle.figure.specs.Run.{addend}
-use Rattle.figure.specs.Runs.{addend-sum}
-use Rattle.figure.specs.Bound.{size_held, size-lift, addend-size}
+use Rattle.modes.specs.FourModes.{lift, eaten_of, read_held}
+use Rattle.modes.specs.Run.{addend}
+use Rattle.modes.proofs.Runs.{addend-sum}
+use Rattle.modes.specs.Bound.{size_held}
+use Rattle.modes.proofs.Bound.{size-lift, addend-size}
 use Rattle.figure.specs.Mode.{mode_of}
 use Rattle.figure.specs.Stored.{amounts, size_of, level_run, Levels}
 use Rattle.figure.proofs.runs.level_eaten.Goals as goal

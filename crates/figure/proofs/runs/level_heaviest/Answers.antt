@@ -2,12 +2,13 @@
 use Rattle.std.proofs.Common.{◌≡◌, ◌+◌, ◌^◌, ◌<◌, pos, ap, ◌∙◌, arith, to_z-of_z, w64, unsigned_abs, ℤ}
 use Rattle.number.specs.Integer.{max_z}
 use Rattle.number.specs.Word.{back, widened}
-use Rattle.figure.specs.FourModes.{lift, line_of, read_held, store_held}
-use Rattle.figure.specs.Runs.{moved}
-use Rattle.figure.specs.Bound.{size_held, size-lift, max-sum}
+use Rattle.modes.specs.FourModes.{lift, line_of, read_held, store_held}
+use Rattle.modes.specs.Runs.{moved}
+use Rattle.modes.specs.Bound.{size_held}
+use Rattle.modes.proofs.Bound.{size-lift, max-sum}
 use Rattle.figure.specs.Mode.{mode_of}
 use Rattle.figure.specs.Stored.{size_of, combined, level_run, combined-read, Levels}
-use Rattle.figure.specs.declared.Held.{Held}
+use Rattle.modes.specs.declared.Held.{Held}
 use Rattle.figure.proofs.runs.level_heaviest.Goals as goal
 
 both-room : (v b a : ℤ) → Levels (mode_of 2) v b a → size_of (mode_of 2) b + size_of (mode_of 2) a < 2 ^ 63
