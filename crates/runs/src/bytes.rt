@@ -23,9 +23,8 @@ pub fn write_run(out: &mut [u8], at: usize, mode: u16, run: Run)
     requires { at + run_length mode ≤ length out.old }
     ensures { out.new ≡ sets out.old at (run_bytes mode run) }
 {
-    let fourth = run.fourth;
     write_front(out, at, mode, run);
     if outcome::has_fourth(mode) {
-        number::write_i64(out, at + 30, fourth);
+        number::write_i64(out, at + 30, run.fourth);
     }
 }
