@@ -31,7 +31,7 @@ use Rattle.day_sheet.specs.Sheet.{sheet_outcome}
 use Rattle.valley_station.specs.Station.{held, fresh_outcome, send_outcome, end_outcome}
 use Rattle.claim.specs.Claim.{records_read, log_says, IsCut, Lent, RowSize, WellFormed, Recursion, AreMerges, Claimed}
 use Rattle.claim.proofs.Demand3.{demand3}
-use Rattle.claim.specs.Drops.{eaten_trees, summed, TakenAtValue, eaten_at, LeadsToRecursion, OutOfUse}
+use Rattle.claim.specs.Drops.{eaten_trees, summed, TakenAtValue, eaten_at, LeadsToRecursion, OutOfUse, OutOfUseAtStations}
 
 -- ---- trees
 
@@ -167,18 +167,27 @@ module _ (m : ℕ) (out : mode_in_use m ≡ false) where
     )
 
   pub out-of-use : OutOfUse m
-  unfolding summarise_outcome merge_outcome finish_outcome sheet_outcome fresh_outcome send_outcome end_outcome
+  unfolding summarise_outcome merge_outcome finish_outcome sheet_outcome
   out-of-use = record {
     argument = λ chunk cap. rw out;
     printed = λ log page cap. rw out;
-    started = rw out;
-    sent = λ st farm b l e. rw (le-leb farm 7 l, merged-5 (held st farm) b 0 e);
-    ended = λ st farm cap l e. rw (le-leb farm 7 l, no-summary (held st farm) e);
     merged = λ a b cap e. rw (merged-5 a b cap e);
     finished = λ b e. rw (no-summary b e);
     row = row-5;
   }
 
+  pub out-of-use-at-stations : OutOfUseAtStations m
+  unfolding fresh_outcome send_outcome end_outcome
+  out-of-use-at-stations = record {
+    started = rw out;
+    sent = λ st farm b l e. rw (le-leb farm 7 l, merged-5 (held st farm) b 0 e);
+    ended = λ st farm cap l e. rw (le-leb farm 7 l, no-summary (held st farm) e);
+  }
+
 pub mode-3 : OutOfUse 3
 unfolding mode_in_use
 mode-3 = out-of-use 3 refl
+
+pub mode-3-at-stations : OutOfUseAtStations 3
+unfolding mode_in_use
+mode-3-at-stations = out-of-use-at-stations 3 refl

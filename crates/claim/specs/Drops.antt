@@ -55,11 +55,14 @@ pub record LeadsToRecursion (log places : List ℕ) (buffers : List (List ℕ)) 
 pub record OutOfUse (m : ℕ) : Type 0 where
   pub argument : (chunk : List ℕ) (cap : ℕ) → summarise_outcome chunk m cap ≡ refused 1
   pub printed : (log : List ℕ) (page cap : ℕ) → sheet_outcome log m page cap ≡ refused 1
-  pub started : fresh_outcome m ≡ refused 1
-  pub sent : (st : Station) (farm : ℕ) (b : List ℕ) → farm ≤ 7 → (mode_at (held st farm) ≡ m) ⊎ (mode_at b ≡ m) → send_outcome st farm b ≡ refused 5
-  pub ended : (st : Station) (farm cap : ℕ) → farm ≤ 7 → mode_at (held st farm) ≡ m → end_outcome st farm cap ≡ refused 5
   pub merged : (a b : List ℕ) (cap : ℕ) → (mode_at a ≡ m) ⊎ (mode_at b ≡ m) → merge_outcome a b cap ≡ refused 5
   pub finished : (b : List ℕ) → mode_at b ≡ m → finish_outcome b ≡ refused 5
   -- a row with a piece p of this mode
   pub row : (b : List ℕ) → RowSize (length (row_pieces b)) → (p : List ℕ) → Memᴰ p (row_pieces b) → mode_at p ≡ m → (cap : ℕ)
       → (merge_row_outcome b cap ≡ refused 5) × (plan_outcome b cap ≡ refused 5) × (runs_outcome b cap ≡ refused 5) × (work_outcome b ≡ refused 5)
+
+-- The same of a valley station's calls: of a mode m that is out of use, whatever the station holds.
+pub record OutOfUseAtStations (m : ℕ) : Type 0 where
+  pub started : fresh_outcome m ≡ refused 1
+  pub sent : (st : Station) (farm : ℕ) (b : List ℕ) → farm ≤ 7 → (mode_at (held st farm) ≡ m) ⊎ (mode_at b ≡ m) → send_outcome st farm b ≡ refused 5
+  pub ended : (st : Station) (farm cap : ℕ) → farm ≤ 7 → mode_at (held st farm) ≡ m → end_outcome st farm cap ≡ refused 5

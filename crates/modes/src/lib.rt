@@ -9,7 +9,7 @@ pub enum Held {
 }
 
 // The numbers of a run, as they are stored; the fourth is 0 but in mode 5.
-#[derive(Drop)]
+#[derive(Clone, Copy)]
 pub struct Run {
     pub first: i64,
     pub second: i64,

@@ -1,4 +1,6 @@
 // The call on a row of summaries that writes its join plan.
+#![tactic(auto)]
+
 ghost use Rattle.std.specs.Prelude.{◌≡◌, ◌≤◌, length};
 ghost use Rattle.gate.specs.Outcome.{buffer_after};
 ghost use Rattle.gate.specs.Answers.{written_answer, length_answered};

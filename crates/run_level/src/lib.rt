@@ -5,7 +5,7 @@ ghost use Rattle.std.specs.Prelude.{◌≡◌, ◌+◌, ◌≤◌, ◌<◌, leng
 ghost use Rattle.run_level.specs.Levels.{Begun, Reads, piece_of, level_at, level_in, place_in};
 
 // A hill of a row: the number of its piece, where the piece begins, and the hill's start and peak.
-#[derive(Drop)]
+#[derive(Clone, Copy)]
 pub struct Place {
     pub piece: usize,
     pub at: usize,

@@ -5,22 +5,24 @@ use Rattle.std.proofs.Math.Logic.{dite}
 use Rattle.std.proofs.Math.Decide.{dec_lt}
 use Rattle.gate.specs.Outcome.{Outcome, refused, granted, question, onward, written}
 use Rattle.gate.specs.Answers.{length_answered}
+use Rattle.number.specs.Bytes.{AllBytes}
 use Rattle.record.specs.Record.{records_of}
 use Rattle.record.proofs.Laws.{and_right}
 use Rattle.record.specs.declared.Fields.{Fields}
 use Rattle.figure.specs.Mode.{mode_of, mode_in_use}
 use Rattle.hill.specs.Summary.{summary_of}
 use Rattle.summary.specs.Judge.{mode_at}
+use Rattle.summary.specs.Decode.{decode}
 use Rattle.summary.specs.Decide.{is_summary}
 use Rattle.summary.proofs.DecideLaws.{decide-summary}
 use Rattle.summary.specs.Accepted.{IsSummaryIn}
-use Rattle.summary.proofs.Accepted.{summary-length, encode-fits, chunk-accepted}
+use Rattle.summary.proofs.Accepted.{summary-length, encode-fits, encode-decode, decoded, chunk-accepted}
 use Rattle.summary.specs.Outcomes.{summary_bytes, merge_bytes, summarise_outcome, merge_outcome}
 use Rattle.modes.specs.FourModes.{Amounts}
 use Rattle.hill.specs.Log.{Record}
 use Rattle.hill.specs.Row.{joined}
 use Rattle.chunk.specs.Chunk.{chunk_of, whole_log}
-use Rattle.summary.proofs.MergeBytes.{merge-accepted}
+use Rattle.summary.proofs.MergeBytes.{merge-accepted, merge-bytes}
 use Rattle.summary.proofs.OutcomeLaws.{chunk-readable}
 use Rattle.row.specs.Row.{row_pieces}
 use Rattle.outcome.specs.Outcomes.{mode_of_all, Summaries, ask_row, ask_log, plan_bytes, runs_bytes, merge_row_outcome, plan_outcome, runs_outcome}
@@ -66,6 +68,9 @@ short-summary chunk mode cap =
     go (granted fs) e = fits cap (summary_bytes mode (chunk_of fs)) (encode-fits mode (summary_of (mode_of mode).algebra (chunk_of fs)) (chunk-accepted mode (chunk_of fs) (chunk-readable mode chunk fs e)))
 
 -- .. two that are merged, ..
+accepted-fits : (m : ℕ) (b : List ℕ) → AllBytes b → IsSummaryIn m b → length b ≤ 1788
+accepted-fits m b h i = subst (λ (w : List ℕ). length w ≤ 1788) (encode-decode m b h i) (encode-fits m (decode m b) (decoded m b i))
+
 pub short-merge : (left right : List ℕ) (cap : ℕ) → Short (length_answered (merge_outcome left right cap))
 unfolding merge_outcome
 short-merge left right cap = go (is_summary left) refl (is_summary right) refl (eqb (mode_at left) (mode_at right)) refl
@@ -75,7 +80,7 @@ short-merge left right cap = go (is_summary left) refl (is_summary right) refl (
     go true ex true ey true ez =
         let i : IsSummaryIn (mode_at left) left = record { is = (decide-summary left).from ex; mode-is = refl } in
         let j : IsSummaryIn (mode_at left) right = record { is = (decide-summary right).from ey; mode-is = sym (eqb-true (mode_at left) (mode_at right) ez) } in
-        fits cap (merge_bytes (mode_at left) left right) (summary-length (mode_at left) (merge_bytes (mode_at left) left right) (merge-accepted (mode_at left) left right i j)).few
+        fits cap (merge_bytes (mode_at left) left right) (accepted-fits (mode_at left) (merge_bytes (mode_at left) left right) (merge-bytes (mode_at left) left right i j) (merge-accepted (mode_at left) left right i j))
     go true ex true ey false ez = tt
     go true ex false ey z ez = tt
     go false ex y ey z ez = tt

@@ -11,7 +11,7 @@ ghost use Rattle.work.specs.Promised.{IsPlaceOfHill, AddsMiddle, with_middle, Ad
 use run_level::Place;
 
 // A line of the plan.
-#[derive(Drop)]
+#[derive(Clone, Copy)]
 pub struct Join {
     pub i: u8,
     pub j: u8,

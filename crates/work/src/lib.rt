@@ -1,4 +1,6 @@
 // The work along the join plan of a row of summaries.
+#![tactic(auto)]
+
 ghost use Rattle.std.specs.Prelude.{◌≡◌};
 ghost use Rattle.outcome.specs.Outcomes.{work_along, work_outcome};
 ghost use Rattle.row_gate.specs.Asks.{summaries_in, LetThrough};

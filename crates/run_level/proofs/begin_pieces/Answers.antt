@@ -16,6 +16,5 @@ overflow_add-at c =
 
 pub loop-k-preserved : goal.loop-k-preserved
 loop-k-preserved c =
-    let a = c in
     let l = c.loop-k in
-    begin-next a.args.row.now a.args.count l.ats l.at l.k c.first_length-first.result a.requires.0 l.invariant (omega arith) c.first_length-first.ensures
+    begin-next c.args.row.now c.args.count l.ats l.at l.k c.first_length-first.result c.requires.0 l.invariant (omega arith) c.first_length-first.ensures

@@ -6,35 +6,28 @@ use Rattle.run_level.proofs.read_level.Goals as goal
 
 pub overflow_add-opener : goal.overflow_add-opener
 overflow_add-opener c =
-    let a = c in
-    record { fits = omega (arith, record-fits a.args.row.now a.args.opener a.args.closer a.args.depth a.requires) }
+    record { fits = omega (arith, record-fits c.args.row.now c.args.opener c.args.closer c.args.depth c.requires) }
 
 pub overflow_add-opener-2 : goal.overflow_add-opener-2
 overflow_add-opener-2 c =
-    let a = c in
-    record { fits = omega (arith, record-fits a.args.row.now a.args.opener a.args.closer a.args.depth a.requires) }
+    record { fits = omega (arith, record-fits c.args.row.now c.args.opener c.args.closer c.args.depth c.requires) }
 
 pub overflow_add-opener-3 : goal.overflow_add-opener-3
 overflow_add-opener-3 c =
-    let a = c in
-    record { fits = omega (arith, record-fits a.args.row.now a.args.opener a.args.closer a.args.depth a.requires) }
+    record { fits = omega (arith, record-fits c.args.row.now c.args.opener c.args.closer c.args.depth c.requires) }
 
 pub overflow_add-closer : goal.overflow_add-closer
 overflow_add-closer c =
-    let a = c in
-    record { fits = omega (arith, left-fits a.args.row.now a.args.opener a.args.closer a.args.depth a.requires) }
+    record { fits = omega (arith, left-fits c.args.row.now c.args.opener c.args.closer c.args.depth c.requires) }
 
 pub overflow_add-closer-2 : goal.overflow_add-closer-2
 overflow_add-closer-2 c =
-    let a = c in
-    record { fits = omega (arith, left-fits a.args.row.now a.args.opener a.args.closer a.args.depth a.requires) }
+    record { fits = omega (arith, left-fits c.args.row.now c.args.opener c.args.closer c.args.depth c.requires) }
 
 pub read_at-requires : goal.read_at-requires
 read_at-requires c =
-    let a = c in
-    (record-fits a.args.row.now a.args.opener a.args.closer a.args.depth a.requires, left-fits a.args.row.now a.args.opener a.args.closer a.args.depth a.requires)
+    (record-fits c.args.row.now c.args.opener c.args.closer c.args.depth c.requires, left-fits c.args.row.now c.args.opener c.args.closer c.args.depth c.requires)
 
 pub returns : goal.returns
 returns c =
-    let a = c in
-    c.read_at.ensures ∙ level-read a.args.row.now a.args.opener a.args.closer a.args.depth a.requires
+    c.read_at.ensures ∙ level-read c.args.row.now c.args.opener c.args.closer c.args.depth c.requires

@@ -14,9 +14,8 @@ slice_bounds-judge-end c = let i = (first-within c.loop-k.rest.now).inside in le
 
 pub returns-in_default : goal.returns-in_default
 returns-in_default c =
-    let start = c in
     let l = c.loop-k in
-    let r = judging-not start.args.row.now start.args.count l.states l.starts l.peaks l.ends l.opened l.rest.now l.k l.mode l.same l.invariant start.requires.row_len.0 c.loop-k-test.true c.first_length-first.result c.first_length-first.ensures
+    let r = judging-not c.args.row.now c.args.count l.states l.starts l.peaks l.ends l.opened l.rest.now l.k l.mode l.same l.invariant c.requires.row_len.0 c.loop-k-test.true c.first_length-first.result c.first_length-first.ensures
     (judges-not _ c.judge-judged.result c.judge-judged.ensures c.in_default.is) in
     record { answer = r.0; notes = r.1 }
 
@@ -34,10 +33,9 @@ slice_bounds-rest-start c = slice_bounds-rest-count c
 
 pub loop-k-preserved : goal.loop-k-preserved
 loop-k-preserved c =
-    let start = c in
     let l = c.loop-k in
     let p = c.in-Summary.piece in
     let j = judges _ c.judge-judged.result c.judge-judged.ensures p c.in-Summary.is in
     let st = c.store in
-    judging-next start.args.row.now start.args.count l.states l.starts l.peaks l.ends l.opened l.rest.now l.k l.mode l.same l.invariant start.requires.row_len.0 c.loop-k-test.true c.first_length-first.result p.mode _ p c.note_of.result st.new.states st.new.starts st.new.peaks st.new.ends st.new.opened
-    c.first_length-first.ensures start.requires.row_len.2 j refl c.note_of.ensures st.ensures c.first_mode-mode.ensures
+    judging-next c.args.row.now c.args.count l.states l.starts l.peaks l.ends l.opened l.rest.now l.k l.mode l.same l.invariant c.requires.row_len.0 c.loop-k-test.true c.first_length-first.result p.mode _ p c.note_of.result st.new.states st.new.starts st.new.peaks st.new.ends st.new.opened
+    c.first_length-first.ensures c.requires.row_len.2 j refl c.note_of.ensures st.ensures c.first_mode-mode.ensures

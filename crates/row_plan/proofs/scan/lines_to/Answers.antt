@@ -15,28 +15,25 @@ loop-i-init c =
 
 pub keep-k-requires-clause-top_bound : goal.keep-k-requires-clause-top_bound
 keep-k-requires-clause-top_bound c =
-    let start = c in
-    let a = start.args in
+    let a = c.args in
     let l = c.loop-i in
     let whole : length (lines_in a.is.now a.js.now a.lows.now a.highs.now a.n ++ lines_to_in a.starts.now a.peaks.now a.ends.now a.j) ≤ 128 =
-    omega (arith, start.requires.j_bound_2, length-append (lines_in a.is.now a.js.now a.lows.now a.highs.now a.n) (lines_to_in a.starts.now a.peaks.now a.ends.now a.j), length-lines a.is.now a.js.now a.lows.now a.highs.now a.n) in
-    walk-room a.starts.now a.peaks.now a.ends.now start.requires.noted a.j _ l.is l.js l.lows l.highs _ l.m l.i (l.i - 1) l.k l.invariant (omega (arith, c.loop-i-test.true)) whole _ _ c.higher-low.ensures c.lower-top.ensures
+    omega (arith, c.requires.j_bound_2, length-append (lines_in a.is.now a.js.now a.lows.now a.highs.now a.n) (lines_to_in a.starts.now a.peaks.now a.ends.now a.j), length-lines a.is.now a.js.now a.lows.now a.highs.now a.n) in
+    walk-room a.starts.now a.peaks.now a.ends.now c.requires.noted a.j _ l.is l.js l.lows l.highs _ l.m l.i (l.i - 1) l.k l.invariant (omega (arith, c.loop-i-test.true)) whole _ _ c.higher-low.ensures c.lower-top.ensures
 
 pub loop-i-preserved : goal.loop-i-preserved
 loop-i-preserved c =
-    let start = c in
-    let a = start.args in
+    let a = c.args in
     let l = c.loop-i in
     let k = c.keep-k in
-    walk-next a.starts.now a.peaks.now a.ends.now start.requires.noted a.j _ l.is l.js l.lows l.highs _ l.m l.i (l.i - 1) l.k l.invariant (omega (arith, c.loop-i-test.true)) _ _ _ k.result k.new.is k.new.js k.new.lows k.new.highs
+    walk-next a.starts.now a.peaks.now a.ends.now c.requires.noted a.j _ l.is l.js l.lows l.highs _ l.m l.i (l.i - 1) l.k l.invariant (omega (arith, c.loop-i-test.true)) _ _ _ k.result k.new.is k.new.js k.new.lows k.new.highs
     c.higher-low.ensures c.lower-top.ensures c.lower-m.ensures k.ensures
 
 pub returns : goal.returns
 returns c =
-    let start = c in
-    let a = start.args in
+    let a = c.args in
     let l = c.loop-i in
     record {
       sized = l.invariant.sized;
-      lines = walk_end a.starts.now a.peaks.now a.ends.now start.requires.noted a.j _ l.is l.js l.lows l.highs _ l.m l.i l.k l.invariant (omega arith);
+      lines = walk_end a.starts.now a.peaks.now a.ends.now c.requires.noted a.j _ l.is l.js l.lows l.highs _ l.m l.i l.k l.invariant (omega arith);
     }
