@@ -1,4 +1,5 @@
 // What a call comes to: a refusal by the number of its question, or a result. The definitions stand in specs/.
+#![tactic(auto)]
 
 // The answer of a call that writes bytes into a lent buffer. `written_answer` says what each case means.
 #[derive(Drop)]
