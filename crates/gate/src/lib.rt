@@ -2,14 +2,14 @@
 #![tactic(auto)]
 
 // The answer of a call that writes bytes into a lent buffer. `written_answer` says what each case means.
-#[derive(Drop)]
+#[derive(Clone, Copy)]
 pub enum Written {
     Bytes(usize),
     Refused(u8),
 }
 
 // The answer of a call that gives a figure. `finished_answer` says what each case means.
-#[derive(Drop)]
+#[derive(Clone, Copy)]
 pub enum Finished {
     Figure(i64),
     Refused(u8),
