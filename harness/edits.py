@@ -10,8 +10,8 @@ rt a head is a comment, as every line that begins with '#', and what follows the
     old: TEXT           a text that stands there once, in one line
     new: TEXT           what takes its place; another pair may follow
 
-A change is of one function, in src/, or of definitions, in specs/, with the lemmas in proofs/ that say the same of
-them. A constant counts with the function that names it, where just one does. The changes of one file are of different functions, so each has a refusal of its
+A change is of one function, in src/, or of definitions, in specs/, some with a theorem of theirs, in proofs/. A
+constant counts with the function that names it, where just one does. The changes of one file are of different functions, so each has a refusal of its
 own to show; one of definitions stands alone.
 """
 
@@ -111,7 +111,7 @@ def faults(change):
     """What is wrong with a change by itself."""
     folders = {pair.file.split("/")[0] for pair in change.pairs if pair.file}
     if not change.pairs or folders not in ({"src"}, {"specs"}, {"specs", "proofs"}):
-        return ["it is not of files in src/ alone, or in specs/ and the proofs/ of these"]
+        return ["it is not of files in src/ alone, or of specs/, and proofs/ beside it"]
     stale = [f"'{pair.old}' does not stand once in {pair.file}" for pair in change.pairs
              if not pair.old or source(change.crate, pair.file).count(pair.old) != 1]
     if stale or "specs" in folders:

@@ -1,3 +1,3 @@
--- What the bytes of a chunk say; then the laws.
+-- What the bytes of a chunk say; and what a contract says with it.
 pub mod Chunk
 pub mod Laws

@@ -12,7 +12,7 @@ use Rattle.summary.proofs.OutcomeLaws.{chunk-readable}
 use Rattle.valley_station.specs.Runs.{FarmCall, tell_handed, merged_in_order}
 use Rattle.valley_station.proofs.RunLaws.{chunks-in-order}
 use Rattle.valley_station.proofs.ClaimLaws.{serves}
-use Rattle.claim.specs.Claim.{records_read, parts, stretch_bytes, IsCut, Claimed}
+use Rattle.claim.specs.Claim.{records_read, parts, stretch_bytes, IsCut}
 use Rattle.claim.proofs.Stretches.{found}
 use Rattle.claim.proofs.LogRow.{finish-log}
 use Rattle.claim.proofs.BatchLaws.{row-of}

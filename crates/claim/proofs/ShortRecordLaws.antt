@@ -1,5 +1,5 @@
 -- Document 02, L8: a short record counts from 0, and a day that begins with one that holds another is not negative. Assumes nothing.
-use Rattle.std.specs.Prelude.{◌≡◌, refl, List, [], ◌∷◌, ℕ, zero, suc, length, get_or, pos}
+use Rattle.std.specs.Prelude.{◌≡◌, refl, List, [], ◌∷◌, ℕ, zero, suc, get_or, pos}
 use Rattle.std.proofs.Common.{sym, ap, subst, ◌∙◌, arith}
 use Rattle.std.proofs.Math.ListN.{get_or-map}
 use Rattle.gate.specs.Outcome.{granted}
@@ -8,7 +8,7 @@ use Rattle.record.specs.Record.{read_of, records_of, short_fields, close_fields}
 use Rattle.record.proofs.Laws.{short-is}
 use Rattle.record.proofs.Readable.{Each, each_read}
 use Rattle.record.specs.declared.Fields.{Fields}
-use Rattle.modes.specs.FourModes.{Amounts, eaten}
+use Rattle.modes.specs.FourModes.{Amounts}
 use Rattle.figure.specs.Stored.{amounts}
 use Rattle.hill.specs.Log.{Record, opening}
 use Rattle.hill.specs.Closing.{at, Holds}
@@ -16,7 +16,6 @@ use Rattle.hill.proofs.HeldPlaces.{held-listed}
 use Rattle.chunk.specs.Chunk.{record_of, chunk_of}
 use Rattle.claim.specs.Claim.{records_read, WellFormed, Recursion}
 use Rattle.claim.proofs.Stretches.{found}
-use Rattle.claim.proofs.LogRow.{says}
 use Rattle.claim.specs.Drops.{TakenAtValue, eaten_at}
 use Rattle.claim.proofs.Demand3.{recursion}
 use Rattle.claim.proofs.DropLaws.{taken-at-value, eaten-says, first-place}

@@ -1,5 +1,5 @@
 -- The table of proved cases, "(P)": each row holds, by computation. Assumes nothing.
-use Rattle.std.specs.Prelude.{refl, ◌-◌}
+use Rattle.std.specs.Prelude.{refl}
 use mathlib.Core.List.{flat_map}
 use Rattle.algebra.specs.Run.{run_on}
 use Rattle.number.specs.Bytes.{le_at, bytes_of}

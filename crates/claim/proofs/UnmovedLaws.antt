@@ -1,6 +1,6 @@
 -- Document 02, L8: the figures that do not move: net, heaviest and stamp, whatever floor short records had; and eaten, where it was not above 0 and nothing is
 -- negative. Assumes nothing.
-use Rattle.std.specs.Prelude.{◌≡◌, refl, ◌⊎◌, Bool, true, false, cond, ℕ, ◌*◌, ◌≤◌, eqb, length, ℤ, pos, ◌+ℤ◌, ◌≤ℤ◌}
+use Rattle.std.specs.Prelude.{◌≡◌, refl, ◌⊎◌, Bool, true, false, cond, ℕ, ◌*◌, ◌≤◌, eqb, ℤ, pos, ◌+ℤ◌, ◌≤ℤ◌}
 use Rattle.std.proofs.Common.{sym, ap, ap₂, subst, ◌∙◌, inl, inr, arith, eqb-true}
 use mathlib.Core.List.{List, [], ◌∷◌, ◌++◌, map, Memᴰ}
 use Rattle.number.specs.Integer.{clamp, min_z, max_z, wrap}

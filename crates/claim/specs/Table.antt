@@ -7,7 +7,6 @@ use Rattle.number.specs.Bytes.{i64_at}
 use Rattle.row.specs.Row.{end_to_end}
 use Rattle.record.specs.Record.{open_bytes, close_bytes}
 use Rattle.record.proofs.Examples.{log_d}
-use Rattle.hill.specs.Verdict.{cut}
 use Rattle.hill.specs.Row.{on_result}
 use Rattle.summary.specs.Judge.{rise_at, left_at}
 use Rattle.summary.specs.Outcomes.{summarise_outcome, finish_outcome}

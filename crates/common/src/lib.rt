@@ -16,7 +16,7 @@ use whole_log::LogAsked;
 mod walk;
 
 // The answer of `common`. `named_answer` says what each case means.
-#[derive(Drop)]
+#[derive(Clone, Copy)]
 pub enum Named {
     Record(u32),
     Refused(u8),

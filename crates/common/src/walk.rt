@@ -13,7 +13,7 @@ use record::{Fields, Read};
 
 // What the pass keeps beside the numbers of the open records: how many are opened so far; and how many of the open ones are or hold the earlier of the two, once
 // that is opened.
-#[derive(Drop)]
+#[derive(Clone, Copy)]
 pub struct Progress {
     pub opened: u32,
     pub shared: u16,

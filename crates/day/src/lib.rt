@@ -13,7 +13,7 @@ use record::{Fields, Read};
 use whole_log::Tally;
 
 // The answer of `figures`. `day_answer` says what each case means.
-#[derive(Drop)]
+#[derive(Clone, Copy)]
 pub enum Day {
     Figures(Figures),
     Refused(u8),

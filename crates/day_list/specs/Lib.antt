@@ -3,5 +3,3 @@ pub mod Days
 pub mod Claims
 -- The list has just the logs that are wanted, in order: by their records, and by their bytes. No other list has.
 pub mod WayLaws
-
--- What the call comes to.

@@ -1,6 +1,5 @@
 -- The list of small days by their records: just those that are wanted, in order. Assumes nothing.
 use Rattle.std.specs.Prelude.{ℕ, zero, suc}
-use mathlib.Core.List.Memᴰ
 use mathlib.Core.List.{List, [], ◌∷◌, map}
 use Rattle.record.specs.declared.Fields.{Fields}
 use Rattle.day_list.specs.Days.{open_one, ways}

@@ -1,8 +1,5 @@
 -- Definitions that a reader must believe: a line, a page and what the call comes to; what is claimed of them.
 pub mod Sheet
 pub mod Claims
--- A line: its length, its columns, and that it reads back.
 -- The lines of a log by their records, and the pages.
 pub mod PageLaws
-
--- What the call comes to.

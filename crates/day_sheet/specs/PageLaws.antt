@@ -1,7 +1,7 @@
 -- The lines of a log by their records: each tells of its own record, whose figure is that of its subtree as a log of its own. And the pages. Assumes nothing.
 use Rattle.std.specs.Prelude.{ℤ}
 use mathlib.Core.List.{List}
-use Prim.Native.Nat.{ℕ, ◌-◌}
+use Prim.Native.Nat.{ℕ}
 use Rattle.std.proofs.Math.ListN.{drop}
 use Rattle.modes.specs.FourModes.{Amounts}
 use Rattle.hill.specs.Log.{Record}

@@ -1,5 +1,5 @@
 -- The table of document 01's log D, both ways, and each refusal of a table but 2, by computation. Assumes nothing.
-use Rattle.std.specs.Prelude.{◌≡◌, refl, List, [], ◌∷◌, ◌++◌, ℕ, pos, negsuc}
+use Rattle.std.specs.Prelude.{◌≡◌, refl, List, [], ◌∷◌, ◌++◌, ℕ, pos}
 use Rattle.gate.specs.Outcome.{refused, granted}
 use Rattle.number.specs.Bytes.{le_at, bytes_of}
 use Rattle.record.specs.Record.{within, in_range, accepted, whole, by_shape, read_of, records_in, records_of}

@@ -1,6 +1,5 @@
 -- What writing the log comes to, question by question. Assumes nothing.
 use Rattle.std.specs.Prelude.{◌≡◌, true, List, ℕ, ◌%◌, ◌≤◌, length}
-use Rattle.gate.proofs.Laws.{yes}
 use Rattle.day_table.specs.Table.{nested}
 use Rattle.day_table.specs.Outcomes.{table_lines, all_could_hold}
 

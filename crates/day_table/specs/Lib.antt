@@ -2,6 +2,5 @@
 pub mod Table
 pub mod Outcomes
 pub mod Claims
--- A table and its log belong to each other; so do their bytes.
 -- What the calls come to: both round trips, the only log, what comes back of any log, and when 13 is answered.
 pub mod CallLaws

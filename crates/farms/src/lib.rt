@@ -26,7 +26,7 @@ const OWN: u32 = 10_000;
 const IN_COMMON: u64 = 20_000;
 
 // The answer of `fresh` and `send`, which tell only that the call was taken. `taken_answer` says what each case means.
-#[derive(Drop)]
+#[derive(Clone, Copy)]
 pub enum Taken {
     Yes,
     Refused(u8),

@@ -1,3 +1,3 @@
--- The theorems of this crate, and what they are proved with.
+-- The theorems on the definitions in specs/, and what they are proved with.
 pub mod Laws
 pub mod Promises

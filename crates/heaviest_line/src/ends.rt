@@ -13,7 +13,7 @@ use record::{Fields, Read};
 
 // What the pass keeps: how many records are opened so far, and whether the last one read is an open; and of the heaviest end so far, how many are opened up
 // to it, its depth, and what the values from the root to it add to.
-#[derive(Drop)]
+#[derive(Clone, Copy)]
 pub struct Search {
     pub opened: u32,
     pub opens: bool,

@@ -3,7 +3,7 @@
 use Rattle.std.specs.Prelude.{◌≡◌, refl, List, [], ◌∷◌, ℕ, zero, suc, ◌+◌, ◌*◌, ◌≤◌, ◌<◌, length}
 use Rattle.std.proofs.Math.Path.{sym}
 use Rattle.std.proofs.Common.{subst, ◌∙◌, arith}
-use Rattle.hill.specs.Verdict.{pass, joint, count, ends}
+use Rattle.hill.specs.Verdict.{pass, joint, ends}
 use Rattle.hill.proofs.VerdictLaws.{low-fst, low-snd, joint-pass, joint-high, joint-same, count-few, ends-pass}
 use Rattle.hill.specs.Log.{Record, opening, closing, start_level, end_level, end_of, opened_of, joints, fault_of, log_fault}
 use Rattle.hill.proofs.Spell.{end_from, end-from}

@@ -1,5 +1,5 @@
 -- Where a log goes down through a level there is a close, where it goes up an open; and what "closed in the chunk" says by places. Assumes nothing.
-use Rattle.std.specs.Prelude.{◌≡◌, List, ℕ, suc, ◌-◌, ◌<◌, length}
+use Rattle.std.specs.Prelude.{◌≡◌, List, ℕ, suc, ◌<◌, length}
 use Rattle.hill.specs.Log.{Record, start_level, end_level}
 use Rattle.hill.specs.Closing.{at}
 

@@ -3,7 +3,6 @@
 use Rattle.std.specs.Prelude.{Bool, false, ℕ, suc, eqb}
 use mathlib.Core.List.{List}
 use Rattle.hill.specs.Log.{Record, opening, closing}
-use Rattle.hill.specs.Closing.{at}
 use Rattle.hill.specs.Places.{select}
 
 module _ {R : Type 0} where

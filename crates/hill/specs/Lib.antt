@@ -14,17 +14,9 @@ pub mod Merge
 pub mod Finish
 pub mod Row
 pub mod Valid
--- The lowest fault.
+-- Hills built record by record.
 pub mod Building
--- The peak is the lowest level reached.
--- Hills built record by record, and merging by levels.
--- A log without fault is one tree, and its figure is the tree's.
--- Records that carry otherwise what counts the same.
--- A log by its levels alone, and by its places.
--- Sorted lists; held, opened, subtrees and the values of "Summaries" by places.
+-- Places of a log, and what is held from one on.
 pub mod Places
 pub mod HeldPlaces
 pub mod Crossings
-
--- Summaries: the words and the building form, the homomorphism, associativity.
--- A record's subtree as a log of its own.

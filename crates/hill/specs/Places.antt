@@ -1,6 +1,5 @@
 -- Lists of places: no two list the same places, and the places that a pass over the log selects. Assumes nothing.
 use Rattle.std.specs.Prelude.{Bool, cond, List, [], ◌∷◌, ℕ, suc}
-use mathlib.Core.List.Memᴰ
 use Rattle.hill.specs.Log.{Record}
 
 module _ {R : Type 0} (keep : Record R → List (Record R) → Bool) (stop : Record R → Bool) where

@@ -34,7 +34,7 @@ ghost use Rattle.judge.specs.Laid.{
 use figure::Held;
 
 // What a spoilt summary says.
-#[derive(Drop)]
+#[derive(Clone, Copy)]
 pub struct SpoiltHead {
     pub fault: u16,
     pub start: u16,
@@ -43,7 +43,7 @@ pub struct SpoiltHead {
 }
 
 // What a hill says before and between its slopes.
-#[derive(Drop)]
+#[derive(Clone, Copy)]
 pub struct HillHead {
     pub start: u16,
     pub peak: u16,
@@ -54,7 +54,7 @@ pub struct HillHead {
 
 // A summary is one of three cases: a chunk with no record, one with a fault, or a hill, whose slopes stand beside it: in the bytes where it is read,
 // in arrays where it is written.
-#[derive(Drop)]
+#[derive(Clone, Copy)]
 pub enum Head {
     Blank,
     Spoilt(SpoiltHead),
@@ -62,14 +62,14 @@ pub enum Head {
 }
 
 // One summary, but for a hill's slopes.
-#[derive(Drop)]
+#[derive(Clone, Copy)]
 pub struct Piece {
     pub mode: u16,
     pub head: Head,
 }
 
 // The answer to question 5. `judged_answer` says what each case means.
-#[derive(Drop)]
+#[derive(Clone, Copy)]
 pub enum Judged {
     Summary(Piece),
     NotOne,

@@ -9,7 +9,7 @@ use Rattle.gate.proofs.Laws.{not-result, result-same, fits, too_short}
 use Rattle.number.specs.Bytes.{le_at, bytes_of}
 use Rattle.number.specs.Laws.{length-bytes_of, field-here, field_past}
 use Rattle.modes.specs.FourModes.{Amounts}
-use Rattle.hill.specs.Log.{Record, depth}
+use Rattle.hill.specs.Log.{Record}
 use Rattle.hill.specs.Closing.{OpensAt}
 use Rattle.chunk.specs.Chunk.{whole_log, IsWellFormed}
 use Rattle.chunk.specs.Laws.{IsLog}

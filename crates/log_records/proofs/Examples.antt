@@ -1,5 +1,5 @@
 -- The records behind the heaviest line of document 01's log D, of bytes, and of other logs, by computation. Assumes nothing.
-use Rattle.std.specs.Prelude.{◌≡◌, refl, List, [], ◌∷◌, ℕ, ℤ, pos, negsuc}
+use Rattle.std.specs.Prelude.{◌≡◌, refl, [], ◌∷◌, ℕ, ℤ, pos, negsuc}
 use Rattle.gate.specs.Outcome.{refused, granted}
 use Rattle.number.specs.Integer.{max_z}
 use Rattle.number.specs.Bytes.{le_at, bytes_of}

@@ -1,5 +1,5 @@
 -- What a pass over the log has at a close is the figure of the record that is closed. Assumes nothing.
-use Rattle.std.specs.Prelude.{◌≡◌, List, [], ◌∷◌, ℕ, suc, ◌-◌, length, drop}
+use Rattle.std.specs.Prelude.{◌≡◌, List, [], ◌∷◌, ℕ, suc, length, drop}
 use Rattle.algebra.specs.Algebra.{Algebra, Laws}
 use Rattle.hill.specs.Log.{Record, opening}
 use Rattle.hill.specs.Closing.{at}

@@ -4,10 +4,7 @@ pub mod Line
 pub mod Claims
 -- Each number names one record; what a log without fault is by places.
 pub mod Formed
--- There is exactly one line, and it is the one computed.
 -- What a pass over the log keeps, where it ends, and the figure that it has at a close.
 pub mod StackLaws
 pub mod OpenNumbers
 pub mod CloseFigure
-
--- What the call comes to.

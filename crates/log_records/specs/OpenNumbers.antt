@@ -1,7 +1,6 @@
 -- The open records as a pass over the log has them that names records: their stack, and the number of each at its depth. Assumes nothing.
 use Rattle.std.specs.Prelude.{◌≡◌, List, [], ◌∷◌, ℕ, length, get_or}
-use Rattle.hill.specs.Log.{Record, opens}
-use Rattle.hill.specs.Closing.{at}
+use Rattle.hill.specs.Log.{Record}
 use Rattle.log_records.specs.Numbers.{number_at}
 use Rattle.log_records.specs.StackLaws.{StackBefore}
 

@@ -1,5 +1,5 @@
 -- The records open at a place, deepest first: how a pass over the log comes by them, and that those down to the first heaviest end are the line. Assumes nothing.
-use Rattle.std.specs.Prelude.{◌≡◌, ℕ, suc, ◌-◌, ◌≤◌, ◌<◌, ℤ, length, ◌≤ℤ◌, ◌<ℤ◌}
+use Rattle.std.specs.Prelude.{◌≡◌, ℕ, suc, ◌<◌, ℤ, length, ◌≤ℤ◌, ◌<ℤ◌}
 use mathlib.Core.List.{List, [], ◌∷◌}
 use Rattle.modes.specs.FourModes.{Amounts}
 use Rattle.hill.specs.Log.{Record, closing, depth, start_level}

@@ -36,14 +36,14 @@ struct Numbers {
 
 // One side of a merge. Blank: a chunk with no record, which adds nothing. Part: a spoilt summary or a hill. Those two are one case here, since
 // one rule joins them: levels and opened records are put together in the same way, and only then is it known whether there is a fault.
-#[derive(Drop)]
+#[derive(Clone, Copy)]
 enum Side {
     Blank,
     Part(Numbers),
 }
 
 // Pieces merged so far: what they say together before the slopes, and how much of five arrays their hill takes. `Kept` says what that means.
-#[derive(Drop)]
+#[derive(Clone, Copy)]
 pub struct Merged {
     side: Side,
     counts: Counts,

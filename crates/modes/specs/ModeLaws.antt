@@ -1,5 +1,4 @@
 -- In each mode, figures side by side may be combined in any grouping and order, and nothing held adds nothing. Assumes nothing.
-use Rattle.std.specs.Prelude.{◌+◌, ◌+ℤ◌}
 use Rattle.std.proofs.Math.IntN.{+ℤ_assoc, +ℤ_idl, +ℤ_idr}
 use Rattle.algebra.specs.Algebra.{Laws}
 use Rattle.modes.specs.FourModes.{net}

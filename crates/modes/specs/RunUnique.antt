@@ -1,5 +1,5 @@
 -- The numbers of each mode's run are the only ones that document 01's sentence "The run of a join .." allows. Assumes nothing.
-use Rattle.std.specs.Prelude.{◌≡◌, ◌+◌, List, [], ◌∷◌, ℤ, ◌+ℤ◌}
+use Rattle.std.specs.Prelude.{◌≡◌, List, [], ◌∷◌, ℤ, ◌+ℤ◌}
 use Rattle.algebra.specs.Algebra.{Algebra}
 use Rattle.algebra.specs.Run.{Level, Context, AllSound, run}
 use Rattle.modes.specs.FourModes.{Amounts, InRange, heaviest}

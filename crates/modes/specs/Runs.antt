@@ -1,5 +1,5 @@
 -- The contexts of the four modes: the numbers of one level, and of one run after another, so that `run_is` holds of each. Assumes nothing.
-use Rattle.std.specs.Prelude.{◌+◌, ◌*◌, ◌^◌, ℤ, ◌+ℤ◌}
+use Rattle.std.specs.Prelude.{◌+◌, ◌*◌, ℤ, ◌+ℤ◌}
 use Rattle.algebra.specs.Run.{Level}
 use Rattle.number.specs.Integer.{max_z}
 use Rattle.modes.specs.FourModes.{Amounts, heaviest, eaten, stamp, lift, line_of, eaten_of, stamp_of}

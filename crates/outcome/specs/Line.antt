@@ -1,7 +1,6 @@
 -- The line that the day program prints, in document 01's words.
 use Rattle.std.specs.Prelude.{cond, List, [], ◌∷◌, ◌++◌, ℕ, eqb}
 use Prim.Native.Char.{code}
-use Prim.Native.String as String
 use Prim.Native.String.{String}
 use Rattle.gate.specs.Outcome.{Outcome, refused, granted}
 use Rattle.text.specs.Decimal.{digits_of, decimal_of, read_digits, read_decimal}

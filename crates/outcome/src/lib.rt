@@ -6,14 +6,14 @@ ghost use Rattle.std.specs.Prelude.{◌≡◌};
 ghost use Rattle.outcome.specs.Outcomes.{has_fourth, run_length};
 
 // The mode that all pieces of a row are of, or the refusal. `mode_answer` says what each case means.
-#[derive(Drop)]
+#[derive(Clone, Copy)]
 pub enum OneMode {
     Mode(u16),
     Refused(u8),
 }
 
 // The four figures of a log, in the order in which the day program prints them.
-#[derive(Drop)]
+#[derive(Clone, Copy)]
 pub struct Figures {
     pub net: i64,
     pub heaviest: i64,

@@ -7,11 +7,7 @@ pub mod RunsByRecords
 pub mod WorkLaws
 -- What is asked of the summaries of a row; of such a row the gate finds the fault that finishing the merged row answers.
 pub mod Fair
--- The merge of a row, level by level, and the row and its plan so read.
--- The work along the plan gives what finishing the merged row answers; for a cut log, the recursion's figure.
 -- Each line has its run.
 pub mod RunsExact
 -- How large the figures get that the work along the plan goes through.
 pub mod WorkSizes
-
--- The run of a line is the figure of its lowest-depth record as a function of x.

@@ -1,6 +1,6 @@
 -- Each line of the plan of an accepted row has its run, which does to x what its levels do one after another. Assumes nothing.
 use mathlib.Core.List.{List}
-use Prim.Native.Nat.{◌+◌, ◌-◌, ◌≤◌, ◌<◌}
+use Prim.Native.Nat.{◌+◌, ◌≤◌, ◌<◌}
 use Rattle.std.proofs.Math.ListN.{length}
 use Rattle.algebra.specs.Algebra.{Algebra}
 use Rattle.hill.specs.Summary.{Summary, rise, fall}

@@ -5,7 +5,7 @@ use Rattle.algebra.specs.Run.{through}
 use Rattle.hill.specs.Summary.{Summary}
 use Rattle.join_plan.specs.Plan.{Line}
 use Rattle.plan_work.specs.Runs.{run_levels}
-use Rattle.plan_work.specs.Work.{Done, given, worked}
+use Rattle.plan_work.specs.Work.{Done, given}
 
 module _ {R : Type 0} (𝒜 : Algebra R) where
   open 𝒜 use {Fig, ι, ◌⊗◌}

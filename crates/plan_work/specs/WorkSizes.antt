@@ -1,7 +1,7 @@
 -- How large the figures of the work along a plan get: what all the opened records of the row can make bounds each outcome, and 130 times that each
 -- figure on the way. Assumes nothing.
 use mathlib.Core.List.{List, [], ◌∷◌}
-use Prim.Native.Nat.{ℕ, ◌+◌, ◌-◌, ◌*◌, ◌≤◌}
+use Prim.Native.Nat.{ℕ, ◌+◌, ◌*◌, ◌≤◌}
 use Rattle.algebra.specs.Algebra.{Algebra}
 use Rattle.algebra.specs.Run.{AllSound}
 use Rattle.algebra.specs.Sizes.{Sizes, costs}

@@ -1,4 +1,4 @@
--- The theorems of this crate, and what they are proved with.
+-- The theorems on the definitions in specs/, and what they are proved with.
 pub mod Laws
 pub mod Readable
 pub mod RangeLaws

@@ -1,2 +1,2 @@
--- What must be believed: Record. The rest is proved of it.
+-- What must be believed. What is proved of it stands in proofs/.
 pub mod Record

@@ -29,7 +29,7 @@ pub struct Fields {
 }
 
 // What reading the first record of a chunk finds. `answer_of` says what each case means.
-#[derive(Drop)]
+#[derive(Clone, Copy)]
 pub enum Read {
     Record(Fields),
     Refused,

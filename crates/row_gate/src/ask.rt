@@ -8,7 +8,7 @@ use super::pieces::judge_pieces;
 use outcome::OneMode;
 
 // A row that is let through, with the number of its pieces and its mode; or the number of a question.
-#[derive(Drop)]
+#[derive(Clone, Copy)]
 pub enum Asked {
     Row(usize, u16),
     Refused(u8),

@@ -7,7 +7,7 @@ use super::{BLANK, HILL};
 
 // The pieces passed: whether one of them was not blank, and then where the first starts and the last ends, the lowest fault so far and the
 // records opened.
-#[derive(Drop)]
+#[derive(Clone, Copy)]
 struct Span {
     seen: bool,
     first: u8,

@@ -20,7 +20,7 @@ mod pieces;
 
 // A row as the questions find it, and, where it is let through, the starts, peaks and ends of its pieces. No enum can hold arrays, so they stand
 // beside it. Fields are lent together at one lifetime only, so a function that is given these names it.
-#[derive(Drop)]
+#[derive(Clone, Copy)]
 pub struct OpenRow {
     pub asked: Asked,
     pub starts: [u8; 64],

@@ -10,7 +10,7 @@ use judge::{Head, HillHead, Judged, SpoiltHead};
 use outcome::OneMode;
 
 // What the plan and the questions read of a piece. Its state is BLANK, HILL or the fault of a spoilt one; its peak is NO_PEAK unless it is a hill.
-#[derive(Drop)]
+#[derive(Clone, Copy)]
 struct Note {
     state: u8,
     start: u8,

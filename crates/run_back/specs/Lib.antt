@@ -4,8 +4,3 @@ pub mod Decide
 pub mod Inverse
 pub mod Backwards
 pub mod Claims
-
--- The test tells which bytes are a run.
--- What a run does is what figure/Run says.
--- The way back leads to y, and nothing else does.
--- Each run that is written is accepted.

@@ -15,7 +15,7 @@ pub struct Place {
 
 // One level of a run, as it is stored: an unclosed record with its held figures so far, and the left value at its level of the hill that
 // closes it.
-#[derive(Drop)]
+#[derive(Clone, Copy)]
 pub struct RunLevel {
     pub value: i32,
     pub floor: i32,

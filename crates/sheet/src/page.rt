@@ -18,7 +18,7 @@ use super::line;
 use record::{Fields, Read};
 
 // What the pass keeps beside the open records: how many records are opened so far, and the middle value, which `slopes::add` asks for and no line shows.
-#[derive(Drop)]
+#[derive(Clone, Copy)]
 pub struct Progress {
     pub opened: u32,
     pub middle: i64,

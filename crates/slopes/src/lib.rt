@@ -9,7 +9,7 @@ ghost use Rattle.slopes.specs.Arrays.{arrays, slopes_of, weight_of, Able, Stands
 ghost use Rattle.slopes.specs.Actions.{Pushed, Adds, Added, Top, top_figure, ClosedTop, CanClose, Room, entry, cost};
 
 // How many left values and unclosed records the arrays hold, and the middle value.
-#[derive(Drop)]
+#[derive(Clone, Copy)]
 pub struct Counts {
     pub nl: usize,
     pub n: usize,

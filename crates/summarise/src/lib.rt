@@ -22,7 +22,7 @@ use whole_log::Tally;
 
 // What reading a chunk came to. Refused: a record is not readable, which is refusal 3. Done: all were read; what is kept of them, and how much of
 // the arrays their hill takes.
-#[derive(Drop)]
+#[derive(Clone, Copy)]
 enum Scan {
     Refused,
     Done(Tally, Counts),

@@ -5,8 +5,5 @@ pub mod Judge
 pub mod Decode
 pub mod Decide
 pub mod Outcomes
--- Question 5 by the mode's figures, and by the hill that bytes say.
 -- From summaries to bytes and back: bytes are a summary exactly where they stand for an accepted one.
 pub mod Accepted
-
--- The calls on bytes.

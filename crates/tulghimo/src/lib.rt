@@ -1,4 +1,6 @@
 // The C interface: thin functions over the library's calls, declared in include/tulghimo.h.
+#![tactic(auto)]
+
 ghost use Rattle.std.specs.Prelude.{◌≡◌, pos, neg_ℤ, length};
 ghost use Rattle.gate.specs.Outcome.{granted, buffer_after};
 ghost use Rattle.gate.specs.Answers.{written_answer, finished_answer, length_answered};

@@ -1,5 +1,5 @@
 -- The claims about every run, proved. Assumes nothing.
-use Rattle.std.specs.Prelude.{◌≡◌, refl, Bool, true, false, ◌≢◌, ◌↔◌, List, [], ◌∷◌, ◌++◌, map, ℕ, ◌+◌, ◌-◌, ◌≤◌, ◌<◌, leb, eqb, length, set}
+use Rattle.std.specs.Prelude.{◌≡◌, refl, Bool, true, false, ◌≢◌, ◌↔◌, List, [], ℕ, ◌≤◌, ◌<◌, leb, eqb, length, set}
 use Rattle.std.proofs.Common.{sym, ap, subst, ◌∙◌, arith, get_or-set_same, get_or-set_other, leb-true, le-leb, eq-eqb}
 use Rattle.std.proofs.Math.Logic.{dite}
 use Rattle.std.proofs.Math.Decide.{dec_lt}
@@ -13,9 +13,9 @@ use Rattle.summary.specs.Accepted.{IsSummaryIn}
 use Rattle.summary.proofs.Accepted.{summary-length}
 use Rattle.summary.specs.Judge.{mode_at}
 use Rattle.summary.specs.Outcomes.{blank_bytes, merge_bytes}
-use Rattle.valley_station.specs.Station.{Station, held, fresh_station, opened_in, drawn, excess_of, fresh_outcome, send_outcome, end_outcome}
+use Rattle.valley_station.specs.Station.{Station, held, fresh_station, opened_in, excess_of, fresh_outcome, send_outcome, end_outcome}
 use Rattle.valley_station.specs.State.{station_of, state_of, put_slot, fresh_after, state_after}
-use Rattle.valley_station.specs.Runs.{FarmCall, send, end_of_day, Told, taken, handed, turned_away, tell, tell_handed, told, after, run_state, run_history, own_since, merged_in_order}
+use Rattle.valley_station.specs.Runs.{FarmCall, send, end_of_day, taken, handed, turned_away, tell, tell_handed, told, after, run_state, run_history, own_since, merged_in_order}
 use Rattle.valley_station.specs.Claims.{Keeps, Asks, MadeBlank, RefusalStays, Serves}
 use Rattle.valley_station.proofs.StationLaws.{Sound, fault-9, send-asks, end-asks, end-taken, end-mode, sound-fresh, blank-draws, excess-set, excess-one}
 use Rattle.valley_station.proofs.StateLaws.{state-length, says-station, slot-put}

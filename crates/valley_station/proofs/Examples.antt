@@ -8,7 +8,7 @@ use Rattle.summary.specs.Layout.{encode}
 use Rattle.summary.specs.Decode.{decode}
 use Rattle.summary.specs.Decide.{layout_fits, spoilt_fits, hill_fits, is_summary}
 use Rattle.summary.specs.Outcomes.{blank_bytes, merge_bytes}
-use Rattle.valley_station.specs.Station.{Station, fresh_station, opened_in, excess_of, fresh_outcome, send_outcome, end_outcome}
+use Rattle.valley_station.specs.Station.{fresh_station, opened_in, excess_of, fresh_outcome, send_outcome, end_outcome}
 use Rattle.valley_station.specs.State.{slot_holds}
 
 -- A spoilt summary in a mode, and in mode 1, from level s to level e, that opened low + 256 × high records.

@@ -1,8 +1,8 @@
 -- Runs on stations themselves: every one keeps what is sound; what a farm holds is its own accepted summaries, merged in order. And the bytes of a state follow the
 -- station through a run. Assumes nothing.
-use Rattle.std.specs.Prelude.{◌≡◌, Bool, true, false, cond, ℕ, ◌≤◌, ◌<◌, eqb, length, get_or, set}
+use Rattle.std.specs.Prelude.{◌≡◌, Bool, true, false, cond, ℕ, ◌≤◌, eqb, set}
 use Rattle.std.proofs.Math.Path.{refl, ap}
-use Rattle.std.proofs.Common.{sym, ap₂, subst, ◌∙◌, arith, get_or-set_same, get_or-set_other, eqb-true}
+use Rattle.std.proofs.Common.{sym, ◌∙◌, arith, get_or-set_same, get_or-set_other, eqb-true}
 use mathlib.Core.List.{List, [], ◌∷◌, ◌++◌, map, foldl, append-nil, append_assoc, foldl-append}
 use Rattle.std.proofs.Math.ListN.{get_or-replicate}
 use Rattle.std.proofs.lemmas.Bool.{eqb-false}
@@ -18,9 +18,9 @@ use Rattle.summary.specs.Judge.{mode_at}
 use Rattle.summary.specs.Accepted.{IsSummaryIn}
 use Rattle.summary.proofs.MergeBytes.{blank-accepted, blank-merge, Readables, merge-chunks, no_record}
 use Rattle.summary.specs.Outcomes.{summary_bytes, blank_bytes, merge_bytes}
-use Rattle.valley_station.specs.Station.{Station, held, fresh_station, excess_of, send_outcome, end_outcome}
-use Rattle.valley_station.specs.State.{station_of, state_of, state_after, put_slot}
-use Rattle.valley_station.specs.Runs.{FarmCall, send, end_of_day, Told, taken, handed, turned_away, tell, tell_handed, told, after, after_all, history, own_after, own_since, merged_in_order}
+use Rattle.valley_station.specs.Station.{Station, held, fresh_station, send_outcome, end_outcome}
+use Rattle.valley_station.specs.State.{state_of, state_after, put_slot}
+use Rattle.valley_station.specs.Runs.{FarmCall, send, end_of_day, Told, tell, tell_handed, told, after, after_all, history, own_after, own_since, merged_in_order}
 use Rattle.valley_station.proofs.StationLaws.{Sound, send-taken, sent-summary, end-taken, end-mode, sound-set, blank-within, sound-fresh}
 use Rattle.valley_station.proofs.StateLaws.{says-station, slot-put}
 

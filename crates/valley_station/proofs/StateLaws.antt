@@ -1,7 +1,7 @@
 -- A state's bytes: what each farm's slot holds; that the state of a station says that station; and that a slot written anew is the farm's summary put there.
 -- Assumes nothing.
 use Rattle.std.specs.Prelude.{◌≡◌, refl, length, get_or, set, replicate}
-use Rattle.std.proofs.Common.{sym, ap₂, ◌∙◌, arith, length-append, take_at, drop-cons, ext_get_or}
+use Rattle.std.proofs.Common.{sym, ◌∙◌, arith, length-append, take_at, drop-cons, ext_get_or}
 use Rattle.std.proofs.Math.Path.{ap}
 use mathlib.Core.List.{List, [], ◌∷◌, ◌++◌, append_assoc}
 use Prim.Native.Nat.{ℕ, zero, suc, ◌+◌, ◌-◌, ◌*◌, ◌≤◌, ◌<◌, min}

@@ -1,11 +1,11 @@
 -- What a station keeps that its calls alone change: eight summaries in one mode, and an excess within 20,000. Assumes nothing.
-use Rattle.std.specs.Prelude.{◌≡◌, refl, ◌≢◌, Bool, true, false, cond, ◌&&◌, List, [], ◌∷◌, ℕ, zero, suc, ◌+◌, ◌-◌, ◌≤◌, ◌<◌, leb, eqb, length, get_or, set}
-use Rattle.std.proofs.Common.{sym, ap, subst, ◌∙◌, arith, length-set, get_or-set_same, get_or-set_other, leb-true, le-leb, eqb-true, eq-eqb, ne_eqb}
+use Rattle.std.specs.Prelude.{◌≡◌, refl, ◌≢◌, Bool, true, false, cond, List, [], ◌∷◌, ℕ, zero, suc, ◌+◌, ◌≤◌, ◌<◌, leb, eqb, length, set}
+use Rattle.std.proofs.Common.{sym, ap, subst, ◌∙◌, arith, length-set, get_or-set_same, get_or-set_other, leb-true, le-leb, eqb-true}
 use Rattle.std.proofs.Math.Logic.{dite}
 use Rattle.std.proofs.Math.Decide.{ℕ_discrete}
 use Rattle.std.proofs.lemmas.List.{get_or-replicate}
 use Rattle.std.proofs.lemmas.Bool.{lt-leb}
-use Rattle.gate.specs.Outcome.{Outcome, refused, granted, question, written}
+use Rattle.gate.specs.Outcome.{Outcome, granted, question, written}
 use Rattle.gate.proofs.Laws.{yes, result-same}
 use Rattle.number.specs.Bytes.{bytes_of, le_at}
 use Rattle.modes.specs.FourModes.{Amounts}

@@ -1,14 +1,13 @@
 -- Two runs in which one farm's calls are the same: what it is told, whatever the others do between. Assumes nothing.
-use Rattle.std.specs.Prelude.{◌≡◌, refl, Bool, true, false, cond, ◌&&◌, ◌⊎◌, List, [], ◌∷◌, ◌++◌, ℕ, ◌≤◌, ◌<◌, leb, eqb, length, get_or, set}
+use Rattle.std.specs.Prelude.{◌≡◌, refl, Bool, true, false, cond, ◌&&◌, ◌⊎◌, List, [], ◌∷◌, ℕ, ◌≤◌, leb, eqb, length, set}
 use Rattle.std.proofs.Common.{sym, ap, ◌∙◌, inl, inr, arith, length-set, get_or-set_same, get_or-set_other, leb-true, eqb-true}
 use Rattle.std.proofs.lemmas.Bool.{eqb-false}
 use Rattle.gate.specs.Outcome.{Outcome, refused, granted, question}
 use Rattle.figure.specs.Mode.{mode_in_use}
 use Rattle.summary.specs.Judge.{mode_at}
 use Rattle.summary.specs.Decide.{is_summary}
-use Rattle.summary.specs.Outcomes.{blank_bytes, merge_bytes}
 use Rattle.valley_station.specs.Station.{Station, held, fresh_station, excess_of, merged_right, send_outcome, end_outcome}
-use Rattle.valley_station.specs.Runs.{FarmCall, send, end_of_day, farm_of, Told, taken, turned_away, tell, tell_handed, calls_of, told_to, run_history}
+use Rattle.valley_station.specs.Runs.{FarmCall, send, end_of_day, farm_of, Told, taken, turned_away, tell, tell_handed, calls_of, told_to}
 use Rattle.valley_station.specs.Claims.{PartAt21, SameUntil21}
 use Rattle.valley_station.proofs.StationLaws.{sound-fresh}
 use Rattle.valley_station.proofs.RunLaws.{station_told, with_new, kept, blanked, station_after, station_history, history-same}

@@ -3,7 +3,3 @@ pub mod Station
 pub mod State
 pub mod Runs
 pub mod Claims
-
--- What a run keeps.
--- The bytes of a state say the station, and follow it through a run.
--- The claims.

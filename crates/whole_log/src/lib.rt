@@ -24,7 +24,7 @@ pub struct Tally {
 }
 
 // The answer of `ask`. `asked_answer` says what each case means.
-#[derive(Drop)]
+#[derive(Clone, Copy)]
 pub enum LogAsked {
     Opened(u32),
     Refused(u8),

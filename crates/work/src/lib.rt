@@ -17,7 +17,7 @@ mod line;
 mod lines;
 
 // The figure, the joins used and the number of levels folded.
-#[derive(Drop)]
+#[derive(Clone, Copy)]
 pub struct Totals {
     pub figure: i64,
     pub joins: u32,
@@ -25,7 +25,7 @@ pub struct Totals {
 }
 
 // The answer of `work`; `worked_answer` says what each case means.
-#[derive(Drop)]
+#[derive(Clone, Copy)]
 pub enum Worked {
     Done(Totals),
     Refused(u8),

@@ -1,5 +1,4 @@
 use mathlib.Core.Path.{◌∙◌, sym}
-use borrow.Author.Rules.{rules}
 use Rattle.outcome.proofs.RunLaws.{length-four, length_three}
 use Rattle.outcome.proofs.run_length.Goals as goal
 

@@ -1,10 +1,8 @@
 -- `row::count_pieces` meets its contract: each turn passes one piece, and 65 is enough.
-use mathlib.Core.Path.{◌≡◌, sym, ap, subst}
+use mathlib.Core.Path.{sym, subst}
 use native.Mathlib.Omega.{arith}
-use borrow.Author.Rules.{rules}
-use Prim.Native.Nat.{◌+◌, ◌-◌, ◌≤◌, min}
+use Prim.Native.Nat.{◌≤◌}
 use lib.ListN.{length}
-use Rattle.row.specs.Row.{row_pieces}
 use Rattle.row.specs.Laws.{first-within, count_next, count-done}
 use Rattle.row.proofs.count_pieces.Goals as goal
 

@@ -1,11 +1,8 @@
 -- `row::count_pieces` meets its contract: each turn passes one piece, and 65 is enough.
-use mathlib.Core.Path.{◌≡◌, sym, ap, subst}
-use native.Mathlib.Omega.{arith}
-use borrow.Author.Rules.{rules}
+use mathlib.Core.Path.{◌≡◌}
 use Prim.Native.Nat.{◌+◌, ◌-◌, ◌≤◌, min}
 use lib.ListN.{length}
 use Rattle.row.specs.Row.{row_pieces}
-use Rattle.row.specs.Laws.{first-within, count_next, count-done}
 use Rattle.row.proofs.count_pieces.Given as goal
 
 abbrev pub invariant-loop-rest : goal.invariant-loop-rest

@@ -1,11 +1,8 @@
 -- `row::end_of` meets its contract: each turn passes the first piece of what is left.
-use mathlib.Core.Path.{◌≡◌, sym, ap, subst, ◌∙◌}
-use native.Mathlib.Nat.{zero-add}
-use native.Mathlib.Omega.{arith}
-use borrow.Author.Rules.{rules}
-use Prim.Native.Nat.{suc, ◌+◌, ◌-◌, ◌≤◌}
+use mathlib.Core.Path.{◌≡◌}
+use Prim.Native.Nat.{◌+◌, ◌-◌, ◌≤◌}
 use lib.ListN.{length, drop}
-use Rattle.row.specs.Laws.{first-inside, end_of, end_none, end_step}
+use Rattle.row.specs.Laws.{end_of}
 use Rattle.row.proofs.end_of.Given as goal
 
 abbrev pub invariant-loop-k : goal.invariant-loop-k

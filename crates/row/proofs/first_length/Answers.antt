@@ -3,7 +3,6 @@ use mathlib.Core.Path.{sym, subst, ◌∙◌}
 use Prim.Native.Nat.{◌<◌, ◌≤◌}
 use lib.ListN.{length}
 use Rattle.row.specs.Laws.{first_one, first-low, first_past, first_field}
-use borrow.Author.Rules.{rules}
 use Rattle.row.proofs.first_length.Goals as goal
 
 pub returns-then-rest-lt2 : goal.returns-then-rest-lt2
