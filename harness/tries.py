@@ -1,7 +1,7 @@
 """Tries must-fail changes, for .ci/refusals: checks of their crates with the changes made, in scratch copies of the repository, side by side.
 
-What the checker says of a try stands in target/must-fail/CRATE/NAME/.log, beside the files that were changed. NAME is that of the file of changes,
-or FILE+CHANGE where a change is tried alone. Each try begins with what a check of the crate as it stands has proved, the seed, so that only what
+What the checker says of a try stands in target/must-fail/CRATE/NAME.log. NAME is that of the file of changes, or FILE+CHANGE where a change is tried
+alone. Each try begins with what a check of the crate as it stands has proved, the seed, so that only what
 changed is checked. A try of functions checks these and what they call, one of definitions the whole crate.
 
 The names of a function's goals and steps come from its code: `returns-then-len-lt6` is asked where its test is len < 6. A change of a test renames
@@ -9,6 +9,7 @@ them, and the function's answers would speak of what is not there, which says no
 of the changed code, where this has as many of each kind as the code as it stands; where it has not, they stay.
 """
 
+import itertools
 import json
 import os
 import pathlib
@@ -26,9 +27,9 @@ import edits
 LOGS = edits.ROOT / "target" / "must-fail"
 # A check's own last line, or the words for a limit of the checker: without one of these it was cut off.
 ENDED = re.compile(r"^(?:logic=|only=|rattle: no verdict)", flags=re.M)
-# What may rename goals and steps: tests and arms, or other calls.
-TEST = re.compile(r"\b(?:if|while|match|for)\b|=>")
-CALL = re.compile(r"\b\w+(?=\()")
+# What goals and steps are named by: tests, arms, calls and locals.
+FIRST = -1000
+NAMING = re.compile(r"\b(?:if|while|match)\b([^{]*)|(.*?)=>|\b(\w+)\(|\blet (?:mut )?(\w+)")
 
 
 class Try(NamedTuple):
@@ -38,21 +39,27 @@ class Try(NamedTuple):
     fitted: bool  # whether the answers get the names of the changed code
 
     @property
-    def folder(self):
-        return LOGS / self.crate / self.name
+    def texts(self):
+        """The changed files, by their paths in the crate."""
+        texts = {}
+        for pair in [pair for change in self.changes for pair in change.pairs]:
+            texts[pair.file] = edits.edited(texts.get(pair.file) or edits.source(self.crate, pair.file), [pair])
+        return texts
+
+    @property
+    def path(self):
+        return LOGS / self.crate / f"{self.name}.log"
 
     @property
     def log(self):
         """What the checker said. A message may go on in lines that are set in: they follow after a tab."""
-        path = self.folder / ".log"
-        return re.sub(r"\n +", "\t", path.read_text(encoding="utf-8")).splitlines() if path.is_file() else []
+        return re.sub(r"\n +", "\t", self.path.read_text(encoding="utf-8")).splitlines() if self.path.is_file() else []
 
 
 def together(changes):
-    """The try of the changes of one file."""
-    return Try(changes[0].crate, changes[0].label, changes, any(
-        TEST.search(pair.old + pair.new) or CALL.findall(pair.old) != CALL.findall(pair.new)
-        for change in changes for pair in change.pairs if pair.file.startswith("src/")))
+    """The try of the changes of one file. Asking for names takes seconds, so it is done where one is likely to have changed."""
+    pairs = [pair for change in changes for pair in change.pairs if pair.file.startswith("src/")]
+    return Try(changes[0].crate, changes[0].label, changes, any(NAMING.findall(pair.old) != NAMING.findall(pair.new) for pair in pairs))
 
 
 def alone(change):
@@ -76,7 +83,9 @@ def renamed(text, before, after):
         new.setdefault(one, other)
     new = {one: other for one, other in new.items() if one and one != other}
     words = "|".join(map(re.escape, sorted(new, key=len, reverse=True)))
-    return re.sub(rf"(?<![\w-])(?:{words})(?![\w-])", lambda m: new[m[0]], text) if new else text
+    # A loop's name stands in those of its invariant and its measure too, and a goal's before that of a clause.
+    whole = rf"(?<![\w-])((?:the-)?(?:invariant-|decreases-)?)({words})(?!\w|-(?!clause-))"
+    return re.sub(whole, lambda m: m[1] + new[m[2]], text) if new else text
 
 
 def linked(folder, to):
@@ -112,26 +121,25 @@ class Room:
     def prove(self, crate):
         """Checks the crate as it stands, keeps that as the seed of its tries, and says whether it is proved."""
         said = self.rt(crate, "--jobs", "1")
-        if not re.search(r"^logic=proved ", said, flags=re.M):
-            (LOGS / crate).mkdir(parents=True, exist_ok=True)
-            (LOGS / crate / ".log").write_text(said, encoding="utf-8")
-            return False
-        linked(self.at / "crates" / crate / "out" / "incremental", self.seeds / crate)
-        return True
+        (LOGS / crate).mkdir(parents=True, exist_ok=True)
+        (LOGS / crate / "as-it-stands.log").write_text(said, encoding="utf-8")
+        is_proved = bool(re.search(r"^logic=proved ", said, flags=re.M))
+        if is_proved:
+            linked(self.at / "crates" / crate / "out" / "incremental", self.seeds / crate)
+        return is_proved
 
     def fit(self, tried, before):
         """The proof files that get other names, as texts by their paths in the crate."""
         texts, after = {}, self.names(tried.crate)
         for change in tried.changes:
             *modules, name = (edits.function_of(change) or "").split("::")
-            for name in [name, f"+{name}"]:
-                key = f"Rattle-{tried.crate}-proofs.{'.'.join([*modules, name])}.Lts"
-                folder = edits.CRATES / tried.crate / "proofs" / "/".join([*modules, name])
-                for path in sorted(folder.glob("*.antt")) if key in before and key in after else []:
+            key_of = re.compile(rf"Rattle-{tried.crate}-proofs\.{''.join(f'{it}[.]' for it in modules)}(?:{name}\.Lts|(\+\w+)\.Lts-{name})")
+            for key, folder in [(key, "/".join(["proofs", *modules, m[1] or name])) for key in before if (m := key_of.fullmatch(key))]:
+                for path in sorted((edits.CRATES / tried.crate / folder).glob("*.antt")) if key in after else []:
                     was = path.read_text(encoding="utf-8")
                     now = renamed(was, before[key], after[key])
                     if now != was:
-                        texts[str(path.relative_to(edits.CRATES / tried.crate))] = now
+                        texts[f"{folder}/{path.name}"] = now
         return texts
 
     def write(self, crate, texts):
@@ -140,10 +148,7 @@ class Room:
 
     def make(self, tried, names):
         """Makes a try, and leaves the copy as it was. names: gives those of the crate as it stands."""
-        crate, texts = tried.crate, {}
-        for change in tried.changes:
-            for pair in change.pairs:
-                texts[pair.file] = edits.edited(texts.get(pair.file) or edits.source(crate, pair.file), [pair])
+        crate, texts = tried.crate, tried.texts
         functions = [edits.function_of(change) for change in tried.changes]
         only = [] if None in functions else [word for it in functions for word in ("--only", f"{crate}::{it}")]
         linked(self.seeds / crate, self.at / "crates" / crate / "out" / "incremental")
@@ -157,10 +162,7 @@ class Room:
         finally:
             self.write(crate, {path: edits.source(crate, path) for path in texts})
             shutil.rmtree(self.at / "crates" / crate / "out" / "incremental", ignore_errors=True)
-        for path, text in texts.items():
-            (tried.folder / path).parent.mkdir(parents=True, exist_ok=True)
-            (tried.folder / path).write_text(text, encoding="utf-8")
-        (tried.folder / ".log").write_text(said, encoding="utf-8")
+        tried.path.write_text(said, encoding="utf-8")
 
 
 class Bench:
@@ -171,8 +173,11 @@ class Bench:
         self.told, self.files, self.known = told, {}, {}
         for change in changes:
             self.files.setdefault(change.crate, {}).setdefault(change.label, []).append(change)
-        self.jobs, self.error, self.one_at_a_time = queue.LifoQueue(), None, threading.Lock()
+        self.jobs, self.number, self.error, self.one_at_a_time = queue.PriorityQueue(), itertools.count(), None, threading.Lock()
         self.count, self.seconds = 0, 0.0
+
+    def put(self, rank, job, what):
+        self.jobs.put((rank, next(self.number), job, what))
 
     def names(self, room, crate):
         """The names of a crate as it stands, asked for once."""
@@ -181,30 +186,28 @@ class Bench:
         return self.known[crate]
 
     def begin(self, room, crate):
-        """Proves a crate as it stands; then its tries stand next in the queue."""
-        shutil.rmtree(LOGS / crate, ignore_errors=True)
-        tries = [together(changes) for changes in self.files[crate].values()]
-        if room.prove(crate):
-            for tried in reversed(tries):
-                self.jobs.put((self.make, tried))
-        else:
-            with self.one_at_a_time:
-                for tried in tries:
+        """Proves a crate as it stands. Its tries come after all crates, those of many changes first, since they take longest."""
+        is_proved = room.prove(crate)
+        with self.one_at_a_time:
+            for tried in [together(changes) for changes in self.files[crate].values()]:
+                if is_proved:
+                    self.put(-len(tried.changes), self.make, tried)
+                else:
                     self.told(tried)
 
     def make(self, room, tried):
-        """Makes a try; those that follow it stand next in the queue."""
+        """Makes a try; those that follow it come next."""
         began = time.monotonic()
         room.make(tried, self.names)
         with self.one_at_a_time:
             self.count, self.seconds = self.count + 1, self.seconds + time.monotonic() - began
             for more in self.told(tried):
-                self.jobs.put((self.make, more))
+                self.put(FIRST, self.make, more)
 
     def work(self, at, seeds):
         room = None
         while True:
-            job, what = self.jobs.get()
+            _, _, job, what = self.jobs.get()
             try:
                 room = room or Room(at, seeds)
                 if not self.error:
@@ -215,13 +218,14 @@ class Bench:
                 self.jobs.task_done()
 
     def run(self):
-        """Tries each file of changes, lower crates first, and what follows."""
+        """Proves the crates, lower ones first, and makes their tries and what follows."""
+        order = re.findall(r"^(\w+)(?: \w+)*:", (edits.ROOT / "crates.txt").read_text(encoding="utf-8"), flags=re.M)
+        for crate in sorted(self.files, key=order.index):
+            shutil.rmtree(LOGS / crate, ignore_errors=True)
+            self.put(FIRST, self.begin, crate)
         with tempfile.TemporaryDirectory(prefix="refusals-") as at:
             rooms = pathlib.Path(at)
-            order = re.findall(r"^(\w+)(?: \w+)*:", (edits.ROOT / "crates.txt").read_text(encoding="utf-8"), flags=re.M)
             (rooms / "seeds").mkdir()
-            for crate in sorted(self.files, key=order.index, reverse=True):
-                self.jobs.put((self.begin, crate))
             for number in range(os.cpu_count() or 1):
                 threading.Thread(target=self.work, args=(rooms / str(number), rooms / "seeds"), daemon=True).start()
             self.jobs.join()
