@@ -25,7 +25,8 @@ use Rattle.log_records.specs.OpenNumbers.{Numbered, OpenNumbers}
 use Rattle.log_records.proofs.OpenNumbers.{numbers-start, numbers-open, numbers-close}
 use Rattle.common_record.specs.Common.{common_number}
 use Rattle.common_record.specs.Claims.{IsOrHolds, InCommon}
-use Rattle.common_record.proofs.HoldingLaws.{StillOpen, open-earlier, open-once, open-depth, holding-open, open-holding}
+use Rattle.common_record.proofs.HoldingLaws.{StillOpen, open-earlier, open-once, open-depth, holding-open}
+use Rattle.common_record.proofs.HoldingWays.{open-holding}
 use Rattle.common_record.proofs.CommonLaws.{common-is}
 use Rattle.common.specs.declared.walk.Progress.{Progress}
 use Rattle.common.specs.Walk.{Shares, Walked, InOrder}

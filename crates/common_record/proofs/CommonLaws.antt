@@ -17,7 +17,8 @@ use Rattle.log_records.specs.Formed.{Formed}
 use Rattle.log_records.proofs.Formed.{depth-once, formed}
 use Rattle.common_record.specs.Common.{open_up_to, deeper_of, deepest_up_to, common_number}
 use Rattle.common_record.specs.Claims.{IsOrHolds, itself, InCommon, OneInCommon}
-use Rattle.common_record.proofs.HoldingLaws.{StillOpen, open-earlier, open-once, open_order, open-depth, unclosed-open, holding-open, open-holding, test-open, open-test}
+use Rattle.common_record.proofs.HoldingLaws.{StillOpen, open-earlier, open-once, open_order, open-depth, unclosed-open, holding-open}
+use Rattle.common_record.proofs.HoldingWays.{open-holding, test-open, open-test}
 
 module _ {R : Type 0} where
   module _ (log : List (Record R)) where

@@ -9,7 +9,7 @@ use Rattle.hill.specs.Log.{Record, opening, closing}
 use Rattle.chunk.specs.Chunk.{whole_log}
 use Rattle.common_record.specs.Common.{deepest_up_to, common_number, common_outcome}
 use Rattle.common_record.specs.Claims.{IsOrHolds}
-use Rattle.common_record.proofs.HoldingLaws.{is-or-holds}
+use Rattle.common_record.proofs.HoldingWays.{is-or-holds}
 
 -- D: "open 0 ..; open 1 ..; close 1; open 1 ..; close 1; close 0": records 1 and 2 have the root in common, ..
 D-siblings : common_outcome log_d 1 2 ≡ granted 0

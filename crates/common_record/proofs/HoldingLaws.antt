@@ -1,23 +1,17 @@
--- What it is to be a record or to hold it: the smallest relation by direct holding; on a well-formed log, that the record is still open, which a test decides, and
--- that it is opened not after it and closed after it. Assumes nothing.
-use Rattle.std.specs.Prelude.{◌≡◌, refl, ◌↔◌, ◌≢◌, Bool, true, false, not, List, ℕ, zero, suc, ◌+◌, ◌-◌, ◌≤◌, ◌<◌, leb, length, take, drop}
-use Rattle.std.proofs.Common.{sym, ap, subst, ◌∙◌, ⊎_elim, eq-or-lt_of_le, arith, length-take, length-drop, get_or-take, get_or-drop, le-leb, leb-true}
+-- What it is to be a record or to hold it: the smallest relation by direct holding; on a well-formed log, that the record is still open. Assumes nothing.
+use Rattle.std.specs.Prelude.{◌≡◌, ◌≢◌, not, List, ℕ, zero, suc, ◌+◌, ◌-◌, ◌≤◌, ◌<◌, length}
+use Rattle.std.proofs.Common.{sym, ap, subst, ◌∙◌, ⊎_elim, eq-or-lt_of_le, arith}
 use Rattle.std.proofs.Math.Logic.{dite}
 use Rattle.std.proofs.Math.Decide.{dec_lt}
-use Rattle.record.proofs.Laws.{and_left, and_right}
-use Rattle.hill.specs.Verdict.{pass}
-use Rattle.hill.specs.Log.{Record, opening, closing, depth, start_level, end_level, log_fault}
+use Rattle.hill.specs.Log.{Record, opening, closing, depth, start_level, end_level}
 use Rattle.hill.specs.Closing.{at, OpensAt, Holds}
 use Rattle.hill.proofs.HeldPlaces.{opening-closing, opens-inside, first-close}
-use Rattle.hill.specs.Summary.{closed_in}
 use Rattle.hill.specs.Crossings.{Meeting}
-use Rattle.hill.proofs.Crossings.{falls, rises, closed_in-at, at-closed_in}
-use Rattle.log_records.specs.Formed.{Formed}
-use Rattle.log_records.proofs.Formed.{depth-once, formed, closed_some}
+use Rattle.hill.proofs.Crossings.{falls, rises}
+use Rattle.log_records.proofs.Formed.{depth-once}
 use Rattle.log_records.specs.StackLaws.{OpenBefore}
 use Rattle.log_records.proofs.StackLaws.{open-through, open-holds}
-use Rattle.common_record.specs.Common.{stays_open, open_up_to}
-use Rattle.common_record.specs.Claims.{IsOrHolds, itself, through, Encloses}
+use Rattle.common_record.specs.Claims.{IsOrHolds, itself, through}
 
 module _ {R : Type 0} where
   above : (x : Record R) (d : ℕ) → d < start_level x → x ≢ closing d → d < depth x
@@ -45,7 +39,7 @@ module _ {R : Type 0} where
     before-it : {p d q : ℕ} → StillOpen p d q → p < q → OpenBefore log q p d
     before-it w l = record { opens = w.opens; before = l; deeper = λ j a b. w.deeper j a (omega arith) }
 
-    open-unclosed : {p d q : ℕ} → StillOpen p d q → (k : ℕ) → p < k → k ≤ q → at log k ≢ closing d
+    pub open-unclosed : {p d q : ℕ} → StillOpen p d q → (k : ℕ) → p < k → k ≤ q → at log k ≢ closing d
     open-unclosed w k a b e = omega (arith, w.deeper k a (omega arith), ap depth e)
 
     -- a less deep one is not opened after a deeper one
@@ -93,7 +87,7 @@ module _ {R : Type 0} where
           (d, open-through log (before-it (holds-open h) h.after) (subst (λ k. StillOpen m k q) e w.1) (omega arith))
 
       -- .. and what is open at a record is it or holds it
-      open-holding-at : (n p q d f : ℕ) → f ≡ d + n → OpensAt log q f → StillOpen p d q → IsOrHolds log p q
+      pub open-holding-at : (n p q d f : ℕ) → f ≡ d + n → OpensAt log q f → StillOpen p d q → IsOrHolds log p q
       open-holding-at zero p q d f e o w =
           let g : f ≡ d = omega arith in
           let s : q ≡ p = open-once (open_self (subst (OpensAt log q) g o)) w in
@@ -117,65 +111,3 @@ module _ {R : Type 0} where
               let m : ℕ = v.0 in
               let later : StillOpen m (suc d) q = unclosed-open v.3 (omega (arith, v.2)) i (λ k a b x. ⊎_elim (λ (s : k ≡ q). opening-closing (at log q) f (suc d) o.0 o.1 (ap (at log) (sym s) ∙ x)) (λ s. v.4 k a s x) (eq-or-lt_of_le b)) in
               through p m q d (held-there (open-earlier w (omega (arith, v.1)) (omega (arith, v.2))) v.3 (omega (arith, v.1))) (ih m later)
-
-      pub open-holding : {p d q f : ℕ} → OpensAt log q f → StillOpen p d q → IsOrHolds log p q
-      open-holding {p} {d} {q} {f} o w = open-holding-at (f - d) p q d f (omega (arith, open-depth w o)) o w
-
-      -- ---- as a test
-
-      pub test-open : {p q : ℕ} → q < length log → open_up_to log p q ≡ true → (d : ℕ) × StillOpen p d q
-      test-open {p} {q} i e = go (at log p) refl (and_right (leb p q) (stays_open (at log p) (take (q - p) (drop (suc p) log))) e)
-        where
-          from : p ≤ q
-          from = leb-true p q (and_left (leb p q) (stays_open (at log p) (take (q - p) (drop (suc p) log))) e)
-
-          go : (x : Record R) → at log p ≡ x → stays_open x (take (q - p) (drop (suc p) log)) ≡ true → (d : ℕ) × StillOpen p d q
-          go (opening d r) g t = (d, unclosed-open (r, g) from i (λ k a b x. absurd (not-both (closed_in d (take (q - p) (drop (suc p) log))) t (closed-between d k a b x))))
-            where
-              not-both : (b : Bool) → not b ≡ true → b ≡ true → ⊥
-              not-both b s t = let z : ◌≡◌ {A = ℕ} 0 1 = cc in omega arith
-
-              closed-between : (d k : ℕ) → p < k → k ≤ q → at log k ≡ closing d → closed_in d (take (q - p) (drop (suc p) log)) ≡ true
-              closed-between d k a b x =
-                  let j : ℕ = k - suc p in
-                  let s : suc p + j ≡ k = omega arith in
-                  at-closed_in d (take (q - p) (drop (suc p) log)) j (omega (arith, length-take (q - p) (drop (suc p) log), length-drop (suc p) log))
-                  (get_or-take (q - p) (drop (suc p) log) j (closing 0) (omega arith) ∙ get_or-drop (suc p) log j (closing 0) ∙ ap (at log) s ∙ x)
-          go (closing d) g t = absurd (let z : ◌≡◌ {A = ℕ} 0 1 = cc in omega arith)
-
-    pub open-test : {p d q : ℕ} → StillOpen p d q → open_up_to log p q ≡ true
-    open-test {p} {d} {q} w = rw (le-leb p q (omega (arith, w.before)), w.opens.1) (go (closed_in d (take (q - p) (drop (suc p) log))) refl)
-      where
-        go : (t : Bool) → closed_in d (take (q - p) (drop (suc p) log)) ≡ t → not t ≡ true
-        go false e = refl
-        go true e =
-            let c = closed_in-at d (take (q - p) (drop (suc p) log)) e in
-            let l : c.0 < q - p = omega (arith, c.1, length-take (q - p) (drop (suc p) log)) in
-            absurd (open-unclosed w (suc p + c.0) (omega arith) (omega arith) (sym (get_or-drop (suc p) log c.0 (closing 0)) ∙ sym (get_or-take (q - p) (drop (suc p) log) c.0 (closing 0) l) ∙ c.2))
-
-    -- ---- OPENED NOT AFTER IT AND CLOSED AFTER IT
-
-    module _ (f : Formed log) where
-      open-encloses : {p d q : ℕ} → StillOpen p d q → Encloses log p q
-      open-encloses {p} {d} {q} w =
-          let c = closed_some f w.opens in
-          record {
-            depth = d;
-            close = c.0;
-            closed = c.1;
-            not_after = omega (arith, w.before);
-            after = dite (dec_lt q c.0) (λ l. l) (λ l. absurd (open-unclosed w c.0 c.1.order (omega arith) c.1.closed));
-          }
-
-      encloses-open : {p q : ℕ} → (e : Encloses log p q) → StillOpen p e.depth q
-      encloses-open {p} {q} e = unclosed-open f.meets e.closed.opened e.not_after (omega (arith, e.after, e.closed.inside)) (λ k a b. e.closed.first k a (omega (arith, e.after)))
-
-      same-ways : {p q g : ℕ} → OpensAt log q g → (IsOrHolds log p q ↔ Encloses log p q) × (IsOrHolds log p q ↔ (open_up_to log p q ≡ true))
-      same-ways {p} {q} {g} o = (
-        (λ i. open-encloses (holding-open f.meets i).1, λ e. open-holding f.meets o (encloses-open e)),
-        (λ i. open-test (holding-open f.meets i).1, λ t. open-holding f.meets o (test-open f.meets (opens-inside log q g o) t).1),
-      )
-
-  -- THE THREE WAYS TO SAY IT are the same of a record opened at q, in a log without fault.
-  pub is-or-holds : (log : List (Record R)) → log_fault log ≡ pass → (p q g : ℕ) → OpensAt log q g → (IsOrHolds log p q ↔ Encloses log p q) × (IsOrHolds log p q ↔ (open_up_to log p q ≡ true))
-  is-or-holds log v p q g o = same-ways log (formed log v) o

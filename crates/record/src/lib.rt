@@ -142,6 +142,7 @@ fn read_close(chunk: &[u8]) -> Read
 }
 
 // The first record of a chunk. Later bytes, and how many there are, are not judged.
+#[inline(always)]
 pub fn read_first(chunk: &[u8]) -> Read
     ensures { answer_of result ≡ read_of chunk.now }
 {

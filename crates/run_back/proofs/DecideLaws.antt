@@ -11,14 +11,12 @@ use Rattle.summary.specs.Judge.{mode_at}
 use Rattle.summary.proofs.Tests.{Tells, tells-le, tells-eq, tells-true, tells-and, tells-or, tells-then, tells-order, tells-same, tells-also}
 use Rattle.summary.proofs.DecideLaws.{tells-layout}
 use Rattle.outcome.specs.Outcomes.{run_length}
+use Rattle.run_back.proofs.OddLaws.{tells-odd}
 use Rattle.run_back.specs.Judge.{run_at, Near, RunNumbers, IsRunBytes}
-use Rattle.run_back.specs.Decide.{near, is_odd, net_fits, heaviest_fits, stamp_fits, eaten_fits, numbers_fit, is_run_bytes}
+use Rattle.run_back.specs.Decide.{near, net_fits, heaviest_fits, stamp_fits, eaten_fits, numbers_fit, is_run_bytes}
 
 pub tells-near : (z : ℤ) → Tells (Near z) (near z)
 tells-near z = tells-le (nat_abs z) 100_000_000_000_000
-
-tells-odd : (z : ℤ) → Tells (nat_abs z % 2 ≡ 1) (is_odd z)
-tells-odd z = tells-eq (nat_abs z % 2) 1
 
 zero-near : (z : ℤ) → z ≡ pos 0 → Near z
 zero-near z e = omega (arith, ap nat_abs e)

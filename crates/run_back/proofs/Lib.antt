@@ -1,5 +1,6 @@
 -- The theorems on the definitions in specs/, and what they are proved with.
 -- The test tells which bytes are a run.
+pub mod OddLaws
 pub mod DecideLaws
 -- What a run does is what figure/Run says.
 pub mod ForwardLaws
