@@ -30,6 +30,8 @@ from attack_inputs import INPUTS
 # ---- the program that is run: how each call is made, and in which crate it stands
 
 WRITTEN = "written({}, &out)"
+FIGURE = "told({}, |z| z.to_string())"
+TAKEN = 'told({}, |()| "taken".to_string())'
 RUN_AND_Y = "&input[..number], y(&input[number..])"
 MODE_AND_PAGE = "&input, (number % 8) as u32, (number / 8) as u32"
 TWO_NUMBERS = "&input, (number >> 32) as u32, number as u32"
@@ -43,40 +45,28 @@ WITH_STATE = """{{
         }}"""
 ARMS = {
     "record::read_first": """match record::read_first(&input) {
-            record::Read::Record(f) => format!("{} {} {} {} {} {} {}", f.kind, f.length, f.depth, f.value, f.floor, f.ceiling, f.batch),
-            record::Read::Refused => "refused".to_string(),
+            Some(f) => format!("{} {} {} {} {} {} {}", f.kind as u16, f.length, f.depth, f.value, f.floor, f.ceiling, f.batch),
+            None => "refused".to_string(),
         }""",
     "summarise::summarise": WRITTEN.format("summarise::summarise(&input, number as u32, &mut out)"),
     "merge::merge": WRITTEN.format("merge::merge(&input[..number], &input[number..], &mut out)"),
     "merge_row::merge_row": WRITTEN.format("merge_row::merge_row(&input, &mut out)"),
-    "finish::finish": "finished(finish::finish(&input))",
+    "finish::finish": FIGURE.format("finish::finish(&input)"),
     "plan::plan": WRITTEN.format("plan::plan(&input, &mut out)"),
     "runs::runs": WRITTEN.format("runs::runs(&input, &mut out)"),
-    "work::work": """match work::work(&input) {
-            work::Worked::Done(t) => format!("{} {} {}", t.figure, t.joins, t.levels),
-            work::Worked::Refused(n) => format!("refused {n}"),
-        }""",
-    "whole_log::ask": """match whole_log::ask(&input) {
-            whole_log::LogAsked::Opened(n) => format!("{n} opened"),
-            whole_log::LogAsked::Refused(n) => format!("refused {n}"),
-        }""",
+    "work::work": 'told(work::work(&input), |t| format!("{} {} {}", t.figure, t.joins, t.levels))',
+    "whole_log::ask": 'told(whole_log::ask(&input), |n| format!("{n} opened"))',
     "table::write_log": WRITTEN.format("table::write_log(&input, &mut out)"),
     "table::read_table": WRITTEN.format("table::read_table(&input, &mut out)"),
     "small_days::small_days": WRITTEN.format("small_days::small_days(number as u32, &mut out)"),
     "heaviest_line::heaviest_line": WRITTEN.format("heaviest_line::heaviest_line(&input, &mut out)"),
     "sheet::sheet": WRITTEN.format(f"sheet::sheet({MODE_AND_PAGE}, &mut out)"),
-    "common::common": f"""match common::common({TWO_NUMBERS}) {{
-            common::Named::Record(n) => format!("record {{n}}"),
-            common::Named::Refused(n) => format!("refused {{n}}"),
-        }}""",
-    "farms::fresh": WITH_STATE.format("taken(farms::fresh(number as u32, &mut state))"),
-    "farms::send": WITH_STATE.format(f"taken(farms::send({SENT}))"),
+    "common::common": f'told(common::common({TWO_NUMBERS}), |n| format!("record {{n}}"))',
+    "farms::fresh": WITH_STATE.format(TAKEN.format("farms::fresh(number as u32, &mut state)")),
+    "farms::send": WITH_STATE.format(TAKEN.format(f"farms::send({SENT})")),
     "farms::end_of_day": WITH_STATE.format(WRITTEN.format(f"farms::end_of_day({OF_FARM})")),
-    "backwards::backwards": f"finished(backwards::backwards({RUN_AND_Y}))",
-    "day::figures": """match day::figures(&input) {
-            day::Day::Figures(f) => format!("{} {} {} {}", f.net, f.heaviest, f.eaten, f.stamp),
-            day::Day::Refused(n) => format!("refused {n}"),
-        }""",
+    "backwards::backwards": FIGURE.format(f"backwards::backwards({RUN_AND_Y})"),
+    "day::figures": 'told(day::figures(&input), |f| format!("{} {} {} {}", f.net, f.heaviest, f.eaten, f.stamp))',
     "day_line::text": """{
             let mut line = [0_u8; 128];
             line.copy_from_slice(&lent(128));
@@ -123,17 +113,17 @@ fn after(out: &[u8]) -> String {
     format!("{n} bytes {told}, then {} as they were", out.len() - n)
 }
 
-fn written(answer: gate::Written, out: &[u8]) -> String {
+fn told<T>(answer: Result<T, gate::Refusal>, how: impl Fn(T) -> String) -> String {
     match answer {
-        gate::Written::Bytes(n) => answered(n as i64, out),
-        gate::Written::Refused(n) => format!("refused {n}; {}", after(out)),
+        Ok(result) => how(result),
+        Err(refusal) => format!("refused {}", refusal.number()),
     }
 }
 
-fn taken(answer: farms::Taken) -> String {
+fn written(answer: Result<usize, gate::Refusal>, out: &[u8]) -> String {
     match answer {
-        farms::Taken::Yes => "taken".to_string(),
-        farms::Taken::Refused(n) => format!("refused {n}"),
+        Ok(n) => answered(n as i64, out),
+        Err(refusal) => format!("refused {}; {}", refusal.number(), after(out)),
     }
 }
 
@@ -149,13 +139,6 @@ fn moved(before: &[u8], state: &[u8]) -> String {
             let told: String = state[first..=last].iter().map(|x| format!("{x:02x}")).collect();
             format!("from byte {first} of the state on {told}")
         }
-    }
-}
-
-fn finished(answer: gate::Finished) -> String {
-    match answer {
-        gate::Finished::Figure(z) => format!("{z}"),
-        gate::Finished::Refused(n) => format!("refused {n}"),
     }
 }
 
@@ -194,9 +177,8 @@ pub fn change() -> usize {
 # ---- the sources in Rust
 
 
-# A clause of a contract, up to the brace that opens it, and what is derived for a type.
+# A clause of a contract, up to the brace that opens it.
 CLAUSE = re.compile(r"\n\s+(?:requires|ensures)\b[^{\n]*(?={)")
-DERIVED = re.compile(r"^(?:#\[derive\([^)]*\)\]\n)?((?:pub )?(?:struct|enum) )", flags=re.M)
 
 
 def without_clauses(text):
@@ -211,36 +193,37 @@ def without_clauses(text):
 
 
 def plain(text):
-    """Rust: the contracts taken off, structs and enums copied as values."""
+    """Rust: the contracts and what is said to the checker taken off."""
     text = re.sub(r"^ghost use [^;]*;\n", "", text, flags=re.M)
-    text = re.sub(r"^#!\[tactic\(.*\)\]\n", "", without_clauses(text), flags=re.M)
-    text = DERIVED.sub(r"#[derive(Clone, Copy)]\n\1", text)
-    return re.sub(r"std::num::(wrapping_\w+)_u32\(", r"u32::\1(", text)
+    return re.sub(r"^ *#!?\[tactic\(.*\)\]\n", "", without_clauses(text), flags=re.M)
 
 
 def function(text, name):
-    return next(m[0] for m in edits.FUNCTION.finditer(text) if m[1] == name)
+    return next(m[0] for found, m in edits.functions(text) if found == name)
 
 
 def switched(text, name, versions):
     """A source whose function of this name is the one with the chosen number; versions has the source of each."""
     as_it_is = function(text, name)
-    head, shape, parameters = re.match(r'((?:pub )?(?:extern "C" )?)fn \w+((?:<[^>]*>)?\(([^)]*)\)[^{]*)\{', as_it_is).groups()
-    given = ", ".join(p.partition(":")[0].strip() for p in parameters.split(",") if p.strip())
-    arms = "".join(f"{number} => {name}_{number}({given}), " for number in versions)
-    bodies = [as_it_is] + [function(version, name) for version in versions.values()]
+    of, _, name = name.rpartition("::")
+    bodies = [as_it_is] + [function(version, f"{of}::{name}" if of else name) for version in versions.values()]
+    head, shape, parameters = re.match(r'((?: {4})?(?:pub )?(?:extern "C" )?)fn \w+((?:<[^>]*>)?\(([^)]*)\)[^{]*)\{', as_it_is).groups()
+    given = re.findall(r"(?:^|,)\s*(?:&\s*)?(?:mut )?(self\b|\w+(?=\s*:[^:]))", parameters)
+    itself = "self." if given[:1] == ["self"] else "Self::" if of else ""
+    given = ", ".join(name for name in given if name != "self")
+    arms = "".join(f"{number} => {itself}{name}_{number}({given}), " for number in versions)
     named = [re.sub(rf"\bfn {name}\b", f"fn {name}_{number}", body, count=1) for number, body in zip([0, *versions], bodies)]
-    chooser = f"{head}fn {name}{shape}{{ match chosen::change() {{ {arms}_ => {name}_0({given}) }} }}"
+    chooser = f"{head}fn {name}{shape}{{ match chosen::change() {{ {arms}_ => {itself}{name}_0({given}) }} }}"
     return text.replace(as_it_is, "\n".join([chooser, *named]))
 
 
 def version(text, number, change):
     """A source with a change, and the constant that it changes, under a name of its own."""
-    constant, changed = edits.item_at(edits.CONSTANT, text, change.pairs[0].old), edits.edited(text, change.pairs)
+    constant, changed = edits.item_at(edits.constants, text, change.pairs[0].old), edits.edited(text, change.pairs)
     if not constant:
         return changed, ""
     changed = re.sub(rf"\b{constant}\b", f"{constant}_{number}", changed)
-    return changed, next(m[0] for m in edits.CONSTANT.finditer(changed) if m[1] == f"{constant}_{number}")
+    return changed, next(m[0] for name, m in edits.constants(changed) if name == f"{constant}_{number}")
 
 
 def rust(crate, file, numbered):
@@ -248,7 +231,8 @@ def rust(crate, file, numbered):
     text, by_function, constants = edits.source(crate, file), {}, []
     for number, change in numbered:
         if change.crate == crate and change.pairs[0].file == file:
-            name = edits.function_of(change).split("::")[-1]
+            module, name = pathlib.Path(file).stem, edits.function_of(change)
+            name = name if module == "lib" else name.removeprefix(f"{module}::")
             changed, constant = version(text, number, change)
             by_function.setdefault(name, {})[number] = plain(changed)
             constants.append(constant)

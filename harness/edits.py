@@ -23,10 +23,12 @@ ROOT = pathlib.Path(__file__).resolve().parent.parent
 CRATES = ROOT / "crates"
 # The line that heads a change.
 HEAD = re.compile(r"# (change|same): (\S+)")
-# A function: the line that begins it, at the left margin, to the brace that ends it there.
-FUNCTION = re.compile(r'^(?:pub )?(?:extern "C" )?fn (\w+)[(<].*?^\}$', flags=re.M | re.S)
-# A constant, likewise, to the semicolon that ends it.
-CONSTANT = re.compile(r'^(?:pub )?const (\w+): .*?;$', flags=re.M | re.S)
+# A function: the line that begins it, at the left margin, or four columns in where it is a type's method, to the brace that ends it there.
+FUNCTION = re.compile(r'^( {4})?(?:pub )?(?:extern "C" )?fn (?P<name>\w+)[(<].*?^(?(1) {4})\}$', flags=re.M | re.S)
+# What has the methods of a type.
+METHODS = re.compile(r"^impl (?P<name>\w+) \{$.*?^\}$", flags=re.M | re.S)
+# A constant or a static, likewise, to the semicolon that ends it.
+CONSTANT = re.compile(r'^(?:pub )?(?:const|static) (?P<name>\w+): .*?;$', flags=re.M | re.S)
 
 
 class Pair(NamedTuple):
@@ -72,18 +74,31 @@ def source(crate, file):
     return (CRATES / crate / file).read_text(encoding="utf-8")
 
 
-def item_at(kind, text, old) -> Optional[str]:
-    """The function or the constant of a source that a text stands in."""
+def functions(text):
+    """The functions of a source, each with its name; a method's has its type in front."""
+    types = list(METHODS.finditer(text))
+    for m in FUNCTION.finditer(text):
+        of = next((f"{t['name']}::" for t in types if t.start() < m.start() < t.end()), "")
+        yield of + m["name"], m
+
+
+def constants(text):
+    for m in CONSTANT.finditer(text):
+        yield m["name"], m
+
+
+def item_at(items, text, old) -> Optional[str]:
+    """Which of the functions or the constants of a source a text stands in."""
     at = text.index(old)
-    return next((m[1] for m in kind.finditer(text) if m.start() <= at < m.end()), None)
+    return next((name for name, m in items(text) if m.start() <= at < m.end()), None)
 
 
 def function_at(text, old) -> Optional[str]:
     """The function of a source that a text stands in, or that alone names the constant which it stands in."""
-    constant = item_at(CONSTANT, text, old)
+    constant = item_at(constants, text, old)
     if not constant:
-        return item_at(FUNCTION, text, old)
-    naming = [m[1] for m in FUNCTION.finditer(text) if re.search(rf"\b{constant}\b", m[0])]
+        return item_at(functions, text, old)
+    naming = [name for name, m in functions(text) if re.search(rf"\b{constant}\b", m[0])]
     return naming[0] if len(naming) == 1 else None
 
 

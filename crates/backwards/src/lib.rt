@@ -3,9 +3,8 @@
 
 ghost use Rattle.std.specs.Prelude.{◌≡◌, length};
 ghost use Rattle.gate.specs.Outcome.{question, granted};
-ghost use Rattle.gate.specs.Answers.{finished_answer};
+ghost use Rattle.gate.specs.Answers.{answered};
 ghost use Rattle.modes.specs.FourModes.{is_stamp};
-ghost use Rattle.number.specs.Integer.{same};
 ghost use Rattle.outcome.specs.Outcomes.{run_length};
 ghost use Rattle.run_back.specs.Judge.{run_at, RunNumbers};
 ghost use Rattle.run_back.specs.Decide.{near, is_odd, net_fits, heaviest_fits, stamp_fits, eaten_fits, numbers_fit, is_run_bytes};
@@ -13,53 +12,48 @@ ghost use Rattle.run_back.specs.Inverse.{newton, inverse};
 ghost use Rattle.run_back.specs.Backwards.{inner_of, backwards_outcome};
 
 use figure::Run;
-use gate::Finished;
+use gate::Refusal;
 
 // ---- question 15: the numbers of a run
 
 fn is_near(x: i64) -> bool
     ensures { result ≡ near x }
 {
-    number::magnitude(x) <= 100_000_000_000_000
+    x.unsigned_abs() <= 100_000_000_000_000
 }
 
 fn is_odd(x: i64) -> bool
     ensures { result ≡ is_odd x }
 {
-    number::magnitude(x) % 2 == 1
+    x.unsigned_abs() % 2 == 1
 }
 
-// As the definition has it: neither is above the other.
-fn is_same(a: i64, b: i64) -> bool
-    ensures { result ≡ same a b }
-{
-    (a <= b) & (b <= a)
-}
-
+#[tactic(auto, unfolding(run_back::specs::Decide::net_fits))]
 fn net_fits(k: Run) -> bool
     ensures { result ≡ net_fits k }
 {
-    is_near(k.first) & is_same(k.second, 0) & is_same(k.third, 0)
+    is_near(k.first) & (k.second == 0) & (k.third == 0)
 }
 
 // Only A may be no number.
+#[tactic(auto, unfolding(run_back::specs::Decide::heaviest_fits, figure::specs::Stored::none, figure::specs::Mode::mode_of, modes::specs::FourModes::store_held))]
 fn heaviest_fits(k: Run) -> bool
     ensures { result ≡ heaviest_fits k }
 {
-    is_near(k.first)
-        & (is_near(k.second) | is_same(k.second, figure::nothing(2)))
-        & is_near(k.third)
+    is_near(k.first) & (is_near(k.second) | (k.second == figure::nothing(2))) & is_near(k.third)
 }
 
+#[tactic(auto, unfolding(run_back::specs::Decide::stamp_fits, figure::specs::Mode::mode_of))]
 fn stamp_fits(k: Run) -> bool
     ensures { result ≡ stamp_fits k }
 {
     figure::is_figure(4, k.first)
         & figure::is_figure(4, k.second)
-        & is_same(k.third, 0)
+        & (k.third == 0)
         & is_odd(k.first)
 }
 
+#[tactic(auto, unfolding(run_back::specs::Decide::eaten_fits))]
 fn eaten_fits(k: Run) -> bool
     ensures { result ≡ eaten_fits k }
 {
@@ -70,6 +64,7 @@ fn eaten_fits(k: Run) -> bool
         & (k.third <= k.fourth)
 }
 
+#[tactic(auto, unfolding(run_back::specs::Decide::numbers_fit))]
 fn numbers_fit(mode: u16, k: Run) -> bool
     ensures { result ≡ numbers_fit mode k }
 {
@@ -85,6 +80,7 @@ fn numbers_fit(mode: u16, k: Run) -> bool
 // ---- question 15: the bytes
 
 // The numbers of a run that has as many bytes as its mode asks for.
+#[tactic(auto, unfolding(outcome::specs::Outcomes::run_length))]
 fn read_run(b: &[u8], mode: u16) -> Run
     requires { length b.now ≡ run_length mode }
     ensures { result ≡ run_at b.now }
@@ -124,10 +120,11 @@ fn is_run(b: &[u8]) -> bool
 fn newton_step(m: u32, x: u32) -> u32
     ensures { result ≡ newton m x }
 {
-    number::wrapping_mul(x, std::num::wrapping_sub_u32(2, number::wrapping_mul(m, x)))
+    x.wrapping_mul(2u32.wrapping_sub(m.wrapping_mul(x)))
 }
 
 // The inverse of an odd number modulo 2^32: 1 is right in one bit, and after five steps in 32.
+#[tactic(auto, unfolding(run_back::specs::Inverse::inverse))]
 fn inverse_of(m: u32) -> u32
     ensures { result ≡ inverse m }
 {
@@ -139,44 +136,44 @@ fn inverse_of(m: u32) -> u32
 }
 
 // Back through x + a. Both numbers are within ±10^14, so the difference fits.
-fn back_net(k: Run, y: i64) -> Finished
+fn back_net(k: Run, y: i64) -> Result<i64, Refusal>
     requires { RunNumbers 1 k }
-    ensures { finished_answer result ≡ question 17 (near y) (granted (inner_of 1 k y)) }
+    ensures { answered result ≡ question 17 (near y) (granted (inner_of 1 k y)) }
 {
     if !is_near(y) {
-        return Finished::Refused(17);
+        return Err(Refusal::OuterFigure);
     }
-    let a = k.first;
-    Finished::Figure(y - a)
+    Ok(y - k.first)
 }
 
 // Back through m x + q modulo 2^32: the inverse of m, times y - q.
-fn back_stamp(k: Run, y: i64) -> Finished
+#[tactic(auto, unfolding(figure::specs::Mode::mode_of))]
+fn back_stamp(k: Run, y: i64) -> Result<i64, Refusal>
     requires { RunNumbers 4 k }
-    ensures { finished_answer result ≡ question 17 (is_stamp y) (granted (inner_of 4 k y)) }
+    ensures { answered result ≡ question 17 (is_stamp y) (granted (inner_of 4 k y)) }
 {
     if !figure::is_figure(4, y) {
-        return Finished::Refused(17);
+        return Err(Refusal::OuterFigure);
     }
     let m = number::to_u32(k.first);
     let q = number::to_u32(k.second);
-    let difference = std::num::wrapping_sub_u32(number::to_u32(y), q);
-    let inner = number::wrapping_mul(inverse_of(m), difference);
-    Finished::Figure(number::from_u32(inner))
+    let difference = number::to_u32(y).wrapping_sub(q);
+    let inner = inverse_of(m).wrapping_mul(difference);
+    Ok(i64::from(inner))
 }
 
 // The one inner figure that leads to y through a run, or the first of questions 15 to 17 that gets a "no".
-pub fn backwards(run: &[u8], y: i64) -> Finished
-    ensures { finished_answer result ≡ backwards_outcome run.now y }
+pub fn backwards(run: &[u8], y: i64) -> Result<i64, Refusal>
+    ensures { answered result ≡ backwards_outcome run.now y }
 {
     if !is_run(run) {
-        return Finished::Refused(15);
+        return Err(Refusal::NotARun);
     }
     let mode = number::read_u16(run, 4);
     let k = read_run(run, mode);
     match mode {
         1 => back_net(k, y),
         4 => back_stamp(k, y),
-        _ => Finished::Refused(16),
+        _ => Err(Refusal::NoWayBack),
     }
 }

@@ -1,14 +1,15 @@
 -- Laws of a chunk's records, and of a call on a whole log, question by question. Assumes nothing.
-use Rattle.std.specs.Prelude.{◌≡◌, refl, Bool, true, false, cond, List, [], ◌∷◌, ◌++◌, map, ℕ, zero, suc, ◌≤◌, ◌<◌, leb, eqb, length}
-use Rattle.std.proofs.Common.{sym, ap, subst, ◌∙◌, inl, inr, arith, le-leb, leb-true, eq-eqb, ne_eqb}
+use Rattle.std.specs.Prelude.{◌≡◌, refl, Bool, true, false, cond, List, [], ◌∷◌, ◌++◌, map, ℕ, zero, suc, ◌≤◌, ◌<◌, leb, length}
+use Rattle.std.proofs.Common.{sym, ap, subst, ◌∙◌, inl, inr, arith, le-leb, leb-true}
 use Rattle.std.proofs.lemmas.Bool.{lt-leb}
 use Rattle.gate.specs.Outcome.{Outcome, refused, granted, question, onward}
 use Rattle.gate.proofs.Laws.{not-result, one_number}
-use Rattle.record.specs.Record.{in_range, records_of}
+use Rattle.record.specs.Record.{is_open, in_range, records_of}
 use Rattle.record.proofs.Laws.{records-3}
 use Rattle.record.proofs.RangeLaws.{range-parts}
 use Rattle.record.proofs.Ranged.{AllInRange, records-in-range}
 use Rattle.record.specs.declared.Fields.{Fields}
+use Rattle.record.specs.declared.Kind.TheVariants as kind
 use Rattle.modes.specs.FourModes.{Amounts}
 use Rattle.figure.specs.Stored.{amounts}
 use Rattle.hill.specs.Verdict.{Verdict, pass, refuse}
@@ -23,11 +24,11 @@ use Rattle.chunk.specs.Laws.{IsLog}
 
 -- ---- records that were read
 
-pub is_open_lem : (f : Fields) → f.kind ≡ 1 → record_of f ≡ opening f.depth (amounts f.value f.floor f.ceiling)
-is_open_lem f e = rw (eq-eqb f.kind 1 e)
+pub is_open_lem : (f : Fields) → f.kind ≡ kind.Open → record_of f ≡ opening f.depth (amounts f.value f.floor f.ceiling)
+is_open_lem f e = rw e
 
-pub is-close : (f : Fields) → (f.kind ≡ 1 → ⊥) → record_of f ≡ closing f.depth
-is-close f e = rw (ne_eqb f.kind 1 e)
+pub is-close : (f : Fields) → f.kind ≡ kind.Close → record_of f ≡ closing f.depth
+is-close f e = rw e
 
 pub depth_low : (f : Fields) → in_range f.depth f.value f.floor f.ceiling ≡ true → f.depth ≤ 63
 depth_low f e = (range-parts f.depth f.value f.floor f.ceiling e).depth
@@ -35,7 +36,7 @@ depth_low f e = (range-parts f.depth f.value f.floor f.ceiling e).depth
 -- no record that was read is deeper than 63
 opens-low : (fs : List Fields) → AllInRange fs → (p d : ℕ) → OpensAt (chunk_of fs) p d → d ≤ 63
 opens-low [] h p d o = absurd (opening-closing (closing 0) d 0 o.0 o.1 refl)
-opens-low (f ∷ fs) h zero d o = go (eqb f.kind 1) o.1
+opens-low (f ∷ fs) h zero d o = go (is_open f.kind) o.1
   where
     go : (t : Bool) → cond t (opening f.depth (record { value = f.value; floor = f.floor; ceiling = f.ceiling })) (closing f.depth) ≡ opening d o.0 → d ≤ 63
     go true e = omega (arith, ap depth e, depth_low f h.0)

@@ -1,7 +1,7 @@
 -- What the bytes of a chunk say: its records, whether they are a whole log, and which chunks differ in batches only. Definitions only.
 use Rattle.std.specs.Prelude.{◌≡◌, cond, List, map, ℕ, leb, eqb, ℤ, length}
 use Rattle.gate.specs.Outcome.{Outcome, granted, question, onward}
-use Rattle.record.specs.Record.{records_of}
+use Rattle.record.specs.Record.{is_open, records_of}
 use Rattle.record.specs.declared.Fields.{Fields}
 use Rattle.modes.specs.FourModes.{Amounts}
 use Rattle.figure.specs.Mode.{mode_of}
@@ -12,7 +12,7 @@ use Rattle.hill.specs.Finish.{outcome}
 
 -- A record that was read, as all calls but reading take it: "kind 1, open", or "kind 2, close". They "drop" its batch (document 02, L2).
 abbrev pub record_of : Fields → Record Amounts
-record_of f = cond (eqb f.kind 1) (opening f.depth (record { value = f.value; floor = f.floor; ceiling = f.ceiling })) (closing f.depth)
+record_of f = cond (is_open f.kind) (opening f.depth (record { value = f.value; floor = f.floor; ceiling = f.ceiling })) (closing f.depth)
 
 abbrev pub chunk_of : List Fields → List (Record Amounts)
 chunk_of fs = map record_of fs

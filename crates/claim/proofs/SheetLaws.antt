@@ -1,8 +1,8 @@
 -- Document 02, L9: each figure of a sheet is what every way to finish the record's own subtree leads to, and the root's is what the log leads to. Assumes nothing.
-use Rattle.std.specs.Prelude.{◌≡◌, refl, Bool, true, false, cond, List, [], ◌∷◌, map, ℕ, zero, suc, ◌-◌, leb, eqb, ℤ, length, take, drop}
+use Rattle.std.specs.Prelude.{◌≡◌, refl, Bool, true, false, cond, List, [], ◌∷◌, map, ℕ, zero, suc, ◌-◌, leb, ℤ, length, take, drop}
 use Rattle.std.proofs.Common.{sym, ap, subst, ◌∙◌, arith, le-leb, take_at}
 use Rattle.gate.specs.Outcome.{granted}
-use Rattle.record.specs.Record.{amounts_fit, in_range}
+use Rattle.record.specs.Record.{is_open, amounts_fit, in_range}
 use Rattle.record.proofs.Laws.{and_right}
 use Rattle.record.proofs.RangeLaws.{range-parts}
 use Rattle.record.proofs.Ranged.{AllInRange, records-in-range}
@@ -32,7 +32,7 @@ use Rattle.claim.specs.Sheets.{AloneLeadsTo, EachAlone, RootFirst}
 
 ranged-chunk : (fs : List Fields) → AllInRange fs → RecordsInRange (chunk_of fs)
 ranged-chunk [] h = tt
-ranged-chunk (f ∷ fs) h = go (eqb f.kind 1) (ranged-chunk fs h.1)
+ranged-chunk (f ∷ fs) h = go (is_open f.kind) (ranged-chunk fs h.1)
   where
     go : (t : Bool) → RecordsInRange (chunk_of fs) → RecordsInRange (cond t (opening f.depth (record { value = f.value; floor = f.floor; ceiling = f.ceiling })) (closing f.depth) ∷ chunk_of fs)
     go true ih = (h.0, ih)

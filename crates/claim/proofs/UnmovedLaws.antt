@@ -31,6 +31,7 @@ use Rattle.claim.proofs.ReadThenLaws.{with_floor, reads_now, fields-now, then_is
 use Rattle.claim.proofs.SentLaws.{all_read, all-records}
 use Rattle.claim.proofs.ShortRecordLaws.{Starts, starts}
 use Rattle.claim.specs.ShortRecords.{Sent, records_then, AllSent, in_full, full_log, log_now, ValuesAlone, NothingNegative, LowFloors}
+use Rattle.record.specs.Record.{is_open}
 
 -- ---- which figures do not move
 
@@ -41,7 +42,7 @@ module _ (l : ℤ) (Same : Amounts → Amounts → Type 0) where
 
   alike : (fs : List Fields) → Each Carries fs → Alike Same (chunk_of fs) (chunk_of (map (with_floor l) fs))
   alike [] h = none
-  alike (f ∷ fs) h = go (eqb f.kind 1) (alike fs h.1)
+  alike (f ∷ fs) h = go (is_open f.kind) (alike fs h.1)
     where
       go : (b : Bool) → Alike Same (chunk_of fs) (chunk_of (map (with_floor l) fs)) → Alike Same (cond b (opening f.depth (amounts f.value f.floor f.ceiling)) (closing f.depth) ∷ chunk_of fs)
           (cond b (opening f.depth (amounts f.value (with_floor l f).floor f.ceiling)) (closing f.depth) ∷ chunk_of (map (with_floor l) fs))

@@ -7,6 +7,7 @@ use Rattle.number.specs.Bytes.{AllBytes, le_at, i32_at}
 use Rattle.row.specs.Row.{end_to_end}
 use Rattle.record.specs.Record.{default_ceiling, within, whole, read_of, and_then, records_of, full_fields, chunk_bytes}
 use Rattle.record.specs.declared.Fields.{Fields}
+use Rattle.record.specs.declared.Kind.TheVariants as kind
 use Rattle.modes.specs.FourModes.{Amounts}
 use Rattle.figure.specs.Stored.{amounts}
 use Rattle.hill.specs.Log.{Record}
@@ -47,7 +48,7 @@ abbrev pub old_floor : ℤ
 old_floor = negsuc 999_999_999
 
 abbrev pub short_then : (l : ℤ) → List ℕ → Fields
-short_then l s = record { kind = 1; length = 10; depth = le_at 2 s 4; value = i32_at s 6; floor = l; ceiling = default_ceiling; batch = 0 }
+short_then l s = record { kind = kind.Open; length = 10; depth = le_at 2 s 4; value = i32_at s 6; floor = l; ceiling = default_ceiling; batch = 0 }
 
 -- READING WHILE SHORT RECORDS HAD FLOOR l. The first record: if it is a short one it has that floor, and any other is read as now.
 unfoldable pub read_then : (l : ℤ) → List ℕ → Outcome Fields

@@ -1,7 +1,7 @@
 -- One turn of each loading loop, and the steps of a load. Assumes nothing.
 use Rattle.std.specs.Prelude.{◌≡◌, List, [], ◌∷◌, ℤ, set}
 use Rattle.std.proofs.Math.Path.{refl, subst}
-use Rattle.std.proofs.Common.{sym, ◌∙◌, add-zero, zero-add, suc-add}
+use Rattle.std.proofs.Common.{sym, ◌∙◌, zero-add, suc-add}
 use Prim.Native.Nat.{ℕ, zero, suc, ◌+◌, ◌-◌, ◌^◌, ◌≤◌, ◌<◌}
 use Rattle.std.proofs.Math.Numerals.{add-one}
 use native.Mathlib.Omega.{arith}
@@ -11,7 +11,6 @@ use Rattle.figure.specs.Stored.{size_of, none, combined, Combines}
 use Rattle.hill.specs.Summary.{Hill, hill}
 use Rattle.hill.specs.Valid.{weight_up, weight_down}
 use Rattle.hill.specs.Building.{push, join, close, merge}
-use Rattle.hill.proofs.Building.{push-nil}
 use Rattle.hill.proofs.Slopes.{rise-closes, fall-closes}
 use Rattle.summary.specs.Judge.{mode_at, rise_at, fall_at, left_at, middle_at, value_at, floor_at, ceiling_at, held_at, IsHill}
 use Rattle.summary.specs.Decode.{amounts_at, lefts_in, rights_in, hill_in}
@@ -19,7 +18,10 @@ use Rattle.summary.proofs.Values.{lefts-length, fine-rights}
 use Rattle.summary.proofs.ModeValues.{Numbered, numbered}
 use Rattle.summary.proofs.Hills.{AllStored, hill-valid, hill-stored}
 use Rattle.slopes.specs.declared.Counts.{Counts}
-use Rattle.slopes.specs.Arrays.{Arrays, arrays, Fig, slopes_of, weight_of, Able, StandsFor}
+use Rattle.slopes.specs.declared.Slopes.{Slopes}
+use Rattle.slopes.specs.Arrays.{Arrays, arrays, Fig, slopes_of, weight_of, StandsFor}
+use Rattle.slopes.specs.Kept.{arrays_of}
+use Rattle.slopes.specs.Steps as step
 use Rattle.slopes.specs.Actions.{Pushed, CanClose, Joins, Added}
 use Rattle.slopes.specs.Laws.{counts, with_held, with_left, able, restate, rise-is, fall-is, rise-slopes, fall-slopes, joins, adds, joined, close-left, pushed, after, after_more}
 use Rattle.codec.specs.Promised.{Sinks, Sunk, Puts, Stacked, Loads}
@@ -50,10 +52,6 @@ module _ (M : Mode) (b : List ℕ) where
       subst (λ (n : ℕ). weight_down M.algebra M.sizes (rights_in M.read b i) ≤ weight_down M.algebra M.sizes (rights_in M.read b n)) e (rights-more i (k - i))
 
 -- ---- the left values
-
--- what arrays stand for as they are
-pub stands-still : {M : Mode} {A : Arrays} {c : Counts} → Able M A c → StandsFor M A c (slopes_of M A c) (weight_of M (slopes_of M A c))
-stands-still a = record { sound = a.sound; stored = a.stored; is = refl; fine = a.fine; light = omega arith }
 
 module _ {M : Mode} {b : List ℕ} {k i : ℕ} {A₀ A : Arrays} {c₀ c : Counts} (p : Sinks M b k A₀ c₀) (lt : i < k) (s : Sunk M b i A₀ c₀ A c) where
   next-light : weight_of M (slopes_of M A₀ c₀) + weight_up M.algebra M.sizes (lefts_in M.read b i) + size_of M (left_at b i) < 2 ^ 62
@@ -95,12 +93,6 @@ module _ {M : Mode} {b : List ℕ} {k i : ℕ} {A₀ A : Arrays} {c₀ c : Count
 
 -- ---- the records
 
-pub none-stacked : (b : List ℕ) (k n : ℕ) (vs fs cs hs : List ℤ) → Stacked b k 0 n vs fs cs hs vs fs cs hs
-none-stacked b k n vs fs cs hs m ls nl mid p =
-    let A = arrays ls vs fs cs hs in
-    let h = slopes_of (mode_of m) A (counts nl n mid) in
-    rw (add-zero n) (restate (stands-still p.able) (weight_of (mode_of m) h + 0) (sym (push-nil (mode_of m).algebra h)) (omega arith))
-
 push-more : {F R : Type 0} (e : R × F) (d : List (R × F)) (h : Hill F R) → push (e ∷ []) (push d h) ≡ push (e ∷ d) h
 push-more e d (hill u m f) = refl
 
@@ -119,12 +111,11 @@ module _ {M : Mode} {b : List ℕ} {k j : ℕ} {A₀ A : Arrays} {c₀ c : Count
       restate (after_more s (push (e ∷ [])) (M.sizes.unit + size_of M (held_at b j)) (pushed (able s rights-light) (amounts_at b j) (held_at b j) room (p.ranges j lt) (p.stored j lt) en refl q))
       (weight_of M (slopes_of M A₀ c₀) + weight_down M.algebra M.sizes (rights_in M.read b (suc j))) (push-more e (rights_in M.read b j) (slopes_of M A₀ c₀)) (omega arith)
 
-pub next-stacked : (b : List ℕ) (k j n : ℕ) (vs₀ fs₀ cs₀ hs₀ vs fs cs hs : List ℤ) {vs' fs' cs' hs' : List ℤ} (v f c h : ℤ) → j < k → n + j < 64
+pub next-stacked : (b : List ℕ) (k j n : ℕ) (A₀ : Arrays) (s s' : Slopes) (v f c h : ℤ) → j < k → n + j < 64
     → v ≡ value_at b j → f ≡ floor_at b j → c ≡ ceiling_at b j → h ≡ held_at b j
-    → Pushed (n + j) v f c h vs fs cs hs vs' fs' cs' hs'
-    → Stacked b k j n vs₀ fs₀ cs₀ hs₀ vs fs cs hs → Stacked b k (j + 1) n vs₀ fs₀ cs₀ hs₀ vs' fs' cs' hs'
-next-stacked b k j n vs₀ fs₀ cs₀ hs₀ vs fs cs hs v f c h lt room ev ef ec eh q s m ls nl mid p =
-    rw (add-one j) (next-pushed p lt (s m ls nl mid p) room (omega arith) (rw (ev, ef, ec, eh) at q))
+    → step.Pushed (n + j) v f c h s s' → Stacked b k j n A₀ (arrays_of s) → Stacked b k (j + 1) n A₀ (arrays_of s')
+next-stacked b k j n A₀ s s' v f c h lt room ev ef ec eh q st m nl mid p =
+    rw (add-one j, q.left) (next-pushed p lt (st m nl mid p) room (omega arith) (rw (ev, ef, ec, eh) at q.on-top))
 
 -- ---- a load: the left values, the middle, the records
 
@@ -158,12 +149,12 @@ module _ {m : ℕ} {b : List ℕ} {A : Arrays} {c : Counts} (p : Loads m b A c) 
           rw (lefts-length (mode_of m).read b (rise_at b), fall-slopes (mode_of m) A c) in
           omega (arith, p.right-room)
 
-      pub loaded : {hs₂ vs' fs' cs' hs' : List ℤ} {mid' : ℤ} → Added (mode_of m) A₁.held c₁.n c₁.mid (middle_at b) hs₂ mid'
-          → Stacked b f f c₁.n A₁.values A₁.floors A₁.ceilings hs₂ vs' fs' cs' hs'
-          → StandsFor (mode_of m) (arrays A₁.left vs' fs' cs' hs') (counts c₁.nl (c₁.n + f) mid')
+      pub loaded : {hs₂ : List ℤ} {A' : Arrays} {mid' : ℤ} → Added (mode_of m) A₁.held c₁.n c₁.mid (middle_at b) hs₂ mid'
+          → Stacked b f f c₁.n (with_held A₁ hs₂) A'
+          → StandsFor (mode_of m) A' (counts c₁.nl (c₁.n + f) mid')
           (merge (mode_of m).algebra (slopes_of (mode_of m) A c) (hill_in (mode_of m).read b)) (weight_of (mode_of m) (slopes_of (mode_of m) A c) + weight_of (mode_of m) (hill_in (mode_of m).read b))
       unfolding size_of
-      loaded {hs₂} {vs'} {fs'} {cs'} {hs'} {mid'} q st =
+      loaded {hs₂} {A'} {mid'} q st =
           let M = mode_of m in
           let A₂ = with_held A₁ hs₂ in
           let c₂ = counts c₁.nl c₁.n mid' in
@@ -172,6 +163,6 @@ module _ {m : ℕ} {b : List ℕ} {A : Arrays} {c : Counts} (p : Loads m b A c) 
           let below : weight_of M (slopes_of M A₂ c₂) + weight_down M.algebra M.sizes d < 2 ^ 62 =
           subst (λ (g : Hill (Fig M) Amounts). weight_of M g + weight_down M.algebra M.sizes d < 2 ^ 62) (sym t.is) (omega (arith, t.light, p.light)) in
           let ok : Puts M b (fall_at b) A₂ c₂ = record { able = able t middle-light; ranges = in-range; stored = all-stored.helds; light = below } in
-          let st' : Stacked b (fall_at b) (fall_at b) c₁.n A₁.values A₁.floors A₁.ceilings hs₂ vs' fs' cs' hs' = rw ef at st in
-          rw ef (restate (after_more t (push d) (weight_down M.algebra M.sizes d) (st' m A₁.left c₁.nl mid' ok))
+          let st' : Stacked b (fall_at b) (fall_at b) c₁.n A₂ A' = rw ef at st in
+          rw ef (restate (after_more t (push d) (weight_down M.algebra M.sizes d) (st' m c₁.nl mid' ok))
           (weight_of M (slopes_of M A c) + weight_of M (hill_in M.read b)) refl (omega arith))

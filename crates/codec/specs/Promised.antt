@@ -9,7 +9,8 @@ use Rattle.hill.specs.Building.{push, join, closes}
 use Rattle.summary.specs.Judge.{mode_at, rise_at, fall_at, left_at, held_at, IsHill}
 use Rattle.summary.specs.Decode.{amounts_at, lefts_in, rights_in, hill_in}
 use Rattle.slopes.specs.declared.Counts.{Counts}
-use Rattle.slopes.specs.Arrays.{Arrays, arrays, at, Fig, downs, slopes_of, weight_of, Able, StandsFor}
+use Rattle.slopes.specs.declared.OpenAmounts.{OpenAmounts}
+use Rattle.slopes.specs.Arrays.{Arrays, at, Fig, downs, slopes_of, weight_of, Able, StandsFor}
 use Rattle.slopes.specs.Laws.{counts}
 
 -- What going through the first k left values of the bytes b asks of the arrays.
@@ -27,18 +28,14 @@ Sunk M b i A₀ c₀ A c =
     StandsFor M A c (closes M.algebra (slopes_of M A₀ c₀) (lefts_in M.read b i))
     (weight_of M (slopes_of M A₀ c₀) + weight_up M.algebra M.sizes (lefts_in M.read b i))
 
--- What going on from there to k asks, where all records were closed: of the arrays only the left values are used.
-pub record LeavesOn (M : Mode) (b : List ℕ) (i k : ℕ) (ls : List ℤ) (c : Counts) : Type 0 where
+-- What going on from there to k asks, where all records were closed.
+pub record LeavesOn (M : Mode) (b : List ℕ) (i k : ℕ) (A : Arrays) (c : Counts) : Type 0 where
   pub within : i ≤ k
   pub closed : i < k → c.n ≡ 0
-  pub values : List ℤ
-  pub floors : List ℤ
-  pub ceilings : List ℤ
-  pub held : List ℤ
   pub from : Arrays
   pub counted : Counts
   pub asked : Sinks M b k from counted
-  pub sunk : Sunk M b i from counted (arrays ls values floors ceilings held) c
+  pub sunk : Sunk M b i from counted A c
 
 -- What closing k of n records by the first k left values asks.
 pub record Falls (M : Mode) (b : List ℕ) (k : ℕ) (vs fs cs hs : List ℤ) (n : ℕ) : Type 0 where
@@ -60,6 +57,13 @@ pub record Carried (M : Mode) (b : List ℕ) (k : ℕ) (vs fs cs hs : List ℤ) 
   pub stored : IsStored M x
   pub light : size_of M x + weight_down M.algebra M.sizes (downs M vs fs cs hs (n - k)) ≤ weight_down M.algebra M.sizes (downs M vs fs cs hs n) + weight_up M.algebra M.sizes (lefts_in M.read b k)
 
+-- The two of amounts that stand together.
+abbrev pub FallsOf : (M : Mode) (b : List ℕ) (k : ℕ) (a : OpenAmounts) (hs : List ℤ) (n : ℕ) → Type 0
+FallsOf M b k a hs n = Falls M b k a.values a.floors a.ceilings hs n
+
+abbrev pub CarriedOf : (M : Mode) (b : List ℕ) (k : ℕ) (a : OpenAmounts) (hs : List ℤ) (n : ℕ) (x : ℤ) → Type 0
+CarriedOf M b k a hs n x = Carried M b k a.values a.floors a.ceilings hs n x
+
 -- What putting the first k records of the bytes b on top asks of them and of the hill below.
 pub record Puts (M : Mode) (b : List ℕ) (k : ℕ) (A : Arrays) (c : Counts) : Type 0 where
   pub able : Able M A c
@@ -67,13 +71,13 @@ pub record Puts (M : Mode) (b : List ℕ) (k : ℕ) (A : Arrays) (c : Counts) : 
   pub stored : (j : ℕ) → j < k → IsStored M (held_at b j)
   pub light : weight_of M (slopes_of M A c) + weight_down M.algebra M.sizes (rights_in M.read b k) < 2 ^ 62
 
--- What it leaves, whatever the mode, the left values and the middle are: of the k records of the bytes, the first j stand on top of n others.
-abbrev pub Stacked : (b : List ℕ) (k j n : ℕ) (vs fs cs hs vs' fs' cs' hs' : List ℤ) → Type 0
-Stacked b k j n vs fs cs hs vs' fs' cs' hs' =
-    (m : ℕ) (ls : List ℤ) (nl : ℕ) (mid : ℤ) → Puts (mode_of m) b k (arrays ls vs fs cs hs) (counts nl n mid)
-    → StandsFor (mode_of m) (arrays ls vs' fs' cs' hs') (counts nl (n + j) mid)
-    (push (rights_in (mode_of m).read b j) (slopes_of (mode_of m) (arrays ls vs fs cs hs) (counts nl n mid)))
-    (weight_of (mode_of m) (slopes_of (mode_of m) (arrays ls vs fs cs hs) (counts nl n mid)) + weight_down (mode_of m).algebra (mode_of m).sizes (rights_in (mode_of m).read b j))
+-- What it leaves, whatever the mode, the counts and the middle are: of the k records of the bytes, the first j stand on top of n others.
+abbrev pub Stacked : (b : List ℕ) (k j n : ℕ) (A A' : Arrays) → Type 0
+Stacked b k j n A A' =
+    (m nl : ℕ) (mid : ℤ) → Puts (mode_of m) b k A (counts nl n mid)
+    → StandsFor (mode_of m) A' (counts nl (n + j) mid)
+    (push (rights_in (mode_of m).read b j) (slopes_of (mode_of m) A (counts nl n mid)))
+    (weight_of (mode_of m) (slopes_of (mode_of m) A (counts nl n mid)) + weight_down (mode_of m).algebra (mode_of m).sizes (rights_in (mode_of m).read b j))
 
 -- What loading asks: the bytes b are a hill in mode m, both slopes of the merged hill have room, and what they weigh fits.
 pub record Loads (m : ℕ) (b : List ℕ) (A : Arrays) (c : Counts) : Type 0 where

@@ -1,5 +1,3 @@
--- A definition that a reader must believe: what the answer says.
-pub mod Answers
 -- What the pass keeps, and its laws.
 pub mod Walk
 pub mod WalkLaws

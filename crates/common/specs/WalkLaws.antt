@@ -7,6 +7,7 @@ use Rattle.gate.specs.Outcome.{granted}
 use Rattle.record.specs.Record.{read_of}
 use Rattle.record.proofs.Laws.{sound}
 use Rattle.record.specs.declared.Fields.{Fields}
+use Rattle.record.specs.declared.Kind.TheVariants as kind
 use Rattle.modes.specs.FourModes.{Amounts}
 use Rattle.hill.specs.Log.{Record, opening, closing, start_level, end_level}
 use Rattle.hill.specs.Closing.{at, OpensAt}
@@ -185,10 +186,10 @@ module _ (xs : List (Record Amounts)) where
 -- ---- one record, as the code has it
 
 module _ (f : Fields) {earlier : ℕ} {s : Progress} {ns : List ℕ} (xs : List (Record Amounts)) (k : ℕ) (i : Walked xs earlier k s ns) (inside : k < length xs) (here : at xs k ≡ record_of f) where
-  pub note-open : {n : ℕ} → f.kind ≡ 1 → f.depth ≤ 63 → n ≡ cond (eqb s.opened earlier) (f.depth + 1) s.shared → Walked xs earlier (suc k) (record { opened = s.opened + 1; shared = n }) (set ns f.depth s.opened)
+  pub note-open : {n : ℕ} → f.kind ≡ kind.Open → f.depth ≤ 63 → n ≡ cond (eqb s.opened earlier) (f.depth + 1) s.shared → Walked xs earlier (suc k) (record { opened = s.opened + 1; shared = n }) (set ns f.depth s.opened)
   note-open o l e = walked-open xs i inside (here ∙ is_open_lem f o) l refl e
 
-  pub note-close : {n : ℕ} → (f.kind ≡ 1 → ⊥) → n ≡ min s.shared f.depth → Walked xs earlier (suc k) (record { opened = s.opened; shared = n }) ns
+  pub note-close : {n : ℕ} → f.kind ≡ kind.Close → n ≡ min s.shared f.depth → Walked xs earlier (suc k) (record { opened = s.opened; shared = n }) ns
   note-close o e = walked-close xs i inside (here ∙ is-close f o) refl e
 
 -- ---- the pass over a log that was let through, up to the later of the two

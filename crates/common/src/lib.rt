@@ -2,25 +2,18 @@
 #![tactic(auto)]
 
 ghost use Rattle.std.specs.Prelude.{◌≡◌, List};
+ghost use Rattle.gate.specs.Answers.{answered};
 ghost use Rattle.modes.specs.FourModes.{Amounts};
 ghost use Rattle.hill.specs.Log.{Record};
 ghost use Rattle.chunk.specs.Chunk.{IsWellFormed};
 ghost use Rattle.chunk.specs.Laws.{IsLog};
 ghost use Rattle.whole_log.specs.AskLaws.{Opens};
 ghost use Rattle.common_record.specs.Common.{common_number, numbers_outcome, common_outcome};
-ghost use Rattle.common.specs.Answers.{named_answer};
 ghost use Rattle.common.specs.Walk.{BothThere};
 
-use whole_log::LogAsked;
+use gate::Refusal;
 
 mod walk;
-
-// The answer of `common`. `named_answer` says what each case means.
-#[derive(Clone, Copy)]
-pub enum Named {
-    Record(u32),
-    Refused(u8),
-}
 
 // The number of the record that two records of a log that was let through have in common. The walk takes the earlier one first.
 fn number_in_common(log: &[u8], a: u32, b: u32) -> u32
@@ -34,23 +27,20 @@ fn number_in_common(log: &[u8], a: u32, b: u32) -> u32
 }
 
 // Question 19, of a log that was let through, and then the number.
-fn name_record(log: &[u8], opened: u32, a: u32, b: u32) -> Named
+fn name_record(log: &[u8], opened: u32, a: u32, b: u32) -> Result<u32, Refusal>
     requires { Opens log.now opened }
-    ensures { (xs : List (Record Amounts)) → IsLog log.now xs → named_answer result ≡ numbers_outcome a b xs }
+    ensures { (xs : List (Record Amounts)) → IsLog log.now xs → answered result ≡ numbers_outcome a b xs }
 {
     if (a < opened) & (b < opened) {
-        return Named::Record(number_in_common(log, a, b));
+        return Ok(number_in_common(log, a, b));
     }
-    Named::Refused(19)
+    Err(Refusal::NoSuchRecord)
 }
 
 // The number of the record that records a and b of a whole log have in common, or the first question that gets a "no".
-pub fn common(log: &[u8], a: u32, b: u32) -> Named
-    ensures { named_answer result ≡ common_outcome log.now a b }
+pub fn common(log: &[u8], a: u32, b: u32) -> Result<u32, Refusal>
+    ensures { answered result ≡ common_outcome log.now a b }
 {
-    let asked = whole_log::ask(log);
-    match asked {
-        LogAsked::Opened(opened) => name_record(log, opened, a, b),
-        LogAsked::Refused(n) => Named::Refused(n),
-    }
+    let opened = whole_log::ask(log)?;
+    name_record(log, opened, a, b)
 }

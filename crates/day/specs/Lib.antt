@@ -1,5 +1,4 @@
--- What the answer of `figures` says, that the figures are the recursion's, and how the pass over a log goes.
-pub mod Day
+-- That the figures of `figures` are the recursion's, and how the pass over a log goes.
 pub mod DayLaws
 pub mod Pass
 pub mod Loop

@@ -2,22 +2,34 @@
 #![tactic(auto)]
 
 ghost use Rattle.std.specs.Prelude.{◌≡◌, ◌<◌};
-ghost use Rattle.day.specs.Day.{day_answer};
+ghost use Rattle.gate.specs.Answers.{answered};
 ghost use Rattle.outcome.specs.Day.{day_outcome};
 ghost use Rattle.hill.specs.Finish.{outcome};
 ghost use Rattle.whole_log.specs.Tallies.{log_verdict};
 ghost use Rattle.day.specs.Pass.{no_figures, Opened, Ready, Applied};
 
+use gate::Refusal;
 use outcome::Figures;
-use record::{Fields, Read};
+use record::{Fields, Kind};
+use slopes::OpenAmounts;
 use whole_log::Tally;
 
-// The answer of `figures`. `day_answer` says what each case means.
-#[derive(Clone, Copy)]
-pub enum Day {
-    Figures(Figures),
-    Refused(u8),
+// What each open record holds so far, in each mode, by its depth.
+#[derive(Clone, Copy, Debug, PartialEq, Eq)]
+struct Holding {
+    net: [i64; 64],
+    heaviest: [i64; 64],
+    eaten: [i64; 64],
+    stamp: [i64; 64],
 }
+
+// Where the pass begins.
+const NO_HOLDING: Holding = Holding {
+    net: [0; 64],
+    heaviest: [0; 64],
+    eaten: [0; 64],
+    stamp: [0; 64],
+};
 
 // No figure yet, in each mode.
 fn no_figures() -> Figures
@@ -32,129 +44,83 @@ fn no_figures() -> Figures
 }
 
 // An open: the record stands at its depth, and holds nothing yet in each mode.
-fn open_at(
-    depth: usize,
-    value: i32,
-    floor: i32,
-    ceiling: i32,
-    values: &mut [i32; 64],
-    floors: &mut [i32; 64],
-    ceilings: &mut [i32; 64],
-    net: &mut [i64; 64],
-    heaviest: &mut [i64; 64],
-    eaten: &mut [i64; 64],
-    stamp: &mut [i64; 64],
-)
-    requires { depth < 64 }
-    ensures { Opened depth value floor ceiling
-        values.old floors.old ceilings.old net.old heaviest.old eaten.old stamp.old
-        values.new floors.new ceilings.new net.new heaviest.new eaten.new stamp.new }
+fn open(f: Fields, amounts: &mut OpenAmounts, held: &mut Holding)
+    requires { f.depth < 64 }
+    ensures { Opened f amounts.old held.old amounts.new held.new }
 {
-    values[depth] = value;
-    floors[depth] = floor;
-    ceilings[depth] = ceiling;
-    net[depth] = figure::nothing(1);
-    heaviest[depth] = figure::nothing(2);
-    eaten[depth] = figure::nothing(5);
-    stamp[depth] = figure::nothing(4);
+    let depth = f.depth as usize;
+    amounts.put(depth, f.value, f.floor, f.ceiling);
+    held.net[depth] = figure::nothing(1);
+    held.heaviest[depth] = figure::nothing(2);
+    held.eaten[depth] = figure::nothing(5);
+    held.stamp[depth] = figure::nothing(4);
 }
 
 // One record in all four modes, as long as there is no fault. It answers the middle values.
 fn apply(
-    fault: u8,
+    fault: Option<Refusal>,
     f: Fields,
     mid: Figures,
-    values: &mut [i32; 64],
-    floors: &mut [i32; 64],
-    ceilings: &mut [i32; 64],
-    net: &mut [i64; 64],
-    heaviest: &mut [i64; 64],
-    eaten: &mut [i64; 64],
-    stamp: &mut [i64; 64],
+    amounts: &mut OpenAmounts,
+    held: &mut Holding,
 ) -> Figures
-    requires { Ready fault f mid values.old floors.old ceilings.old net.old heaviest.old eaten.old stamp.old }
-    ensures { Applied fault f
-        mid values.old floors.old ceilings.old net.old heaviest.old eaten.old stamp.old
-        result values.new floors.new ceilings.new net.new heaviest.new eaten.new stamp.new }
+    requires { Ready fault f mid amounts.old held.old }
+    ensures { Applied fault f mid amounts.old held.old result amounts.new held.new }
 {
-    if fault < fault::NONE {
+    if fault.is_some() {
         return mid;
     }
-    let depth = f.depth as usize;
-    if f.kind == 1 {
-        open_at(
-            depth, f.value, f.floor, f.ceiling, values, floors, ceilings, net, heaviest, eaten,
-            stamp,
-        );
-        return mid;
-    }
-    let n = slopes::close_top(1, depth, &*values, &*floors, &*ceilings, net, mid.net);
-    let h = slopes::close_top(
-        2,
-        depth,
-        &*values,
-        &*floors,
-        &*ceilings,
-        heaviest,
-        mid.heaviest,
-    );
-    let e = slopes::close_top(5, depth, &*values, &*floors, &*ceilings, eaten, mid.eaten);
-    let s = slopes::close_top(4, depth, &*values, &*floors, &*ceilings, stamp, mid.stamp);
-    Figures {
-        net: n,
-        heaviest: h,
-        eaten: e,
-        stamp: s,
+    match f.kind {
+        Kind::Open => {
+            open(f, amounts, held);
+            mid
+        }
+        Kind::Close => {
+            let depth = f.depth as usize;
+            let net = amounts.close_top(1, depth, &mut held.net, mid.net);
+            let heaviest = amounts.close_top(2, depth, &mut held.heaviest, mid.heaviest);
+            let eaten = amounts.close_top(5, depth, &mut held.eaten, mid.eaten);
+            let stamp = amounts.close_top(4, depth, &mut held.stamp, mid.stamp);
+            Figures {
+                net,
+                heaviest,
+                eaten,
+                stamp,
+            }
+        }
     }
 }
 
 // Once all records are read: the middle values, unless a question has a "no".
-fn conclude(t: Tally, mid: Figures) -> Day
-    ensures { day_answer result ≡ outcome (log_verdict t) mid }
+fn conclude(t: Tally, mid: Figures) -> Result<Figures, Refusal>
+    ensures { answered result ≡ outcome (log_verdict t) mid }
 {
-    let fault = whole_log::log_fault(t);
-    if fault < fault::NONE {
-        return Day::Refused(fault);
+    match whole_log::log_fault(t) {
+        Some(fault) => Err(fault),
+        None => Ok(mid),
     }
-    Day::Figures(mid)
 }
 
 // The day's four figures, or the first question that gets a "no".
-pub fn figures(log: &[u8]) -> Day
-    ensures { day_answer result ≡ day_outcome log.now }
+pub fn figures(log: &[u8]) -> Result<Figures, Refusal>
+    ensures { answered result ≡ day_outcome log.now }
 {
     if 65536 < log.len() {
-        return Day::Refused(2);
+        return Err(Refusal::TooLong);
     }
-    let mut values = [0i32; 64];
-    let mut floors = [0i32; 64];
-    let mut ceilings = [0i32; 64];
-    let mut net = [0i64; 64];
-    let mut heaviest = [0i64; 64];
-    let mut eaten = [0i64; 64];
-    let mut stamp = [0i64; 64];
+    let mut amounts = slopes::NO_AMOUNTS;
+    let mut held = NO_HOLDING;
     let mut mid = no_figures();
     let mut t = whole_log::fresh();
     let mut rest = log;
+    // The rest is handed on as a chunk of its own, the form that document 01 asks for, so no iterator goes over the records.
     while 0 < rest.len() {
-        let Read::Record(f) = record::read_first(rest) else {
-            return Day::Refused(3);
+        let Some(f) = record::read_first(rest) else {
+            return Err(Refusal::Unreadable);
         };
-        let length = f.length as usize;
         t = whole_log::note(t, f);
-        mid = apply(
-            whole_log::fault_so_far(t),
-            f,
-            mid,
-            &mut values,
-            &mut floors,
-            &mut ceilings,
-            &mut net,
-            &mut heaviest,
-            &mut eaten,
-            &mut stamp,
-        );
-        rest = &rest[length..];
+        mid = apply(whole_log::fault_so_far(t), f, mid, &mut amounts, &mut held);
+        rest = &rest[f.length as usize..];
     }
     conclude(t, mid)
 }

@@ -4,13 +4,15 @@
 ghost use Rattle.std.specs.Prelude.{◌≡◌, ◌≤◌, length};
 ghost use Rattle.std.proofs.lemmas.List.Edits.{sets};
 ghost use Rattle.gate.specs.Outcome.{refused, granted};
+ghost use Rattle.gate.specs.Answers.{number_of};
 ghost use Rattle.outcome.specs.Day.{day_outcome};
 ghost use Rattle.outcome.specs.Line.{day_line};
 
-use day::Day;
+use gate::Refusal;
 use outcome::Figures;
 
 // The line of a log's figures, from the buffer's start.
+#[tactic(auto, using(crate::proofs::Wrote::short))]
 fn write_line(figures: Figures, out: &mut [u8; 128]) -> usize
     ensures answer { result ≡ length (day_line (granted figures)) }
     ensures buffer { out.new ≡ sets out.old 0 (day_line (granted figures)) }
@@ -23,20 +25,14 @@ fn write_line(figures: Figures, out: &mut [u8; 128]) -> usize
 }
 
 // The line of a refusal, from the buffer's start.
-fn write_refusal(n: u8, out: &mut [u8; 128]) -> usize
-    ensures answer { result ≡ length (day_line (refused n)) }
-    ensures buffer { out.new ≡ sets out.old 0 (day_line (refused n)) }
+#[tactic(auto, using(crate::proofs::Wrote::short))]
+fn write_refusal(no: Refusal, out: &mut [u8; 128]) -> usize
+    ensures answer { result ≡ length (day_line (refused (number_of no))) }
+    ensures buffer { out.new ≡ sets out.old 0 (day_line (refused (number_of no))) }
     ensures fits { result ≤ 128 }
 {
-    out[0] = b'r';
-    out[1] = b'e';
-    out[2] = b'f';
-    out[3] = b'u';
-    out[4] = b's';
-    out[5] = b'e';
-    out[6] = b'd';
-    out[7] = b' ';
-    text::write_item(out, 8, n as i64, b'\n')
+    out[..8].copy_from_slice(b"refused ");
+    text::write_item(out, 8, no.number() as i64, b'\n')
 }
 
 // The line that the day program prints for a log, from the buffer's start; the answer is its length.
@@ -46,7 +42,7 @@ pub fn text(log: &[u8], out: &mut [u8; 128]) -> usize
     ensures fits { result ≤ 128 }
 {
     match day::figures(log) {
-        Day::Figures(f) => write_line(f, out),
-        Day::Refused(n) => write_refusal(n, out),
+        Ok(f) => write_line(f, out),
+        Err(no) => write_refusal(no, out),
     }
 }

@@ -10,10 +10,11 @@ use Rattle.gate.specs.Outcome.{granted}
 use Rattle.number.specs.Bytes.{AllBytes, le_at}
 use Rattle.number.specs.FieldLaws.{bytes-nil, bytes-append}
 use Rattle.record.specs.Record.{in_range, within, default_floor, default_ceiling, records_of, short_fields, close_fields, fields_bytes, chunk_bytes}
-use Rattle.record.proofs.Laws.{Shape, full, short, batched, closed, shape}
+use Rattle.record.proofs.Laws.{Shape, full, short, batched, closed, shape, not-both}
 use Rattle.record.proofs.Readable.{First, first_read}
 use Rattle.record.proofs.Encoding.{short-length, short-bytes, close-length, close-bytes, chunk-again, Reread, short_back, close-back, AllReread, chunk_read}
 use Rattle.record.specs.declared.Fields.{Fields}
+use Rattle.record.specs.declared.Kind.TheVariants as kind
 use Rattle.hill.specs.Log.{opened_of, log_fault}
 use Rattle.hill.specs.Sorted.{Sorted}
 use Rattle.hill.proofs.SortedLaws.{sorted-map, sorted-no-duplicates, sorted-unique}
@@ -72,7 +73,7 @@ day-read n few fs h = chunk_read fs (all_back fs h.plain (day-shallow n few fs h
 plain-ones : (fs : List Fields) → AllPlain fs → AllShortOnes fs
 plain-ones [] p = tt
 plain-ones (f ∷ fs) (opens d, p) = ((λ _. (refl, refl)), plain-ones fs p)
-plain-ones (f ∷ fs) (closes d, p) = ((λ e. absurd (omega arith)), plain-ones fs p)
+plain-ones (f ∷ fs) (closes d, p) = ((λ e. absurd (not-both e refl)), plain-ones fs p)
 
 pub day-is : (n : ℕ) → n ≤ 64 → (fs : List Fields) → IsDay n fs → IsSmallDay n (chunk_bytes fs)
 day-is n few fs h = record {
@@ -83,7 +84,7 @@ day-is n few fs h = record {
   ones = plain-ones fs h.plain;
 }
 
-ones-plain : (s : List ℕ) (f : Fields) → Shape s f → (f.kind ≡ 1 → (f.length ≡ 10) × (f.value ≡ pos 1)) → Plain f
+ones-plain : (s : List ℕ) (f : Fields) → Shape s f → (f.kind ≡ kind.Open → (f.length ≡ 10) × (f.value ≡ pos 1)) → Plain f
 ones-plain s f (full e0 e2) h = absurd (omega (arith, (h refl).0))
 ones-plain s f (short e0 e2) h = subst (λ v. Plain (short_fields (le_at 2 s 4) v)) (sym (h refl).1) (opens (le_at 2 s 4))
 ones-plain s f (batched e0 e2) h = absurd (omega (arith, (h refl).0))
@@ -126,9 +127,9 @@ by_place fs gs = (to-place fs gs, λ d. from_place d.0 fs gs d.1)
 lexicographic-asymmetric : (fs gs : List Fields) → Lexicographic fs gs → Lexicographic gs fs → ⊥
 lexicographic-asymmetric [] gs a b = a
 lexicographic-asymmetric (f ∷ fs) [] a b = a
-lexicographic-asymmetric (f ∷ fs) (g ∷ gs) (inl a) (inl b) = omega (arith, a.0, b.1)
-lexicographic-asymmetric (f ∷ fs) (g ∷ gs) (inl a) (inr b) = omega (arith, a.0, a.1, ap (λ (h : Fields). h.kind) b.0)
-lexicographic-asymmetric (f ∷ fs) (g ∷ gs) (inr a) (inl b) = omega (arith, b.0, b.1, ap (λ (h : Fields). h.kind) a.0)
+lexicographic-asymmetric (f ∷ fs) (g ∷ gs) (inl a) (inl b) = not-both a.0 b.1
+lexicographic-asymmetric (f ∷ fs) (g ∷ gs) (inl a) (inr b) = not-both a.0 (sym (ap (λ (h : Fields). h.kind) b.0) ∙ a.1)
+lexicographic-asymmetric (f ∷ fs) (g ∷ gs) (inr a) (inl b) = not-both b.0 (sym (ap (λ (h : Fields). h.kind) a.0) ∙ b.1)
 lexicographic-asymmetric (f ∷ fs) (g ∷ gs) (inr a) (inr b) = lexicographic-asymmetric fs gs a.1 b.1
 
 asymmetric : (a b : List ℕ) → Precedes a b → Precedes b a → ⊥

@@ -5,6 +5,7 @@ use Rattle.gate.specs.Outcome.{refused, granted}
 use Rattle.number.specs.Bytes.{AllBytes}
 use Rattle.record.specs.Record.{close_fields}
 use Rattle.record.specs.declared.Fields.{Fields}
+use Rattle.record.specs.declared.Kind.TheVariants as kind
 use Rattle.modes.specs.FourModes.{Amounts}
 use Rattle.hill.specs.Log.{Record, opened_of}
 use Rattle.hill.specs.Sorted.{Sorted, NoDuplicates}
@@ -15,7 +16,7 @@ use Rattle.day_list.specs.Days.{small_days, small_days_outcome}
 -- "Short open records, each value 1": of the records of a log, as they are read.
 abbrev pub AllShortOnes : List Fields → Type 0
 AllShortOnes [] = Unit {0}
-AllShortOnes (f ∷ fs) = (f.kind ≡ 1 → (f.length ≡ 10) × (f.value ≡ pos 1)) × AllShortOnes fs
+AllShortOnes (f ∷ fs) = (f.kind ≡ kind.Open → (f.length ≡ 10) × (f.value ≡ pos 1)) × AllShortOnes fs
 
 -- "Well-formed logs with n opened records, short open records, each value 1": whether bytes are such a log.
 pub record IsSmallDay (n : ℕ) (log : List ℕ) : Type 0 where
@@ -29,14 +30,14 @@ pub record IsSmallDay (n : ℕ) (log : List ℕ) : Type 0 where
 abbrev pub Lexicographic : (first second : List Fields) → Type 0
 Lexicographic [] gs = ⊥
 Lexicographic (f ∷ fs) [] = ⊥
-Lexicographic (f ∷ fs) (g ∷ gs) = ((f.kind ≡ 1) × (g.kind ≡ 2)) ⊎ ((f ≡ g) × Lexicographic fs gs)
+Lexicographic (f ∷ fs) (g ∷ gs) = ((f.kind ≡ kind.Open) × (g.kind ≡ kind.Close)) ⊎ ((f ≡ g) × Lexicographic fs gs)
 
 -- The same by a place: before it they have the same records, at it the first has an open and the second a close (`DayLaws.by_place`).
 pub record DifferAt (place : ℕ) (first second : List Fields) : Type 0 where
   pub inside : (place < length first) × (place < length second)
   pub same : take place first ≡ take place second
-  pub opens : (get_or first place (close_fields 0)).kind ≡ 1
-  pub closes : (get_or second place (close_fields 0)).kind ≡ 2
+  pub opens : (get_or first place (close_fields 0)).kind ≡ kind.Open
+  pub closes : (get_or second place (close_fields 0)).kind ≡ kind.Close
 
 -- The order of two logs, by the records that are read of them.
 abbrev pub Precedes : (a b : List ℕ) → Type 0

@@ -17,6 +17,7 @@ fn read_log<R: Read>(input: &mut R, log: &mut [u8; 65537]) -> io::Result<usize>
     ensures end { IfOk result (λ n. n < 65537 → IsAtEnd (R.remaining input.new)) }
 {
     let mut at = 0;
+    // A step is as long as what was read.
     while at < log.len() {
         let n = input.read(&mut log[at..])?;
         if n == 0 {

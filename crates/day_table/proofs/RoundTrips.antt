@@ -1,11 +1,11 @@
 -- Document 02, L1: what is written from a table, both round trips, a log's faults, buffers that are never too short, which lines 3 lets through, and 13 exactly;
 -- and L2: what comes back of any log. Assumes nothing.
-use Rattle.std.specs.Prelude.{◌≡◌, refl, Bool, true, false, cond, List, [], ◌∷◌, ◌++◌, ℕ, ◌*◌, ◌%◌, ◌≤◌, leb, eqb, length}
+use Rattle.std.specs.Prelude.{◌≡◌, refl, Bool, true, false, cond, List, [], ◌∷◌, ◌++◌, ℕ, ◌*◌, ◌%◌, ◌≤◌, leb, length}
 use Rattle.std.proofs.Common.{sym, ap, subst, ◌∙◌, arith, le-leb, eq-eqb}
 use Rattle.gate.specs.Outcome.{refused, granted, question, written}
 use Rattle.gate.proofs.Laws.{fits, not-result}
 use Rattle.number.specs.Bytes.{AllBytes}
-use Rattle.record.specs.Record.{records_of, read_of, default_floor, default_ceiling, open_bytes}
+use Rattle.record.specs.Record.{is_open, records_of, read_of, default_floor, default_ceiling, open_bytes}
 use Rattle.record.proofs.Laws.{short-is, sound}
 use Rattle.record.proofs.Encoding.{read-open}
 use Rattle.record.proofs.Ranged.{AllInRange, records-in-range}
@@ -91,7 +91,7 @@ reads-back table cap {w} all e room =
 -- a readable full open record could hold the line of each record that was read
 could-hold-lines : (fs : List Fields) → AllInRange fs → all_could_hold (table_of (chunk_of fs)) ≡ true
 could-hold-lines [] h = refl
-could-hold-lines (f ∷ fs) h = go (eqb f.kind 1) (could-hold-lines fs h.1)
+could-hold-lines (f ∷ fs) h = go (is_open f.kind) (could-hold-lines fs h.1)
   where
     go : (t : Bool) → all_could_hold (table_of (chunk_of fs)) ≡ true
         → all_could_hold (table_of (cond t (opening f.depth (amounts f.value f.floor f.ceiling)) (closing f.depth) ∷ chunk_of fs)) ≡ true

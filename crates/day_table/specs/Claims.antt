@@ -1,8 +1,8 @@
 -- What is claimed of the day table and its log, beside what the two calls come to. Definitions only.
-use Rattle.std.specs.Prelude.{◌≡◌, true, cond, ◌⊎◌, ◌↔◌, List, [], ◌∷◌, map, ℕ, ◌*◌, ◌≤◌, eqb, length}
+use Rattle.std.specs.Prelude.{◌≡◌, true, cond, ◌⊎◌, ◌↔◌, List, [], ◌∷◌, map, ℕ, ◌*◌, ◌≤◌, length}
 use Rattle.gate.specs.Outcome.{refused, granted, written}
 use Rattle.number.specs.Bytes.{AllBytes}
-use Rattle.record.specs.Record.{read_of, records_of, full_fields}
+use Rattle.record.specs.Record.{is_open, read_of, records_of, full_fields}
 use Rattle.record.specs.declared.Fields.{Fields}
 use Rattle.modes.specs.FourModes.{Amounts}
 use Rattle.hill.specs.Log.{Record}
@@ -48,7 +48,7 @@ pub record WritesAgain (log : List ℕ) : Type 0 where
 
 -- "All other calls drop it" (document 02, L2): an open record comes back from the day table with length 18 and without a batch; a close as it was.
 abbrev pub comes_back_as : Fields → Fields
-comes_back_as f = cond (eqb f.kind 1) (full_fields f.depth f.value f.floor f.ceiling) f
+comes_back_as f = cond (is_open f.kind) (full_fields f.depth f.value f.floor f.ceiling) f
 
 -- ".. so from the day table the same bytes come back only for records of length 18": of a log and its records, the table that it gives, the log that this
 -- writes, each where it fits, and when that is the same.

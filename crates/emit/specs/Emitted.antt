@@ -1,5 +1,6 @@
 -- The summary that a head and the arrays say, and what a function that writes it asks. Definitions only.
 use Rattle.std.specs.Prelude.{◌≡◌, ℕ, ◌-◌, ◌≤◌}
+use Rattle.gate.specs.Answers.{number_of}
 use Rattle.modes.specs.FourModes.{store_held}
 use Rattle.figure.specs.Mode.{Mode, mode_of}
 use Rattle.hill.specs.Summary.{blank, part, spoilt, whole}
@@ -18,7 +19,7 @@ abbrev pub counts_of : HillHead → Counts
 counts_of h = record { nl = h.start - h.peak; n = h.end - h.peak; mid = store_held h.middle }
 
 abbrev pub spoilt_said : (m : ℕ) → SpoiltHead → SummaryIn m
-spoilt_said m s = part (spoilt s.fault s.start s.end s.opened)
+spoilt_said m s = part (spoilt (number_of s.fault) s.start s.end s.opened)
 
 abbrev pub hill_said : (m : ℕ) → HillHead → Arrays → SummaryIn m
 hill_said m h A = part (whole h.peak h.opened (slopes_of (mode_of m) A (counts_of h)))

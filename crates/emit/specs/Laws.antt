@@ -1,11 +1,10 @@
 -- What is answered of a summary's bytes that fit, and how long they are; what a head says by its case. Assumes nothing.
-use Rattle.std.specs.Prelude.{◌≡◌, List, ℕ, ◌+◌, ◌-◌, ◌≤◌, ℤ, length}
+use Rattle.std.specs.Prelude.{◌≡◌, List, ℕ, ◌+◌, ◌-◌, ◌≤◌, ℤ, length, Result, Ok}
 use Rattle.std.proofs.Common.{sym, ap, subst, ◌∙◌, arith}
 use Rattle.gate.specs.Outcome.{written}
 use Rattle.gate.specs.Promises.{Answers}
 use Rattle.gate.proofs.Promises.{answer-fits, answer-same}
-use Rattle.gate.specs.declared.Written.{Written}
-use Rattle.gate.specs.declared.Written.TheVariants.{Bytes}
+use Rattle.gate.specs.declared.Refusal.{Refusal}
 use Rattle.modes.specs.FourModes.{store_held}
 use Rattle.figure.specs.Mode.{Mode, mode_of}
 use Rattle.modes.specs.declared.Held.{Held}
@@ -24,7 +23,7 @@ use Rattle.summary.proofs.Accepted.{encode-length}
 use Rattle.emit.specs.Promised.{Wrote, hill_length, Writes}
 use Rattle.emit.specs.Emitted.{counts_of, spoilt_said, hill_said, summary_said, WritableHill, Writable, Said}
 
-abbrev pub spoilt_head : (fault start end opened : ℕ) → SpoiltHead
+abbrev pub spoilt_head : (fault : Refusal) (start end opened : ℕ) → SpoiltHead
 spoilt_head f s e o = record { fault = f; start = s; end = e; opened = o }
 
 abbrev pub hill_head : (start peak end opened : ℕ) → Held → HillHead
@@ -32,7 +31,7 @@ hill_head s p e o m = record { start = s; peak = p; end = e; opened = o; middle 
 
 -- ---- by the length
 
-pub answer-wrote : (w o : List ℕ) {o' : List ℕ} {n : ℕ} → length w ≤ length o → Wrote w o o' n → Answers (written (length o) w) o o' (Bytes n)
+pub answer-wrote : (w o : List ℕ) {o' : List ℕ} {n : ℕ} → length w ≤ length o → Wrote w o o' n → Answers (written (length o) w) o o' (Ok n)
 answer-wrote w o h e = answer-fits w o h e.answered e.buffer
 
 -- ---- by what is said
@@ -66,7 +65,7 @@ module _ {M : Mode} {head : Head} {A : Arrays} (w : Writable M head A) where
   hill-writable e = rw e at w
 
 -- what is answered of the case that a head is, is answered of the head
-pub answer-head : (m : ℕ) {head g : Head} (A : Arrays) {o o' : List ℕ} {r : Written} → head ≡ g → Answers (written (length o) (encode m (summary_said m g A))) o o' r → Answers (written (length o) (encode m (summary_said m head A))) o o' r
+pub answer-head : (m : ℕ) {head g : Head} (A : Arrays) {o o' : List ℕ} {r : Result ℕ Refusal} → head ≡ g → Answers (written (length o) (encode m (summary_said m g A))) o o' r → Answers (written (length o) (encode m (summary_said m head A))) o o' r
 answer-head m A e a = answer-same (ap (λ (h : Head). encode m (summary_said m h A)) (sym e)) a
 
 -- ---- a head that is made from counts gives them back, and so says what the arrays say with them

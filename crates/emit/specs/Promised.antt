@@ -33,6 +33,9 @@ abbrev pub records_bytes : (vs fs cs hs : List ℤ) → ℕ → List ℕ
 records_bytes vs fs cs hs zero = []
 records_bytes vs fs cs hs (suc n) = records_bytes vs fs cs hs n ++ stored_record (at vs n) (at fs n) (at cs n) (at hs n)
 
+abbrev pub records_of : Arrays → ℕ → List ℕ
+records_of A n = records_bytes A.values A.floors A.ceilings A.held n
+
 -- "Length 24 + 8 × (start - peak) + 20 × (end - peak)"
 abbrev pub hill_length : Counts → ℕ
 hill_length c = 24 + 8 * c.nl + 20 * c.n

@@ -2,12 +2,15 @@
 ghost use Rattle.std.specs.Prelude.{◌≡◌, ◌+◌, ◌*◌, ◌≤◌, length};
 ghost use Rattle.std.proofs.lemmas.List.Edits.{sets};
 ghost use Rattle.figure.specs.Mode.{mode_of};
-ghost use Rattle.hill.specs.Summary.{blank, part, spoilt, whole};
+ghost use Rattle.hill.specs.Summary.{blank, part, whole};
 ghost use Rattle.summary.specs.Layout.{encode};
-ghost use Rattle.slopes.specs.Arrays.{arrays, slopes_of};
-ghost use Rattle.emit.specs.Promised.{Wrote, front_bytes, level_bytes, numbers_bytes, stored_record, records_bytes, Writes};
+ghost use Rattle.slopes.specs.Arrays.{slopes_of};
+ghost use Rattle.slopes.specs.Kept.{arrays_of};
+ghost use Rattle.emit.specs.Promised.{Wrote, front_bytes, level_bytes, numbers_bytes, stored_record, records_of, Writes};
+ghost use Rattle.emit.specs.Emitted.{spoilt_said};
 
-use slopes::Counts;
+use judge::SpoiltHead;
+use slopes::{Counts, Slopes};
 
 // Length, kind and mode: the first 6 bytes.
 fn put_front(out: &mut [u8], n: u16, kind: u16, mode: u16)
@@ -38,19 +41,12 @@ pub fn write_blank(mode: u16, out: &mut [u8]) -> usize
     6
 }
 
-pub fn write_spoilt(
-    mode: u16,
-    fault: u16,
-    start: u16,
-    end: u16,
-    opened: u32,
-    out: &mut [u8],
-) -> usize
+pub fn write_spoilt(mode: u16, s: SpoiltHead, out: &mut [u8]) -> usize
     requires { 16 ≤ length out.old }
-    ensures { Wrote (encode mode (part (spoilt fault start end opened))) out.old out.new result }
+    ensures { Wrote (encode mode (spoilt_said mode s)) out.old out.new result }
 {
     put_front(out, 16, 17, mode);
-    put_levels(out, fault, start, end, opened);
+    put_levels(out, s.fault.number() as u16, s.start, s.end, s.opened);
     16
 }
 
@@ -59,10 +55,8 @@ fn put_numbers(xs: &[i64; 64], n: usize, out: &mut [u8], at: usize)
     requires { (n ≤ 64) × (at + 8 * n ≤ length out.old) }
     ensures { out.new ≡ sets out.old at (numbers_bytes xs.now n) }
 {
-    let mut i: usize = 0;
-    while i < n {
+    for i in 0..n {
         number::write_i64(out, at + 8 * i, xs[i]);
-        i += 1;
     }
 }
 
@@ -78,52 +72,42 @@ fn put_record(out: &mut [u8], at: usize, value: i32, floor: i32, ceiling: i32, h
 }
 
 // The first n records, from `at` on.
-fn put_records(
-    values: &[i32; 64],
-    floors: &[i32; 64],
-    ceilings: &[i32; 64],
-    held: &[i64; 64],
-    n: usize,
-    out: &mut [u8],
-    at: usize,
-)
+fn put_records(slopes: &Slopes, n: usize, out: &mut [u8], at: usize)
     requires { (n ≤ 64) × (at + 20 * n ≤ length out.old) }
-    ensures { out.new ≡ sets out.old at (records_bytes values.now floors.now ceilings.now held.now n) }
+    ensures { out.new ≡ sets out.old at (records_of (arrays_of slopes.now) n) }
 {
-    let mut k: usize = 0;
-    while k < n {
-        put_record(out, at + 20 * k, values[k], floors[k], ceilings[k], held[k]);
-        k += 1;
+    let amounts = &slopes.amounts;
+    for k in 0..n {
+        put_record(
+            out,
+            at + 20 * k,
+            amounts.values[k],
+            amounts.floors[k],
+            amounts.ceilings[k],
+            slopes.held[k],
+        );
     }
 }
 
-// The hill in the arrays, with its peak and its opened records.
+// The hill of the slopes, with its peak and its opened records.
 pub fn write_hill(
     mode: u16,
     peak: u16,
     opened: u32,
-    left: &[i64; 64],
-    values: &[i32; 64],
-    floors: &[i32; 64],
-    ceilings: &[i32; 64],
-    held: &[i64; 64],
+    slopes: &Slopes,
     c: Counts,
     out: &mut [u8],
 ) -> usize
-    requires { Writes (mode_of mode) (arrays left.now values.now floors.now ceilings.now held.now) c peak (length out.old) }
-    ensures { Wrote (encode mode (part (whole peak opened (slopes_of (mode_of mode)
-        (arrays left.now values.now floors.now ceilings.now held.now) c))))
+    requires { Writes (mode_of mode) (arrays_of slopes.now) c peak (length out.old) }
+    ensures { Wrote (encode mode (part (whole peak opened (slopes_of (mode_of mode) (arrays_of slopes.now) c))))
         out.old out.new result }
 {
-    let nl = c.nl;
-    let n = c.n;
-    let mid = c.mid;
-    let records_at = 24 + 8 * nl;
-    let total = records_at + 20 * n;
+    let records_at = 24 + 8 * c.nl;
+    let total = records_at + 20 * c.n;
     put_front(out, total as u16, 18, mode);
-    put_levels(out, peak + (nl as u16), peak, peak + (n as u16), opened);
-    put_numbers(left, nl, out, 16);
-    number::write_i64(out, 16 + 8 * nl, mid);
-    put_records(values, floors, ceilings, held, n, out, records_at);
+    put_levels(out, peak + (c.nl as u16), peak, peak + (c.n as u16), opened);
+    put_numbers(&slopes.left, c.nl, out, 16);
+    number::write_i64(out, 16 + 8 * c.nl, c.mid);
+    put_records(slopes, c.n, out, records_at);
     total
 }

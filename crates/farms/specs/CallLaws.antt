@@ -1,16 +1,15 @@
 -- The calls, by what their functions found: a send, an end of day, and a state made fresh. Assumes nothing.
-use Rattle.std.specs.Prelude.{◌≡◌, refl, Bool, true, false, ◌&&◌, ℕ, suc, ◌+◌, ◌-◌, ◌*◌, ◌≤◌, ◌<◌, leb, eqb, take, drop, set, replicate}
+use Rattle.std.specs.Prelude.{◌≡◌, refl, Bool, true, false, ◌&&◌, ℕ, suc, ◌+◌, ◌-◌, ◌*◌, ◌≤◌, ◌<◌, leb, eqb, take, drop, set, replicate, Result, Ok, Err}
 use Rattle.std.proofs.Math.Path.{sym, subst}
 use Rattle.std.proofs.Common.{ap, ◌∙◌, zero-add, arith, take_at, le-leb, leb-true}
 use mathlib.Core.List.{List, ◌++◌}
 use Rattle.std.proofs.Math.ListN.{length}
 use Rattle.std.proofs.lemmas.Bool.{lt-leb}
 use Rattle.gate.specs.Outcome.{Outcome, refused, granted, question, onward, written, buffer_after}
-use Rattle.gate.specs.Answers.{written_answer, length_answered}
+use Rattle.gate.specs.Answers.{number_of, answered, length_answered}
 use Rattle.gate.proofs.Laws.{yes, result-same, one_number, not-result}
 use Rattle.gate.specs.Promises.{Answers}
-use Rattle.gate.specs.declared.Written.{Written}
-use Rattle.gate.specs.declared.Written.TheVariants.{Bytes, Refused}
+use Rattle.gate.specs.declared.Refusal.{Refusal}
 use Rattle.figure.specs.Mode.{mode_in_use}
 use Rattle.summary.specs.Judge.{mode_at}
 use Rattle.summary.specs.Decide.{is_summary}
@@ -86,9 +85,9 @@ module _ (s piece b : List ℕ) (farm : ℕ) (few : farm ≤ 7) (p : piece ≡ s
       let t = yes 12 (leb (length (merge_bytes (mode_at piece) piece b)) 1788) _ r.1 in
       subst (λ (x : List ℕ). length x ≤ 1788) (result-same t.1) (leb-true _ _ t.0)
 
-  module _ (r : Written) (slot : List ℕ) (a : written_answer r ≡ length_answered (merge_outcome piece b 1788)) (f : slot ≡ buffer_after (merge_outcome piece b 1788) (replicate 1788 0)) where
-    wrote : {k : ℕ} → r ≡ Bytes k → Wrote (merge_outcome piece b 1788) slot k
-    wrote {k} e = go (merge_outcome piece b 1788) refl (sym (ap written_answer e) ∙ a) f
+  module _ (r : Result ℕ Refusal) (slot : List ℕ) (a : answered r ≡ length_answered (merge_outcome piece b 1788)) (f : slot ≡ buffer_after (merge_outcome piece b 1788) (replicate 1788 0)) where
+    wrote : {k : ℕ} → r ≡ Ok k → Wrote (merge_outcome piece b 1788) slot k
+    wrote {k} e = go (merge_outcome piece b 1788) refl (sym (ap answered e) ∙ a) f
       where
         go : (o : Outcome (List ℕ)) → merge_outcome piece b 1788 ≡ o → granted k ≡ length_answered o → slot ≡ buffer_after o (replicate 1788 0) → Wrote o slot k
         go (refused n) q g h = absurd (not-result n k (sym g))
@@ -102,19 +101,19 @@ module _ (s piece b : List ℕ) (farm : ℕ) (few : farm ≤ 7) (p : piece ≡ s
               is-slot = record { size = ap length z ∙ slot-length w l; inside = omega arith; is = z ∙ ap slot_of (sym t) };
             }
 
-    pub sent-slot : {k : ℕ} → r ≡ Bytes k → IsSlot slot k
+    pub sent-slot : {k : ℕ} → r ≡ Ok k → IsSlot slot k
     sent-slot e = (wrote e).is-slot
 
     -- what settling came to is what the send comes to
-    pub sent : {k : ℕ} (x : Told) (t : List ℕ) → r ≡ Bytes k → x ≡ tell (asked21 s farm (take k slot)) → t ≡ state_after (asked21 s farm (take k slot)) (put_slot s farm) s → (x ≡ tell (send_outcome (station_of s) farm b)) × (t ≡ send_after s farm b)
+    pub sent : {k : ℕ} (x : Told) (t : List ℕ) → r ≡ Ok k → x ≡ tell (asked21 s farm (take k slot)) → t ≡ state_after (asked21 s farm (take k slot)) (put_slot s farm) s → (x ≡ tell (send_outcome (station_of s) farm b)) × (t ≡ send_after s farm b)
     sent {k} x t e g h = let c : send_outcome (station_of s) farm b ≡ asked21 s farm (take k slot) = send-is ∙ ap (λ o. onward o (asked21 s farm)) (wrote e).came in rw c (g, h)
 
-    pub not-sent : {k : ℕ} → r ≡ Refused k → send_outcome (station_of s) farm b ≡ refused k
-    not-sent {k} e = send-is ∙ ap (λ o. onward o (asked21 s farm)) (go (merge_outcome piece b 1788) (sym (ap written_answer e) ∙ a))
+    pub not-sent : {x : Refusal} → r ≡ Err x → send_outcome (station_of s) farm b ≡ refused (number_of x)
+    not-sent {x} e = send-is ∙ ap (λ o. onward o (asked21 s farm)) (go (merge_outcome piece b 1788) (sym (ap answered e) ∙ a))
       where
-        go : (o : Outcome (List ℕ)) → refused k ≡ length_answered o → o ≡ refused k
+        go : (o : Outcome (List ℕ)) → refused (number_of x) ≡ length_answered o → o ≡ refused (number_of x)
         go (refused n) g = ap refused (one_number (sym g))
-        go (granted w) g = absurd (not-result k (length w) g)
+        go (granted w) g = absurd (not-result (number_of x) (length w) g)
 
 -- ---- an end of day
 
@@ -130,20 +129,22 @@ module _ (s piece : List ℕ) (farm cap : ℕ) (few : farm ≤ 7) (p : piece ≡
   pub end-5 : is_summary piece ≡ false → end_outcome (station_of s) farm cap ≡ refused 5
   end-5 n = end_is ∙ ap (λ t. question 5 t (written cap piece)) n
 
-  module _ (y : is_summary piece ≡ true) (r : Written) (before after : List ℕ) (h : Answers (written cap piece) before after r) where
+  module _ (y : is_summary piece ≡ true) (r : Result ℕ Refusal) (before after : List ℕ) (h : Answers (written cap piece) before after r) where
     came : {o : Outcome (List ℕ)} → written cap piece ≡ o → end_outcome (station_of s) farm cap ≡ o
     came e = end_is ∙ ap (λ t. question 5 t (written cap piece)) y ∙ e
 
-    pub end-12 : (k : ℕ) → r ≡ Refused k → (end_outcome (station_of s) farm cap ≡ refused 12) × (after ≡ before)
-    end-12 k e = go (leb (length piece) cap) refl (sym (ap written_answer e) ∙ h.answered)
+    pub end-12 : (x : Refusal) → r ≡ Err x → (end_outcome (station_of s) farm cap ≡ refused (number_of x)) × (after ≡ before)
+    end-12 x e = go (leb (length piece) cap) refl (sym (ap answered e) ∙ h.answered)
       where
-        go : (t : Bool) → leb (length piece) cap ≡ t → refused k ≡ length_answered (question 12 t (granted piece)) → (end_outcome (station_of s) farm cap ≡ refused 12) × (after ≡ before)
-        go true q g = absurd (not-result k (length piece) g)
-        go false q g = let w : written cap piece ≡ refused 12 = ap (λ t. question 12 t (granted piece)) q in (came w, h.buffer ∙ ap (λ o. buffer_after o before) w)
+        go : (t : Bool) → leb (length piece) cap ≡ t → refused (number_of x) ≡ length_answered (question 12 t (granted piece)) → (end_outcome (station_of s) farm cap ≡ refused (number_of x)) × (after ≡ before)
+        go true q g = absurd (not-result (number_of x) (length piece) g)
+        go false q g =
+            let w : written cap piece ≡ refused 12 = ap (λ t. question 12 t (granted piece)) q in
+            (came w ∙ ap refused (one_number (sym g)), h.buffer ∙ ap (λ o. buffer_after o before) w)
 
-    module _ (n : ℕ) (e : r ≡ Bytes n) where
+    module _ (n : ℕ) (e : r ≡ Ok n) where
       handed_out : written cap piece ≡ granted piece
-      handed_out = go (leb (length piece) cap) refl (sym (ap written_answer e) ∙ h.answered)
+      handed_out = go (leb (length piece) cap) refl (sym (ap answered e) ∙ h.answered)
         where
           go : (t : Bool) → leb (length piece) cap ≡ t → granted n ≡ length_answered (question 12 t (granted piece)) → written cap piece ≡ granted piece
           go true q g = ap (λ t. question 12 t (granted piece)) q
@@ -153,7 +154,7 @@ module _ (s piece : List ℕ) (farm cap : ℕ) (few : farm ≤ 7) (p : piece ≡
           (granted n ≡ length_answered (end_outcome (station_of s) farm cap)) × ((after ≡ buffer_after (end_outcome (station_of s) farm cap) before) × (t ≡ end_after s farm cap))
       end-yes t m g f =
           rw (came handed_out)
-          (sym (ap written_answer e) ∙ h.answered ∙ ap length_answered handed_out, (h.buffer ∙ ap (λ o. buffer_after o before) handed_out, f ∙ ap (λ (k : ℕ). put_slot s farm (blank_bytes k)) g))
+          (sym (ap answered e) ∙ h.answered ∙ ap length_answered handed_out, (h.buffer ∙ ap (λ o. buffer_after o before) handed_out, f ∙ ap (λ (k : ℕ). put_slot s farm (blank_bytes k)) g))
 
 -- ---- a fresh state
 

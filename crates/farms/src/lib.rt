@@ -3,7 +3,7 @@
 
 ghost use Rattle.std.specs.Prelude.{◌≡◌, suc, ◌+◌, ◌*◌, ◌^◌, ◌≤◌, ◌<◌, min, ◌++◌, length, take, drop};
 ghost use Rattle.gate.specs.Outcome.{written, buffer_after};
-ghost use Rattle.gate.specs.Answers.{written_answer, length_answered};
+ghost use Rattle.gate.specs.Answers.{answered, length_answered};
 ghost use Rattle.gate.specs.Promises.{Answers};
 ghost use Rattle.number.specs.Bytes.{le_at};
 ghost use Rattle.summary.specs.Outcomes.{blank_bytes};
@@ -13,8 +13,7 @@ ghost use Rattle.valley_station.specs.Runs.{tell};
 ghost use Rattle.farms.specs.Answers.{taken_answer};
 ghost use Rattle.farms.specs.Promised.{IsSlot, asked21};
 
-use gate::Written;
-use judge::Judged;
+use gate::Refusal;
 
 // A farm's slot, as long as the longest summary; there are eight of them in a state.
 const SLOT: usize = 1788;
@@ -25,20 +24,13 @@ const OWN: u32 = 10_000;
 // Those that all farms have in common.
 const IN_COMMON: u64 = 20_000;
 
-// The answer of `fresh` and `send`, which tell only that the call was taken. `taken_answer` says what each case means.
-#[derive(Clone, Copy)]
-pub enum Taken {
-    Yes,
-    Refused(u8),
-}
-
 // Where ends what the slot at `at` holds.
 fn held_end(state: &[u8], at: usize) -> usize
     requires { at + 1788 ≤ length state.now }
     ensures { result ≡ at + min (le_at 2 state.now at) 1788 }
 {
     let n = number::read_u16(state, at) as usize;
-    if n <= SLOT { at + n } else { at + SLOT }
+    at + n.min(SLOT)
 }
 
 // The opened records of a summary. A blank has none, and 6 bytes.
@@ -55,11 +47,7 @@ fn opened_in(b: &[u8]) -> u32
 fn drawn_by(b: &[u8]) -> u64
     ensures { (result ≡ drawn b.now) × (result < 2 ^ 32) }
 {
-    let opened = opened_in(b);
-    if opened <= OWN {
-        return 0;
-    }
-    (opened - OWN) as u64
+    opened_in(b).saturating_sub(OWN) as u64
 }
 
 // What the farm draws whose slot is at `at`.
@@ -77,10 +65,8 @@ fn excess(state: &[u8]) -> u64
     ensures { (result ≡ excess_of (station_of state.now)) × (result ≤ 8 * 2 ^ 32) }
 {
     let mut total: u64 = 0;
-    let mut k: usize = 0;
-    while k < 8 {
+    for k in 0..8 {
         total += drawn_at(state, SLOT * k);
-        k += 1;
     }
     total
 }
@@ -90,11 +76,7 @@ fn store(out: &mut [u8], at: usize, bytes: &[u8])
     requires { at + length bytes.now ≤ length out.old }
     ensures { out.new ≡ take at out.old ++ (bytes.now ++ drop (at + length bytes.now) out.old) }
 {
-    let mut i: usize = 0;
-    while i < bytes.len() {
-        out[at + i] = bytes[i];
-        i += 1;
-    }
+    out[at..at + bytes.len()].copy_from_slice(bytes);
 }
 
 // A farm's slot written anew.
@@ -112,12 +94,12 @@ fn make_blank(state: &mut [u8], farm: usize, mode: u16)
 {
     let mut slot = [0u8; SLOT];
     // It fits.
-    emit::put_blank(mode, &mut slot);
+    let _ = emit::put_blank(mode, &mut slot);
     write_slot(state, farm, &slot);
 }
 
 // A farm's merged summary, the first n bytes of a slot: question 21, of the state that it would leave, and then it is stored.
-fn settle(state: &mut [u8], farm: usize, slot: &[u8], n: usize) -> Taken
+fn settle(state: &mut [u8], farm: usize, slot: &[u8], n: usize) -> Result<(), Refusal>
     requires state_len { (length state.old ≡ 14304) × (farm ≤ 7) }
     requires slot { IsSlot slot.now n }
     ensures answer { taken_answer result ≡ tell (asked21 state.old farm (take n slot.now)) }
@@ -127,34 +109,31 @@ fn settle(state: &mut [u8], farm: usize, slot: &[u8], n: usize) -> Taken
     let before = drawn_at(&*state, SLOT * farm);
     let after = drawn_by(&slot[..n]);
     if IN_COMMON < all - before + after {
-        return Taken::Refused(21);
+        return Err(Refusal::CommonStock);
     }
     write_slot(state, farm, slot);
-    Taken::Yes
+    Ok(())
 }
 
 // A send, on the state as a slice: what is sent is merged at the right end of what the farm's slot holds, into a slot of zeros.
-fn send_in(state: &mut [u8], farm: u32, summary: &[u8]) -> Taken
+fn send_in(state: &mut [u8], farm: u32, summary: &[u8]) -> Result<(), Refusal>
     requires { length state.old ≡ 14304 }
     ensures answer { taken_answer result ≡ tell (send_outcome (station_of state.old) farm summary.now) }
     ensures state { state.new ≡ send_after state.old farm summary.now }
 {
     if 7 < farm {
-        return Taken::Refused(20);
+        return Err(Refusal::NoSuchFarm);
     }
     let at = SLOT * (farm as usize);
     let end = held_end(&*state, at);
     let mut slot = [0u8; SLOT];
-    let merged = merge::merge(&state[at..end], summary, &mut slot);
     // No 12: a slot has room for any summary.
-    match merged {
-        Written::Bytes(n) => settle(state, farm as usize, &slot, n),
-        Written::Refused(n) => Taken::Refused(n),
-    }
+    let n = merge::merge(&state[at..end], summary, &mut slot)?;
+    settle(state, farm as usize, &slot, n)
 }
 
 // A summary sent for a farm: questions 20, 5, 6 and 21.
-pub fn send(state: &mut [u8; 14304], farm: u32, summary: &[u8]) -> Taken
+pub fn send(state: &mut [u8; 14304], farm: u32, summary: &[u8]) -> Result<(), Refusal>
     ensures answer { taken_answer result ≡ tell (send_outcome (station_of state.old) farm summary.now) }
     ensures state { state.new ≡ send_after state.old farm summary.now }
 {
@@ -162,42 +141,38 @@ pub fn send(state: &mut [u8; 14304], farm: u32, summary: &[u8]) -> Taken
 }
 
 // Bytes handed out: question 12.
-fn hand_out(b: &[u8], out: &mut [u8]) -> Written
+fn hand_out(b: &[u8], out: &mut [u8]) -> Result<usize, Refusal>
     ensures { Answers (written (length out.old) b.now) out.old out.new result }
 {
     let n = b.len();
     if out.len() < n {
-        return Written::Refused(12);
+        return Err(Refusal::BufferTooShort);
     }
     store(out, 0, b);
-    Written::Bytes(n)
+    Ok(n)
 }
 
 // An end of day, on the state as a slice.
-fn end_in(state: &mut [u8], farm: u32, out: &mut [u8]) -> Written
+fn end_in(state: &mut [u8], farm: u32, out: &mut [u8]) -> Result<usize, Refusal>
     requires { length state.old ≡ 14304 }
-    ensures answer { written_answer result ≡ length_answered (end_outcome (station_of state.old) farm (length out.old)) }
+    ensures answer { answered result ≡ length_answered (end_outcome (station_of state.old) farm (length out.old)) }
     ensures buffer { out.new ≡ buffer_after (end_outcome (station_of state.old) farm (length out.old)) out.old }
     ensures state { state.new ≡ end_after state.old farm (length out.old) }
 {
     if 7 < farm {
-        return Written::Refused(20);
+        return Err(Refusal::NoSuchFarm);
     }
     let at = SLOT * (farm as usize);
     let end = held_end(&*state, at);
-    let Judged::Summary(p) = judge::judge(&state[at..end]) else {
-        return Written::Refused(5);
-    };
-    let Written::Bytes(length) = hand_out(&state[at..end], out) else {
-        return Written::Refused(12);
-    };
+    let p = judge::judge(&state[at..end])?;
+    let length = hand_out(&state[at..end], out)?;
     make_blank(state, farm as usize, p.mode);
-    Written::Bytes(length)
+    Ok(length)
 }
 
 // A farm's end of day: questions 20 and 12. Its summary is handed out, and it is blank then. (5 only where a slot that no call wrote holds no summary.)
-pub fn end_of_day(state: &mut [u8; 14304], farm: u32, out: &mut [u8]) -> Written
-    ensures answer { written_answer result ≡ length_answered (end_outcome (station_of state.old) farm (length out.old)) }
+pub fn end_of_day(state: &mut [u8; 14304], farm: u32, out: &mut [u8]) -> Result<usize, Refusal>
+    ensures answer { answered result ≡ length_answered (end_outcome (station_of state.old) farm (length out.old)) }
     ensures buffer { out.new ≡ buffer_after (end_outcome (station_of state.old) farm (length out.old)) out.old }
     ensures state { state.new ≡ end_after state.old farm (length out.old) }
 {
@@ -209,21 +184,19 @@ fn make_all_blank(state: &mut [u8], mode: u16)
     requires { length state.old ≡ 14304 }
     ensures { state.new ≡ state_of (fresh_station mode) }
 {
-    let mut farm: usize = 0;
-    while farm < 8 {
+    for farm in 0..8 {
         make_blank(state, farm, mode);
-        farm += 1;
     }
 }
 
 // A state made fresh in a mode: question 1.
-pub fn fresh(mode: u32, state: &mut [u8; 14304]) -> Taken
+pub fn fresh(mode: u32, state: &mut [u8; 14304]) -> Result<(), Refusal>
     ensures answer { taken_answer result ≡ tell (fresh_outcome mode) }
     ensures state { state.new ≡ fresh_after state.old mode }
 {
     if figure::in_use(mode) {
         make_all_blank(state, mode as u16);
-        return Taken::Yes;
+        return Ok(());
     }
-    Taken::Refused(1)
+    Err(Refusal::Mode)
 }

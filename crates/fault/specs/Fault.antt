@@ -1,11 +1,10 @@
--- A fault as a byte. Definitions only.
-use Rattle.std.specs.Prelude.{cond, ℕ, ltb}
+-- A fault as a verdict. Definitions only.
+use Rattle.std.specs.Prelude.{Option, Some, None}
 use Rattle.hill.specs.Verdict.{Verdict, pass, refuse}
-
--- No question has this number, the highest byte.
-abbrev pub no_fault : ℕ
-no_fault = 255
+use Rattle.gate.specs.Answers.{number_of}
+use Rattle.gate.specs.declared.Refusal.{Refusal}
 
 -- The number of the question that gets a "no", or none.
-unfoldable pub verdict_of : ℕ → Verdict
-verdict_of f = cond (ltb f no_fault) (refuse f) pass
+abbrev pub verdict_of : Option Refusal → Verdict
+verdict_of None = pass
+verdict_of (Some r) = refuse (number_of r)

@@ -1,3 +1,3 @@
--- What a fault as a byte means, and laws of it.
+-- What a fault means, and laws of it.
 pub mod Fault
 pub mod Laws

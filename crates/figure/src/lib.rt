@@ -43,12 +43,10 @@ fn sum_held(a: Held, b: Held) -> Held
     requires { size_held a + size_held b < 2 ^ 63 }
     ensures { result ≡ lift ◌+ℤ◌ a b }
 {
-    match a {
-        Held::Nothing => b,
-        Held::Figure(x) => match b {
-            Held::Nothing => Held::Figure(x),
-            Held::Figure(y) => Held::Figure(number::sum(x, y)),
-        },
+    match (a, b) {
+        (Held::Nothing, _) => b,
+        (_, Held::Nothing) => a,
+        (Held::Figure(x), Held::Figure(y)) => Held::Figure(number::sum(x, y)),
     }
 }
 
@@ -84,17 +82,18 @@ fn moved_by(h: Held, v: i64) -> Held
 
 // ---- questions about a mode and its numbers
 
+#[tactic(auto, unfolding(crate::specs::Mode::mode_in_use))]
 pub fn in_use(mode: u32) -> bool
     ensures { result ≡ mode_in_use mode }
 {
-    (mode == 1) | (mode == 2) | (mode == 4) | (mode == 5)
+    matches!(mode, 1 | 2 | 4 | 5)
 }
 
 // Whether "nothing held" is no number in the mode.
 pub fn stores_nothing(mode: u16) -> bool
     ensures { result ≡ stores_nothing mode }
 {
-    (mode == 2) | (mode == 5)
+    matches!(mode, 2 | 5)
 }
 
 // Whether x stands for a figure.
@@ -112,7 +111,7 @@ fn size_held(h: Held) -> u64
 {
     match h {
         Held::Nothing => 0,
-        Held::Figure(x) => number::magnitude(x),
+        Held::Figure(x) => x.unsigned_abs(),
     }
 }
 
@@ -125,7 +124,7 @@ pub fn size(mode: u16, x: i64) -> u64
     }
     match mode {
         4 => 0,
-        _ => number::magnitude(x),
+        _ => x.unsigned_abs(),
     }
 }
 
@@ -149,7 +148,7 @@ fn combine_stamps(a: i64, b: i64) -> i64
     requires { Combines (mode_of 4) a b }
     ensures { result ≡ combined (mode_of 4) a b }
 {
-    number::from_u32(std::num::wrapping_add_u32(number::to_u32(a), number::to_u32(b)))
+    i64::from(number::to_u32(a).wrapping_add(number::to_u32(b)))
 }
 
 fn combine_eaten(a: i64, b: i64) -> i64
@@ -177,34 +176,36 @@ fn clamped_sum(a: i64, b: i64, low: i64, high: i64) -> i64
     requires { unsigned_abs a + unsigned_abs b < 2 ^ 63 }
     ensures { result ≡ clamp (a +ℤ b) low high }
 {
-    number::clamp(number::sum(a, b), low, high)
+    number::sum(a, b).max(low).min(high)
 }
 
 fn stamp(value: i32, held: u32) -> u32
     ensures { result ≡ wrap (value +ℤ pos (31 * held)) }
 {
-    std::num::wrapping_add_u32(number::bits_32(value), number::wrapping_mul(31, held))
+    value
+        .cast_unsigned()
+        .wrapping_add(number::wrapping_mul(31, held))
 }
 
 fn through_net(value: i32, held: i64) -> i64
     requires { Passes (mode_of 1) value held }
     ensures { result ≡ value +ℤ held }
 {
-    number::sum(number::widen(value), held)
+    number::sum(i64::from(value), held)
 }
 
 fn through_heaviest(value: i32, held: i64) -> i64
     requires { Passes (mode_of 2) value held }
     ensures { result ≡ line_of value (read_held held) }
 {
-    line(number::widen(value), read_held(held))
+    line(i64::from(value), read_held(held))
 }
 
 fn through_stamp(value: i32, floor: i32, ceiling: i32, held: i64) -> i64
     requires { Passes (mode_of 4) value held }
     ensures { result ≡ passed (mode_of 4) (amounts value floor ceiling) held }
 {
-    number::from_u32(stamp(value, number::to_u32(held)))
+    i64::from(stamp(value, number::to_u32(held)))
 }
 
 // A bound of a record that holds h. One that holds nothing is not bound: its value stands for both bounds, and no branch is needed.
@@ -232,9 +233,9 @@ fn through_eaten(value: i32, floor: i32, ceiling: i32, held: i64) -> i64
     ensures { result ≡ eaten_of (amounts value floor ceiling) (read_held held) }
 {
     eaten(
-        number::widen(value),
-        number::widen(floor),
-        number::widen(ceiling),
+        i64::from(value),
+        i64::from(floor),
+        i64::from(ceiling),
         read_held(held),
     )
 }

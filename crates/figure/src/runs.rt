@@ -12,7 +12,7 @@ fn level_net(value: i32, floor: i32, ceiling: i32, before: i64, behind: i64) -> 
     requires { Levels (mode_of 1) value before behind }
     ensures { result ≡ level_run (mode_of 1) (amounts value floor ceiling) before behind }
 {
-    let a = number::sum(number::widen(value), number::sum(before, behind));
+    let a = number::sum(i64::from(value), number::sum(before, behind));
     Run {
         first: a,
         second: 0,
@@ -25,7 +25,7 @@ fn level_heaviest(value: i32, floor: i32, ceiling: i32, before: i64, behind: i64
     requires { Levels (mode_of 2) value before behind }
     ensures { result ≡ level_run (mode_of 2) (amounts value floor ceiling) before behind }
 {
-    let v = number::widen(value);
+    let v = i64::from(value);
     let other = read_held(combine_heaviest(before, behind));
     let z = line(v, other);
     let a = store_held(moved_by(other, v));
@@ -54,9 +54,9 @@ fn level_eaten(value: i32, floor: i32, ceiling: i32, before: i64, behind: i64) -
     requires { Levels (mode_of 5) value before behind }
     ensures { result ≡ level_run (mode_of 5) (amounts value floor ceiling) before behind }
 {
-    let v = number::widen(value);
-    let low = number::widen(floor);
-    let high = number::widen(ceiling);
+    let v = i64::from(value);
+    let low = i64::from(floor);
+    let high = i64::from(ceiling);
     let sides = sum_held(read_held(before), read_held(behind));
     let added = addend_of(sides);
     // Nothing inside: a record with nothing at its sides holds none, and is not bound.
@@ -123,16 +123,12 @@ fn compose_stamp(outer: Run, inner: Run) -> Run
     requires { Composes (mode_of 4) outer inner }
     ensures { result ≡ run_after (mode_of 4) outer inner }
 {
-    let a = outer.first;
-    let b = outer.second;
-    let c = inner.first;
-    let d = inner.second;
-    let m = number::to_u32(a);
-    let q = number::to_u32(b);
-    let n = number::to_u32(c);
-    let p = number::to_u32(d);
-    let first = number::from_u32(number::wrapping_mul(m, n));
-    let second = number::from_u32(std::num::wrapping_add_u32(number::wrapping_mul(m, p), q));
+    let m = number::to_u32(outer.first);
+    let q = number::to_u32(outer.second);
+    let n = number::to_u32(inner.first);
+    let p = number::to_u32(inner.second);
+    let first = i64::from(number::wrapping_mul(m, n));
+    let second = i64::from(number::wrapping_mul(m, p).wrapping_add(q));
     Run {
         first,
         second,

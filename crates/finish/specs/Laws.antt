@@ -1,7 +1,8 @@
 -- Finish by the head of the summary. Assumes nothing.
-use Rattle.std.specs.Prelude.{◌≡◌, false, List, ℕ, ◌≤◌}
+use Rattle.std.specs.Prelude.{◌≡◌, false, List, ℕ}
 use Rattle.std.proofs.Common.{sym, ap, ◌∙◌}
 use Rattle.gate.specs.Outcome.{refused}
+use Rattle.gate.specs.Answers.{number_of}
 use Rattle.hill.specs.Verdict.{ends}
 use Rattle.hill.specs.Finish.{outcome}
 use Rattle.modes.specs.FourModes.{store_held}
@@ -9,7 +10,7 @@ use Rattle.summary.specs.Judge.{mode_at, start_at, end_at, middle_at}
 use Rattle.summary.specs.Decide.{is_summary}
 use Rattle.summary.proofs.FinishBytes.{finish-blank, finish-spoilt, finish-hill}
 use Rattle.summary.specs.Outcomes.{finish_outcome}
-use Rattle.judge.specs.Laws.{Judges, blank-is, spoilt-is, hill-is, held_back}
+use Rattle.judge.specs.Laws.{Judges, blank-is, spoilt-is, hill-is, held_back, fault-number}
 use Rattle.judge.specs.declared.SpoiltHead.{SpoiltHead}
 use Rattle.judge.specs.declared.HillHead.{HillHead}
 use Rattle.judge.specs.declared.Piece.{Piece}
@@ -24,12 +25,8 @@ module _ (b : List ℕ) where
     pub is-blank : p.head ≡ Blank → refused 10 ≡ finish_outcome b
     is-blank q = sym (finish-blank b (blank-is j q))
 
-    module _ (h : SpoiltHead) (q : p.head ≡ Spoilt h) where
-      pub fault-small : h.fault ≤ 9
-      fault-small = let v = spoilt-is j h q in rw v.1 v.0.fault-high
-
-      pub is-spoilt : refused h.fault ≡ finish_outcome b
-      is-spoilt = let v = spoilt-is j h q in rw v.1 (sym (finish-spoilt b v.0))
+    pub is-spoilt : (h : SpoiltHead) → p.head ≡ Spoilt h → refused (number_of h.fault) ≡ finish_outcome b
+    is-spoilt h q = let v = spoilt-is j h q in rw v.1 (ap refused (fault-number v.0) ∙ sym (finish-spoilt b v.0))
 
     pub is-hill : (h : HillHead) → p.head ≡ Hill h → outcome (ends h.start h.end) (store_held h.middle) ≡ finish_outcome b
     is-hill h q =

@@ -5,35 +5,30 @@ ghost use Rattle.std.specs.Prelude.{◌≡◌};
 ghost use Rattle.hill.specs.Verdict.{ends};
 ghost use Rattle.hill.specs.Finish.{outcome};
 ghost use Rattle.modes.specs.FourModes.{store_held};
-ghost use Rattle.gate.specs.Answers.{finished_answer};
+ghost use Rattle.gate.specs.Answers.{answered};
 ghost use Rattle.summary.specs.Outcomes.{finish_outcome};
 
-use gate::Finished;
-use judge::{Head, HillHead, Judged};
+use gate::Refusal;
+use judge::{Head, HillHead};
 
 // Question 11 of a hill, and its middle value.
-fn finish_hill(h: HillHead) -> Finished
-    ensures { finished_answer result ≡ outcome (ends h.start h.end) (store_held h.middle) }
+fn finish_hill(h: HillHead) -> Result<i64, Refusal>
+    ensures { answered result ≡ outcome (ends h.start h.end) (store_held h.middle) }
 {
-    let fault = fault::ends(h.start, h.end);
-    if fault < fault::NONE {
-        return Finished::Refused(fault);
+    match fault::ends(h.start, h.end) {
+        Some(fault) => Err(fault),
+        None => Ok(figure::store_held(h.middle)),
     }
-    let middle = h.middle;
-    Finished::Figure(figure::store_held(middle))
 }
 
 // The figure of the log whose summary this is, or the lowest of questions 5 and 7 to 11 that gets a "no".
-pub fn finish(summary: &[u8]) -> Finished
-    ensures { finished_answer result ≡ finish_outcome summary.now }
+pub fn finish(summary: &[u8]) -> Result<i64, Refusal>
+    ensures { answered result ≡ finish_outcome summary.now }
 {
-    let Judged::Summary(p) = judge::judge(summary) else {
-        return Finished::Refused(5);
-    };
-    let head = p.head;
-    match head {
-        Head::Blank => Finished::Refused(10),
-        Head::Spoilt(s) => Finished::Refused(s.fault as u8),
+    let p = judge::judge(summary)?;
+    match p.head {
+        Head::Blank => Err(Refusal::NoRecord),
+        Head::Spoilt(s) => Err(s.fault),
         Head::Hill(h) => finish_hill(h),
     }
 }

@@ -11,6 +11,7 @@ use Rattle.number.specs.Bytes.{bytes_of, put_at}
 use Rattle.number.specs.Laws.{length-bytes_of}
 use Rattle.record.specs.Record.{read_of}
 use Rattle.record.specs.declared.Fields.{Fields}
+use Rattle.record.specs.declared.Kind.TheVariants as kind
 use Rattle.modes.specs.FourModes.{Amounts}
 use Rattle.hill.specs.Log.{Record, opening, closing, depth as depth_of, start_level, opens}
 use Rattle.hill.specs.Closing.{at}
@@ -157,13 +158,13 @@ module _ (xs : List (Record Amounts)) (depth : ℕ) where
 -- ---- one record, as the code has it
 
 module _ (f : Fields) {depth number : ℕ} {out : List ℕ} (xs : List (Record Amounts)) (before : List ℕ) (k : ℕ) (i : Numbering xs depth before k number out) (inside : k < length xs) (here : at xs k ≡ record_of f) where
-  pub write-close : (f.kind ≡ 1 → ⊥) → Numbering xs depth before (suc k) number out
+  pub write-close : f.kind ≡ kind.Close → Numbering xs depth before (suc k) number out
   write-close o = numbering-close xs depth i inside (here ∙ is-close f o)
 
-  pub write-deeper : f.kind ≡ 1 → depth < f.depth → Numbering xs depth before (suc k) (number + 1) out
+  pub write-deeper : f.kind ≡ kind.Open → depth < f.depth → Numbering xs depth before (suc k) (number + 1) out
   write-deeper o l = numbering-deeper xs depth i inside (here ∙ is_open_lem f o) l
 
-  pub write-open : {out' : List ℕ} → f.kind ≡ 1 → f.depth ≤ depth → 4 * depth + 4 ≤ length out → out' ≡ put_at 4 out (4 * f.depth) number → Numbering xs depth before (suc k) (number + 1) out'
+  pub write-open : {out' : List ℕ} → f.kind ≡ kind.Open → f.depth ≤ depth → 4 * depth + 4 ≤ length out → out' ≡ put_at 4 out (4 * f.depth) number → Numbering xs depth before (suc k) (number + 1) out'
   write-open o l room s = numbering-open xs depth i inside (here ∙ is_open_lem f o) l room s
 
 -- ---- the pass over a log that was let through, up to the end of the line

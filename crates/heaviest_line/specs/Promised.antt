@@ -10,12 +10,11 @@ use Rattle.heaviest_line.specs.Search.{IsEnd}
 
 -- What an open and a close leave of the search.
 abbrev pub after_open : Search → Search
-after_open s = record { opened = s.opened + 1; opens = true; upto = s.upto; depth = s.depth; sum = s.sum }
+after_open s = record s { opened = s.opened + 1; opens = true }
 
 abbrev pub after_close : Search → (depth : ℕ) (sum : ℤ) → Search
 after_close s depth sum =
-    cond (s.opens && lt_z s.sum sum) (record { opened = s.opened; opens = false; upto = s.opened; depth = depth; sum = sum })
-    (record { opened = s.opened; opens = false; upto = s.upto; depth = s.depth; sum = s.sum })
+    cond (s.opens && lt_z s.sum sum) (record s { opens = false; upto = s.opened; depth = depth; sum = sum }) (record s { opens = false })
 
 -- A value is added to what stands at a depth.
 pub record AddsAt (depth : ℕ) (value : ℤ) (sums : List ℤ) : Type 0 where

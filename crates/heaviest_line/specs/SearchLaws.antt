@@ -10,6 +10,7 @@ use Rattle.record.specs.Record.{read_of}
 use Rattle.record.proofs.Laws.{sound, within-size}
 use Rattle.record.proofs.RangeLaws.{range-parts}
 use Rattle.record.specs.declared.Fields.{Fields}
+use Rattle.record.specs.declared.Kind.TheVariants as kind
 use Rattle.modes.specs.FourModes.{Amounts, limit, nothing}
 use Rattle.hill.specs.Log.{Record, opening, closing, depth, start_level, end_level, opens}
 use Rattle.hill.specs.Closing.{at, OpensAt}
@@ -221,10 +222,10 @@ module _ (xs : List (Record Amounts)) where
       searched-close = go s.opens refl (lt_z s.sum (get_or sums (d + 1) (pos 0))) refl
         where
           taken : Search
-          taken = record { opened = s.opened; opens = false; upto = s.opened; depth = d; sum = get_or sums (d + 1) (pos 0) }
+          taken = record s { opens = false; upto = s.opened; depth = d; sum = get_or sums (d + 1) (pos 0) }
 
           kept : Search
-          kept = record { opened = s.opened; opens = false; upto = s.upto; depth = s.depth; sum = s.sum }
+          kept = record s { opens = false }
 
           go : (t : Bool) → s.opens ≡ t → (u : Bool) → lt_z s.sum (get_or sums (d + 1) (pos 0)) ≡ u → Searched xs (suc k) (cond (t && u) taken kept) sums
           go true f true h = closed_after taken refl refl (inr (end-here f taken refl refl refl h i.best))
@@ -267,10 +268,10 @@ module _ (xs : List (Record Amounts)) where
 -- ---- one record, as the code has it: what it adds and compares is given by equations
 
 module _ {s : Search} (f : Fields) {sums : List ℤ} (b : CanNote s f sums) (xs : List (Record Amounts)) (k : ℕ) (i : Searched xs k s sums) (inside : k < length xs) (here : at xs k ≡ record_of f) where
-  pub note-open : f.kind ≡ 1 → {r : Search} {sums' : List ℤ} {v : ℤ} → v ≡ f.value → (r ≡ after_open s) × (sums' ≡ set sums (f.depth + 1) (get_or sums f.depth (pos 0) +ℤ v)) → Searched xs (suc k) r sums'
+  pub note-open : f.kind ≡ kind.Open → {r : Search} {sums' : List ℤ} {v : ℤ} → v ≡ f.value → (r ≡ after_open s) × (sums' ≡ set sums (f.depth + 1) (get_or sums f.depth (pos 0) +ℤ v)) → Searched xs (suc k) r sums'
   note-open o ev e = rw (e.0, e.1, ev) (searched-open xs i inside (here ∙ is_open_lem f o) b.adds.deep b.adds.value-light)
 
-  pub note-close : (f.kind ≡ 1 → ⊥) → {r : Search} {z : ℤ} → z ≡ get_or sums (f.depth + 1) (pos 0) → r ≡ after_close s f.depth z → Searched xs (suc k) r sums
+  pub note-close : f.kind ≡ kind.Close → {r : Search} {z : ℤ} → z ≡ get_or sums (f.depth + 1) (pos 0) → r ≡ after_close s f.depth z → Searched xs (suc k) r sums
   note-close o ez e = rw (e, ez) (searched-close xs i inside (here ∙ is-close f o) b.adds.deep)
 
 -- ---- the pass over a log that was let through

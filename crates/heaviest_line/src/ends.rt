@@ -9,11 +9,11 @@ ghost use Rattle.chunk.specs.Chunk.{record_of, IsWellFormed};
 ghost use Rattle.heaviest_line.specs.Promised.{AddsAt, CanNote, after_open, after_close};
 ghost use Rattle.heaviest_line.specs.Search.{Searched, IsEnd};
 
-use record::{Fields, Read};
+use record::{Fields, Kind};
 
 // What the pass keeps: how many records are opened so far, and whether the last one read is an open; and of the heaviest end so far, how many are opened up
 // to it, its depth, and what the values from the root to it add to.
-#[derive(Clone, Copy)]
+#[derive(Clone, Copy, Debug, PartialEq, Eq)]
 pub struct Search {
     pub opened: u32,
     pub opens: bool,
@@ -31,13 +31,11 @@ fn after_open(s: Search, depth: usize, value: i32, sums: &mut [i64; 65]) -> Sear
     requires opened_bound { s.opened ≤ 100000 }
     ensures { (result ≡ after_open s) × (sums.new ≡ set sums.old (depth + 1) (get_or sums.old depth (pos 0) +ℤ value)) }
 {
-    sums[depth + 1] = number::sum(sums[depth], number::widen(value));
+    sums[depth + 1] = number::sum(sums[depth], i64::from(value));
     Search {
         opened: s.opened + 1,
         opens: true,
-        upto: s.upto,
-        depth: s.depth,
-        sum: s.sum,
+        ..s
     }
 }
 
@@ -54,20 +52,14 @@ fn after_close(s: Search, depth: u16, sum: i64) -> Search
 {
     if is_heaviest(s.opens, s.sum, sum) {
         return Search {
-            opened: s.opened,
             opens: false,
             upto: s.opened,
-            depth: depth,
-            sum: sum,
+            depth,
+            sum,
+            ..s
         };
     }
-    Search {
-        opened: s.opened,
-        opens: false,
-        upto: s.upto,
-        depth: s.depth,
-        sum: s.sum,
-    }
+    Search { opens: false, ..s }
 }
 
 // One record more.
@@ -76,10 +68,10 @@ fn note(s: Search, f: Fields, sums: &mut [i64; 65]) -> Search
     ensures { (xs : List (Record Amounts)) (k : ℕ) → Searched xs k s sums.old → k < length xs → at xs k ≡ record_of f → Searched xs (suc k) result sums.new }
 {
     let depth = f.depth as usize;
-    if f.kind == 1 {
-        return after_open(s, depth, f.value, sums);
+    match f.kind {
+        Kind::Open => after_open(s, depth, f.value, sums),
+        Kind::Close => after_close(s, f.depth, sums[depth + 1]),
     }
-    after_close(s, f.depth, sums[depth + 1])
 }
 
 // The end of the line of a log that was let through, so that the reader cannot refuse.
@@ -96,13 +88,13 @@ pub fn find_end(log: &[u8]) -> Search
         sum: NO_SUM,
     };
     let mut rest = log;
+    // The rest is handed on as a chunk of its own, the form that document 01 asks for, so no iterator goes over the records.
     while 0 < rest.len() {
-        let Read::Record(f) = record::read_first(rest) else {
+        let Some(f) = record::read_first(rest) else {
             return s;
         };
-        let length = f.length as usize;
         s = note(s, f, &mut sums);
-        rest = &rest[length..];
+        rest = &rest[f.length as usize..];
     }
     s
 }

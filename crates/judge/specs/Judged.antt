@@ -1,6 +1,6 @@
 -- What `judge` answers of bytes, by question 5 and by where the numbers stand. Definitions only.
 use Rattle.std.specs.Prelude.{cond, List, ℕ, eqb, ℤ}
-use Rattle.gate.specs.Outcome.{Outcome, refused, granted, question}
+use Rattle.gate.specs.Outcome.{Outcome, granted, question}
 use Rattle.modes.specs.FourModes.{read_held}
 use Rattle.figure.specs.Mode.{stores_nothing}
 use Rattle.modes.specs.declared.Held.{Held}
@@ -12,13 +12,12 @@ use Rattle.judge.specs.declared.HillHead.{HillHead}
 use Rattle.judge.specs.declared.Head.{Head}
 use Rattle.judge.specs.declared.Head.TheVariants.{Blank, Spoilt, Hill}
 use Rattle.judge.specs.declared.Piece.{Piece}
-use Rattle.judge.specs.declared.Judged.{Judged}
-use Rattle.judge.specs.declared.Judged.TheVariants.{Summary, NotOne}
+use Rattle.gate.specs.declared.Refusal.{Refusal}
+use Rattle.gate.specs.declared.Refusal.TheVariants as no
 
--- What the answer of `judge` says, in document 01's numbers: the summary, or refusal 5, "Is each given piece exactly one summary?"
-abbrev pub judged_answer : Judged → Outcome Piece
-judged_answer (Summary p) = granted p
-judged_answer NotOne = refused 5
+-- The fault of a spoilt summary, which names it by its number: 7, 8 or 9.
+unfoldable pub fault_named : ℕ → Refusal
+fault_named n = cond (eqb n 7) no.LevelGap (cond (eqb n 8) no.LevelZero no.TooManyOpened)
 
 -- "In mode 2 it is no number, and is stored as -2^63", and so it is in mode 5.
 unfoldable pub held_in : ℕ → ℤ → Held
@@ -26,7 +25,7 @@ held_in m z = cond (stores_nothing m) (read_held z) (Figure z)
 
 -- The numbers at their places.
 abbrev pub spoilt_head_at : List ℕ → SpoiltHead
-spoilt_head_at b = record { fault = fault_at b; start = spoilt_start_at b; end = end_at b; opened = opened_at b }
+spoilt_head_at b = record { fault = fault_named (fault_at b); start = spoilt_start_at b; end = end_at b; opened = opened_at b }
 
 abbrev pub hill_head_at : List ℕ → HillHead
 hill_head_at b = record { start = start_at b; peak = peak_at b; end = end_at b; opened = opened_at b; middle = held_in (mode_at b) (middle_at b) }

@@ -1,24 +1,28 @@
 -- What a caller of `judge` may conclude from its answer. Assumes nothing.
-use Rattle.std.specs.Prelude.{◌≡◌, refl, Bool, true, false, cond, List, ℕ, ◌≤◌, ℤ, length}
-use Rattle.std.proofs.Common.{sym, ap, ◌∙◌, subst, arith}
+use Rattle.std.specs.Prelude.{◌≡◌, refl, Bool, true, false, cond, List, ℕ, ◌≤◌, eqb, ℤ, length, Result, Ok, Err}
+use Rattle.std.proofs.Common.{sym, ap, ◌∙◌, subst, arith, eqb-true}
+use Rattle.std.proofs.lemmas.Bool.{eqb-false}
 use borrow.Author.Tests.{ne_eqb}
 use Rattle.gate.specs.Outcome.{refused, granted}
+use Rattle.gate.specs.Answers.{number_of, answered}
+use Rattle.gate.proofs.Laws.{not-result, one_number}
+use Rattle.gate.specs.declared.Refusal.{Refusal}
 use Rattle.modes.specs.FourModes.{read_held, store_held}
 use Rattle.figure.specs.Mode.{stores_nothing}
 use Rattle.modes.proofs.StoreLaws.{held-stored}
 use Rattle.modes.specs.declared.Held.TheVariants.{Figure}
-use Rattle.summary.specs.Judge.{kind_at, mode_at, HasLayout, IsSpoilt, IsHill, IsSummary, is_blank, is_spoilt, is_hill}
+use Rattle.gate.specs.declared.Refusal.TheVariants as no
+use Rattle.summary.specs.Judge.{kind_at, mode_at, fault_at, HasLayout, IsSpoilt, IsHill, IsSummary, is_blank, is_spoilt, is_hill}
 use Rattle.summary.specs.Decide.{layout_fits, is_summary}
 use Rattle.summary.proofs.DecideLaws.{decide-summary}
-use Rattle.judge.specs.Judged.{judged_answer, held_in, spoilt_head_at, hill_head_at, head_at, piece_at, judged_of}
+use Rattle.judge.specs.Judged.{held_in, fault_named, spoilt_head_at, hill_head_at, head_at, piece_at, judged_of}
+use Rattle.judge.specs.Numbers.{Fits, numbers_of, AllInBounds}
 use Rattle.judge.specs.Laid.{is_spoilt_test, is_hill_test, Laid}
 use Rattle.judge.specs.declared.SpoiltHead.{SpoiltHead}
 use Rattle.judge.specs.declared.HillHead.{HillHead}
 use Rattle.judge.specs.declared.Head.{Head}
 use Rattle.judge.specs.declared.Head.TheVariants.{Blank, Spoilt, Hill}
 use Rattle.judge.specs.declared.Piece.{Piece}
-use Rattle.judge.specs.declared.Judged.{Judged}
-use Rattle.judge.specs.declared.Judged.TheVariants.{Summary, NotOne}
 
 -- ---- what is held
 
@@ -87,30 +91,29 @@ pub record Judges (b : List ℕ) (p : Piece) : Type 0 where
 pub judged-mode : {b : List ℕ} {p : Piece} → Judges b p → p.mode ≡ mode_at b
 judged-mode j = ap (λ (x : Piece). x.mode) j.piece
 
-module _ (b : List ℕ) (r : Judged) (e : judged_answer r ≡ judged_of b) where
-  pub judges : (p : Piece) → r ≡ Summary p → Judges b p
+module _ (b : List ℕ) (r : Result Piece Refusal) (e : answered r ≡ judged_of b) where
+  pub judges : (p : Piece) → r ≡ Ok p → Judges b p
   judges p q = go (is_summary b) refl
     where
       go : (t : Bool) → is_summary b ≡ t → Judges b p
       go true y = record {
         test = y;
         summary = (decide-summary b).from y;
-        piece = let f : granted p ≡ granted (piece_at b) = sym (ap judged_answer q) ∙ e ∙ judged-yes b y in cc;
+        piece = let f : granted p ≡ granted (piece_at b) = sym (ap answered q) ∙ e ∙ judged-yes b y in cc;
       }
       go false n =
-          let f : granted p ≡ refused 5 = sym (ap judged_answer q) ∙ e ∙ judged-no b n in
+          let f : granted p ≡ refused 5 = sym (ap answered q) ∙ e ∙ judged-no b n in
           let z : ◌≡◌ {A = ℕ} 0 1 = cc in
           absurd (omega arith)
 
-  pub judges-not : r ≡ NotOne → is_summary b ≡ false
-  judges-not q = go (is_summary b) refl
+  pub judges-not : (x : Refusal) → r ≡ Err x → (is_summary b ≡ false) × (number_of x ≡ 5)
+  judges-not x q = go (is_summary b) refl
     where
-      go : (t : Bool) → is_summary b ≡ t → t ≡ false
+      go : (t : Bool) → is_summary b ≡ t → (t ≡ false) × (number_of x ≡ 5)
       go true y =
-          let f : refused 5 ≡ granted (piece_at b) = sym (ap judged_answer q) ∙ e ∙ judged-yes b y in
-          let z : ◌≡◌ {A = ℕ} 0 1 = cc in
-          absurd (omega arith)
-      go false n = refl
+          let f : refused (number_of x) ≡ granted (piece_at b) = sym (ap answered q) ∙ e ∙ judged-yes b y in
+          absurd (not-result (number_of x) (piece_at b) f)
+      go false n = (refl, one_number (sym (ap answered q) ∙ e ∙ judged-no b n))
 
 -- by the head
 data Said (b : List ℕ) : Head → Type 0 where
@@ -173,3 +176,27 @@ pub hill-laid : {b : List ℕ} → IsHill b → Laid b
 hill-laid v =
     let n = v.layout.length-fits in
     record { levels = record { long = omega arith; start-high = v.start-high; end-high = v.end-high; peak-start = v.peak-start; peak-end = v.peak-end }; whole = omega arith }
+
+-- ---- the numbers of a summary
+
+pub summary-fits : (b : List ℕ) → IsSummary b → Fits (head_at b)
+summary-fits b (is_blank f) = rw (head-blank b f.kind_fits) tt
+summary-fits b (is_spoilt v) = rw (head-spoilt b v.layout.kind_fits) record { start-high = v.start-high; end-high = v.end-high; opened-few = v.opened-few }
+summary-fits b (is_hill v) =
+    rw (head-hill b (λ e. omega (arith, v.layout.kind_fits)) (λ e. omega (arith, v.layout.kind_fits)))
+    record { start-high = v.start-high; end-high = v.end-high; peak-high = omega (arith, v.peak-start, v.start-high); opened-few = omega (arith, v.opened-few) }
+
+pub in-bounds : (h : Head) → Fits h → AllInBounds (numbers_of h)
+in-bounds Blank f = tt
+in-bounds (Spoilt h) f = record { start-high = f.start-high; peak-high = omega arith; end-high = f.end-high; opened-few = f.opened-few }
+in-bounds (Hill h) f = record { start-high = f.start-high; peak-high = f.peak-high; end-high = f.end-high; opened-few = f.opened-few }
+
+-- the fault that a spoilt summary names has the number that stands there
+pub fault-number : {b : List ℕ} → IsSpoilt b → number_of (fault_named (fault_at b)) ≡ fault_at b
+unfolding fault_named
+fault-number {b} v = go (eqb (fault_at b) 7) (eqb (fault_at b) 8) refl refl
+  where
+    go : (s t : Bool) → eqb (fault_at b) 7 ≡ s → eqb (fault_at b) 8 ≡ t → number_of (cond s no.LevelGap (cond t no.LevelZero no.TooManyOpened)) ≡ fault_at b
+    go true t e f = sym (eqb-true (fault_at b) 7 e)
+    go false true e f = sym (eqb-true (fault_at b) 8 f)
+    go false false e f = Prim.grind (arith, v.fault-low, v.fault-high, eqb-false (fault_at b) 7 e, eqb-false (fault_at b) 8 f)

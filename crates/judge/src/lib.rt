@@ -16,7 +16,9 @@ ghost use Rattle.summary.specs.Decide.{
   values_fit,
   is_summary,
 };
-ghost use Rattle.judge.specs.Judged.{held_in, spoilt_head_at, hill_head_at, head_at, judged_answer, judged_of};
+ghost use Rattle.gate.specs.Answers.{answered};
+ghost use Rattle.judge.specs.Judged.{held_in, fault_named, spoilt_head_at, hill_head_at, head_at, judged_of};
+ghost use Rattle.judge.specs.Numbers.{Fits, numbers_of};
 ghost use Rattle.judge.specs.Laid.{
   is_spoilt_test,
   is_hill_test,
@@ -32,18 +34,19 @@ ghost use Rattle.judge.specs.Laid.{
 };
 
 use figure::Held;
+use gate::Refusal;
 
 // What a spoilt summary says.
-#[derive(Clone, Copy)]
+#[derive(Clone, Copy, Debug, PartialEq, Eq)]
 pub struct SpoiltHead {
-    pub fault: u16,
+    pub fault: Refusal,
     pub start: u16,
     pub end: u16,
     pub opened: u32,
 }
 
 // What a hill says before and between its slopes.
-#[derive(Clone, Copy)]
+#[derive(Clone, Copy, Debug, PartialEq, Eq)]
 pub struct HillHead {
     pub start: u16,
     pub peak: u16,
@@ -54,7 +57,7 @@ pub struct HillHead {
 
 // A summary is one of three cases: a chunk with no record, one with a fault, or a hill, whose slopes stand beside it: in the bytes where it is read,
 // in arrays where it is written.
-#[derive(Clone, Copy)]
+#[derive(Clone, Copy, Debug, PartialEq, Eq)]
 pub enum Head {
     Blank,
     Spoilt(SpoiltHead),
@@ -62,17 +65,21 @@ pub enum Head {
 }
 
 // One summary, but for a hill's slopes.
-#[derive(Clone, Copy)]
+#[derive(Clone, Copy, Debug, PartialEq, Eq)]
 pub struct Piece {
     pub mode: u16,
     pub head: Head,
 }
 
-// The answer to question 5. `judged_answer` says what each case means.
-#[derive(Clone, Copy)]
-pub enum Judged {
-    Summary(Piece),
-    NotOne,
+// What a summary that is not blank says before its slopes, in one form for a spoilt one and a hill. A spoilt one has no peak, and any level may stand
+// there. No level that passes the gate is above 64, so levels have 8 bits here; in bytes and in a head they have 16.
+#[derive(Clone, Copy, Debug, PartialEq, Eq)]
+pub struct Numbers {
+    pub fault: Option<Refusal>,
+    pub start: u8,
+    pub peak: u8,
+    pub end: u8,
+    pub opened: u32,
 }
 
 // Grams that one record can add.
@@ -194,22 +201,13 @@ fn records_fit(b: &[u8]) -> bool
     let first = 24 + 8 * rise(b);
     let n = fall(b);
     let mut all = true;
-    let mut j: usize = 0;
-    while j < n {
+    for j in 0..n {
         all = all & record_fits(b, first + 20 * j);
-        j += 1;
     }
     all
 }
 
 // ---- a hill's 64-bit values: n of them, at `at` and then each `step` bytes on
-
-// x, or cap where that is less.
-fn capped(x: u64, cap: u64) -> u64
-    ensures { result ≡ min cap x }
-{
-    if cap < x { cap } else { x }
-}
 
 // What the values count, each cut to cap: the sum then needs no cut, which would have each turn wait for the one before.
 fn capped_sizes(b: &[u8], mode: u16, at: usize, step: usize, n: usize, cap: u64) -> u64
@@ -217,11 +215,9 @@ fn capped_sizes(b: &[u8], mode: u16, at: usize, step: usize, n: usize, cap: u64)
     requires room { Room n cap }
     ensures { result ≡ sum_to n (λ i. min cap (size_of (mode_of mode) (value_in b.now at step i))) }
 {
-    let mut sum: u64 = 0;
-    let mut i: usize = 0;
-    while i < n {
-        sum += capped(figure::size(mode, number::read_i64(b, at + step * i)), cap);
-        i += 1;
+    let mut sum = 0;
+    for i in 0..n {
+        sum += figure::size(mode, number::read_i64(b, at + step * i)).min(cap);
     }
     sum
 }
@@ -232,10 +228,8 @@ fn all_figures(b: &[u8], mode: u16, at: usize, step: usize, n: usize) -> bool
     ensures { result ≡ all_to n (λ i. (mode_of mode).is_figure (value_in b.now at step i)) }
 {
     let mut all = true;
-    let mut i: usize = 0;
-    while i < n {
+    for i in 0..n {
         all = all & figure::is_figure(mode, number::read_i64(b, at + step * i));
-        i += 1;
     }
     all
 }
@@ -310,12 +304,24 @@ pub fn held_in(mode: u16, x: i64) -> Held
     }
 }
 
+// The fault that a spoilt summary names by its number.
+#[tactic(auto, unfolding(crate::specs::Judged::fault_named))]
+fn fault_named(n: u16) -> Refusal
+    ensures { result ≡ fault_named n }
+{
+    match n {
+        7 => Refusal::LevelGap,
+        8 => Refusal::LevelZero,
+        _ => Refusal::TooManyOpened,
+    }
+}
+
 fn spoilt_head(b: &[u8]) -> SpoiltHead
     requires { 16 ≤ length b.now }
     ensures { result ≡ spoilt_head_at b.now }
 {
     SpoiltHead {
-        fault: number::read_u16(b, 6),
+        fault: fault_named(number::read_u16(b, 6)),
         start: number::read_u16(b, 8),
         end: number::read_u16(b, 10),
         opened: number::read_u32(b, 12),
@@ -367,17 +373,43 @@ fn is_summary(b: &[u8]) -> bool
 }
 
 // Whether bytes are exactly one summary, and which.
-pub fn judge(b: &[u8]) -> Judged
-    ensures { judged_answer result ≡ judged_of b.now }
+pub fn judge(b: &[u8]) -> Result<Piece, Refusal>
+    ensures { answered result ≡ judged_of b.now }
 {
     if b.len() < 6 {
-        return Judged::NotOne;
+        return Err(Refusal::NotASummary);
     }
     if !is_summary(b) {
-        return Judged::NotOne;
+        return Err(Refusal::NotASummary);
     }
-    Judged::Summary(Piece {
+    Ok(Piece {
         mode: number::read_u16(b, 4),
         head: head_of(b),
     })
+}
+
+// ---- what a head says before its slopes
+
+// The numbers of a head, of a blank none.
+pub fn numbers_of(head: Head) -> Option<Numbers>
+    requires { Fits head }
+    ensures { result ≡ numbers_of head }
+{
+    match head {
+        Head::Blank => None,
+        Head::Spoilt(s) => Some(Numbers {
+            fault: Some(s.fault),
+            start: s.start as u8,
+            peak: 0,
+            end: s.end as u8,
+            opened: s.opened,
+        }),
+        Head::Hill(h) => Some(Numbers {
+            fault: None,
+            start: h.start as u8,
+            peak: h.peak as u8,
+            end: h.end as u8,
+            opened: h.opened,
+        }),
+    }
 }

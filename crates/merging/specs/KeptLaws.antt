@@ -1,12 +1,12 @@
 -- What was merged so far, and one piece or one half more. Assumes nothing.
-use Rattle.std.specs.Prelude.{◌≡◌, refl, List, ℕ, ◌+◌, ◌*◌, ◌-◌, ◌^◌, ◌≤◌, ◌<◌, ℤ, pos, replicate}
+use Rattle.std.specs.Prelude.{◌≡◌, refl, true, false, List, ℕ, ◌+◌, ◌*◌, ◌-◌, ◌^◌, ◌≤◌, ◌<◌, ℤ, Option, Some, None, is_some}
 use Rattle.std.proofs.Common.{ap, ap₂, sym, subst, ◌∙◌, arith}
 use Rattle.algebra.specs.Algebra.{Algebra}
 use Rattle.modes.specs.FourModes.{Amounts}
 use Rattle.figure.specs.Mode.{mode_of}
 use Rattle.figure.specs.Stored.{none}
 use Rattle.modes.specs.declared.Held.{Held}
-use Rattle.judge.specs.declared.Head.TheVariants.{Blank, Spoilt, Hill}
+use Rattle.judge.specs.declared.Head.TheVariants.{Spoilt, Hill}
 use Rattle.judge.specs.Judged.{held_in}
 use Rattle.hill.specs.Verdict.{Verdict, pass, refuse, low, joint, count}
 use Rattle.hill.proofs.VerdictLaws.{low-fst, low-snd, joint-pass, refuse-pass}
@@ -15,7 +15,7 @@ use Rattle.hill.specs.Building.{merge}
 use Rattle.hill.proofs.Building.{merge-empty, empty-merge}
 use Rattle.hill.specs.Merge.{merge_summary}
 use Rattle.hill.proofs.MergeLaws.{merge_hills-merge}
-use Rattle.hill.proofs.SummaryLaws.{merge-blank, verdict-merge}
+use Rattle.hill.proofs.SummaryLaws.{verdict-merge}
 use Rattle.hill.proofs.ValidLaws.{valid-merge_summary, hill-weight}
 use Rattle.summary.specs.Judge.{peak_at, opened_at, rise_at, fall_at, IsHill, IsSummary, is_blank, is_spoilt, is_hill}
 use Rattle.summary.specs.Layout.{SummaryIn}
@@ -24,17 +24,19 @@ use Rattle.summary.proofs.Values.{lefts-length}
 use Rattle.summary.specs.Accepted.{Accepted, IsSummaryIn}
 use Rattle.summary.proofs.Accepted.{decoded}
 use Rattle.slopes.specs.declared.Counts.{Counts}
-use Rattle.slopes.specs.Arrays.{Arrays, arrays, Fig, slopes_of as hill_of, weight_of, Fine, Arrays64, StandsFor}
+use Rattle.slopes.specs.declared.Slopes.{Slopes}
+use Rattle.slopes.specs.Kept.{arrays_of}
+use Rattle.slopes.specs.Arrays.{Arrays, Fig, slopes_of as hill_of, weight_of, Fine, Arrays64, StandsFor}
 use Rattle.slopes.specs.Laws.{counts, able, restate, rise-is, fall-is, emptied, unit-bound}
 use Rattle.codec.specs.Promised.{Loads}
 use Rattle.join_plan.specs.Gate.{summary_fault}
 use Rattle.join_plan.proofs.Gate.{fault-parts}
 use Rattle.plan_work.specs.Runs.{slopes_of}
-use Rattle.fault.specs.Fault.{no_fault, verdict_of}
-use Rattle.fault.specs.Laws.{found, clear-is}
-use Rattle.merging.specs.declared.Numbers.{Numbers}
-use Rattle.merging.specs.declared.Side.{Side}
-use Rattle.merging.specs.declared.Side.TheVariants as side
+use Rattle.fault.specs.Fault.{verdict_of}
+use Rattle.fault.specs.Laws.{clear-is, found-is}
+use Rattle.judge.specs.declared.Numbers.{Numbers}
+use Rattle.gate.specs.Answers.{number_of}
+use Rattle.gate.specs.declared.Refusal.{Refusal}
 use Rattle.merging.specs.declared.Merged.{Merged}
 use Rattle.merging.specs.Side.{Says, SaysPart}
 use Rattle.emit.specs.Emitted.{Said}
@@ -42,15 +44,16 @@ use Rattle.emit.specs.Laws.{spoilt_head, hill_head, hill-said}
 use Rattle.merging.specs.Asks.{Kept}
 use Rattle.merging.specs.SayLaws.{decode-blank, decode-spoilt, decode-hill}
 
--- arrays that were never written
-abbrev pub zeros : List ℤ
-zeros = replicate 64 (pos 0)
+abbrev pub merged : (r : Option Numbers) (c : Counts) (s : Slopes) → Merged
+merged r c s = record { side = r; counts = c; slopes = s }
 
-pub whole-zeros : Arrays64 (arrays zeros zeros zeros zeros zeros)
-whole-zeros = record { left = refl; values = refl; floors = refl; ceilings = refl; held = refl }
+some-found : (f : Option Refusal) → is_some f ≡ true → verdict_of f ≡ pass → ⊥
+some-found None e v = cc
+some-found (Some r) e v = refuse-pass v
 
-abbrev pub merged : (r : Side) (c : Counts) → Merged
-merged r c = record { side = r; counts = c }
+none-found : (f : Option Refusal) → is_some f ≡ false → f ≡ None
+none-found None e = refl
+none-found (Some r) e = cc
 
 -- both slopes have room for the bytes of a hill
 record Rooms (b : List ℕ) (c : Counts) : Type 0 where
@@ -92,33 +95,33 @@ module _ (m : ℕ) where
 
   -- ---- nothing merged yet
 
-  pub kept-none : {ls vs fs cs hs : List ℤ} {z : ℤ} → Arrays64 (arrays ls vs fs cs hs) → z ≡ none (mode_of m) → Kept m (arrays ls vs fs cs hs) (merged side.Blank (counts 0 0 z)) blank
-  kept-none {ls} {vs} {fs} {cs} {hs} {z} h e = record {
+  pub kept-none : {s : Slopes} {z : ℤ} → Arrays64 (arrays_of s) → z ≡ none (mode_of m) → Kept m (merged None (counts 0 0 z) s) blank
+  kept-none {s} {z} h e = record {
     whole = h;
     accepted = tt;
     says = refl;
-    stands = λ v. restate (emptied (mode_of m) (arrays ls vs fs cs hs) z h e) most refl (omega arith);
+    stands = λ v. restate (emptied (mode_of m) (arrays_of s) z h e) most refl (omega arith);
   }
 
-  module _ {A : Arrays} {a : Merged} {s : SummaryIn m} (k : Kept m A a s) where
-    -- ---- one piece more: a blank, ..
+  module _ {a : Merged} {s : SummaryIn m} (k : Kept m a s) where
+    abbrev A : Arrays
+    A = arrays_of a.slopes
 
-    pub kept-blank : {t : SummaryIn m} → t ≡ blank → Kept m A a (merge_summary 𝒜 s t)
-    kept-blank e = subst (Kept m A a) (sym (ap (merge_summary 𝒜 s) e ∙ merge-blank 𝒜 s)) k
+    -- ---- one piece more that is not blank:
 
     module _ {b : List ℕ} (i : IsSummaryIn m b) where
       both-accepted : Accepted m (merge_summary 𝒜 s (decode m b))
       both-accepted = valid-merge_summary 𝒜 (mode_of m).sizes (mode_of m).laws s (decode m b) k.accepted (decoded m b i)
 
       module _ {p both : Numbers} (h : SaysPart m p (decode m b)) (g : SaysPart m both (merge_summary 𝒜 s (decode m b))) where
-        -- .. one that brings a fault, ..
-        pub kept-fault : {c : Counts} → both.fault < no_fault → Kept m A (merged (side.Part both) c) (merge_summary 𝒜 s (decode m b))
-        kept-fault e = record { whole = k.whole; accepted = both-accepted; says = g; stands = λ v. absurd (refuse-pass (sym (found both.fault e) ∙ sym (said-fault g) ∙ v)) }
+        -- one that brings a fault, ..
+        pub kept-fault : {c : Counts} → is_some both.fault ≡ true → Kept m (merged (Some both) c a.slopes) (merge_summary 𝒜 s (decode m b))
+        kept-fault e = record { whole = k.whole; accepted = both-accepted; says = g; stands = λ v. absurd (some-found both.fault e (sym (said-fault g) ∙ v)) }
 
         -- .. or a hill that meets what was merged before
-        module _ (e : no_fault ≤ both.fault) where
+        module _ (e : is_some both.fault ≡ false) where
           clear : summary_fault 𝒜 (merge_summary 𝒜 s (decode m b)) ≡ pass
-          clear = clear-is (sym (said-fault g)) e
+          clear = clear-is (sym (said-fault g)) (none-found both.fault e)
 
           before : StandsFor (mode_of m) A a.counts (slopes_of 𝒜 s) most
           before = k.stands (fault-parts 𝒜 s (decode m b) clear).0
@@ -166,8 +169,8 @@ module _ (m : ℕ) where
                 light = subst (λ (x : HillOf (Fig (mode_of m)) Amounts). weight_of (mode_of m) x + weight_of (mode_of m) (new b) < 2 ^ 62) (sym before.is) (omega (arith, before.light));
               }
 
-          pub kept-loaded : {A' : Arrays} {c' : Counts} → StandsFor (mode_of m) A' c' (merge 𝒜 (hill_of (mode_of m) A a.counts) (new b)) (weight_of (mode_of m) (hill_of (mode_of m) A a.counts) + weight_of (mode_of m) (new b)) →
-              Kept m A' (merged (side.Part both) c') (merge_summary 𝒜 s (decode m b))
+          pub kept-loaded : {s' : Slopes} {c' : Counts} → StandsFor (mode_of m) (arrays_of s') c' (merge 𝒜 (hill_of (mode_of m) A a.counts) (new b)) (weight_of (mode_of m) (hill_of (mode_of m) A a.counts) + weight_of (mode_of m) (new b)) →
+              Kept m (merged (Some both) c' s') (merge_summary 𝒜 s (decode m b))
           kept-loaded r =
               let n : slopes_of 𝒜 (decode m b) ≡ (new b) = ap (slopes_of 𝒜) piece_is in
               let x : merge 𝒜 (hill_of (mode_of m) A a.counts) (new b) ≡ slopes_of 𝒜 (merge_summary 𝒜 s (decode m b)) = ap₂ (merge 𝒜) before.is (sym n) ∙ sym (both-slopes s (decode m b) clear) in
@@ -178,19 +181,16 @@ module _ (m : ℕ) where
                 stands = λ v. record { sound = r.sound; stored = r.stored; is = r.is ∙ x; fine = subst (Fine (mode_of m)) x r.fine; light = light (merge_summary 𝒜 s (decode m b)) both-accepted };
               }
 
-    -- ---- its head, by the three cases
+    -- ---- its head, where it is not blank
 
-    pub says-blank : s ≡ blank → Said m Blank A s
-    says-blank e = record { writable = tt; is = sym e }
-
-    pub says-spoilt : {p : Numbers} → SaysPart m p s → p.fault < no_fault → Said m (Spoilt (spoilt_head p.fault p.start p.end p.opened)) A s
-    says-spoilt {p} h e = record { writable = tt; is = go h.said (sym (found p.fault e) ∙ h.says.fault) h.says.start h.says.end h.says.opened ∙ sym h.is }
+    pub says-spoilt : {p : Numbers} {r : Refusal} → SaysPart m p s → p.fault ≡ Some r → Said m (Spoilt (spoilt_head r p.start p.end p.opened)) A s
+    says-spoilt {p} {r} h e = record { writable = tt; is = go h.said (sym (found-is h.says.fault e)) h.says.start h.says.end h.says.opened ∙ sym h.is }
       where
-        go : (a : Part 𝒜.Fig Amounts) → refuse p.fault ≡ verdict a → p.start ≡ start a → p.end ≡ end a → p.opened ≡ opened a → part (spoilt p.fault p.start p.end p.opened) ≡ part a
-        go (spoilt f b e o) v x y z = let w : p.fault ≡ f = cc in rw (w, x, y, z)
+        go : (a : Part 𝒜.Fig Amounts) → refuse (number_of r) ≡ verdict a → p.start ≡ start a → p.end ≡ end a → p.opened ≡ opened a → part (spoilt (number_of r) p.start p.end p.opened) ≡ part a
+        go (spoilt f b e o) v x y z = let w : number_of r ≡ f = cc in rw (w, x, y, z)
         go (whole q o u) v x y z = absurd (refuse-pass v)
 
-    module _ {p : Numbers} (h : SaysPart m p s) (e : no_fault ≤ p.fault) where
+    module _ {p : Numbers} (h : SaysPart m p s) (e : p.fault ≡ None) where
       no-fault : summary_fault 𝒜 s ≡ pass
       no-fault = clear-is (sym (said-fault h)) e
 

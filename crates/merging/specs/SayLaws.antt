@@ -1,33 +1,32 @@
 -- What accepted bytes say before their slopes, and what two sides say together. Assumes nothing.
-use Rattle.std.specs.Prelude.{◌≡◌, refl, List, ℕ, ◌+◌, ◌≤◌, min}
-use Rattle.std.proofs.Common.{ap, ap₂, sym, ◌∙◌, arith}
+use Rattle.std.specs.Prelude.{◌≡◌, refl, List, ℕ, ◌+◌, min, Option, Some, None}
+use Rattle.std.proofs.Common.{ap, ap₂, sym, subst, ◌∙◌, arith}
 use Rattle.algebra.specs.Algebra.{Algebra}
 use Rattle.modes.specs.FourModes.{Amounts}
 use Rattle.figure.specs.Mode.{mode_of}
+use Rattle.gate.specs.declared.Refusal.{Refusal}
 use Rattle.hill.specs.Verdict.{pass, refuse, low, joint, count, cut}
 use Rattle.hill.proofs.VerdictLaws.{low-fst, low-snd}
 use Rattle.hill.specs.Summary.{Part, blank, part, spoilt, whole, start, end, opened, verdict, peak}
 use Rattle.hill.specs.Merge.{merge_verdict, merge_part, merge_summary}
 use Rattle.hill.proofs.SummaryLaws.{verdict-merge, start-merge, end-merge, opened-merge}
-use Rattle.summary.specs.Judge.{kind_at, fault_at, spoilt_start_at, peak_at, end_at, opened_at, rise_at, fall_at, IsSummary}
+use Rattle.summary.specs.Judge.{kind_at, fault_at, spoilt_start_at, start_at, peak_at, end_at, opened_at, rise_at, fall_at, HasLayout, IsSpoilt, IsHill, IsSummary, is_blank, is_spoilt, is_hill}
 use Rattle.summary.specs.Layout.{SummaryIn}
 use Rattle.summary.specs.Decode.{decode, hill_in}
 use Rattle.summary.proofs.Values.{lefts-length, rights-length, reading-blank, reading-spoilt, reading-hill}
+use Rattle.judge.specs.Judged.{fault_named, head_at}
+use Rattle.judge.specs.Laws.{head-blank, head-spoilt, head-hill, summary-fits, in-bounds, fault-number}
 use Rattle.judge.specs.declared.SpoiltHead.{SpoiltHead}
 use Rattle.judge.specs.declared.HillHead.{HillHead}
-use Rattle.judge.specs.declared.Head.TheVariants.{Blank, Spoilt, Hill}
-use Rattle.judge.specs.Judged.{head_at}
-use Rattle.judge.specs.Laws.{blank-at, spoilt-at, hill-at}
-use Rattle.fault.specs.Fault.{no_fault, verdict_of}
-use Rattle.fault.specs.Laws.{clear, found}
-use Rattle.merging.specs.declared.Numbers.{Numbers}
-use Rattle.merging.specs.declared.Side.{Side}
-use Rattle.merging.specs.declared.Side.TheVariants as side
-use Rattle.merging.specs.Side.{InBounds, SaysPart, SaysOf, SideInBounds}
+use Rattle.judge.specs.declared.Head.TheVariants.{Spoilt, Hill}
+use Rattle.judge.specs.declared.Numbers.{Numbers}
+use Rattle.judge.specs.Numbers.{numbers_of, InBounds, AllInBounds}
+use Rattle.fault.specs.Fault.{verdict_of}
+use Rattle.merging.specs.Side.{SaysPart, SaysOf}
 
 -- ---- what they say
 
-abbrev pub numbers : (f s p e o : ℕ) → Numbers
+abbrev pub numbers : (f : Option Refusal) (s p e o : ℕ) → Numbers
 numbers f s p e o = record { fault = f; start = s; peak = p; end = e; opened = o }
 
 module _ (m : ℕ) (b : List ℕ) where
@@ -44,97 +43,71 @@ module _ (m : ℕ) (b : List ℕ) where
   decode-hill e = reading-hill (mode_of m).read b e
 
   -- by the three cases
-  module _ (i : IsSummary b) where
-    pub says-blank : head_at b ≡ Blank → decode m b ≡ blank
-    says-blank q = decode-blank (blank-at i q).kind_fits
+  says-blank : HasLayout b 16 6 → SaysOf m (numbers_of (head_at b)) (decode m b)
+  says-blank f = rw (head-blank b f.kind_fits) (decode-blank f.kind_fits)
 
-    module _ {h : SpoiltHead} (q : head_at b ≡ Spoilt h) where
-      pub fault-small : h.fault ≤ 9
-      fault-small = let v = spoilt-at i h q in omega (arith, ap (λ (x : SpoiltHead). x.fault) v.1, v.0.fault-high)
+  says-spoilt : IsSpoilt b → InBounds (numbers (Some (fault_named (fault_at b))) (spoilt_start_at b) 0 (end_at b) (opened_at b)) → SaysOf m (numbers_of (head_at b)) (decode m b)
+  says-spoilt v i =
+      rw (head-spoilt b v.layout.kind_fits) record {
+        said = spoilt (fault_at b) (spoilt_start_at b) (end_at b) (opened_at b);
+        is = decode-spoilt v.layout.kind_fits;
+        says = record { fault = ap refuse (fault-number v); start = refl; peak = λ w. refl; end = refl; opened = refl; bounds = i };
+      }
 
-      pub spoilt-bounds : InBounds (numbers h.fault h.start 0 h.end h.opened)
-      spoilt-bounds =
-          let v = spoilt-at i h q in
-          record {
-            start-high = omega (arith, ap (λ (x : SpoiltHead). x.start) v.1, v.0.start-high);
-            peak-high = omega arith;
-            end-high = omega (arith, ap (λ (x : SpoiltHead). x.end) v.1, v.0.end-high);
-            opened-few = omega (arith, ap (λ (x : SpoiltHead). x.opened) v.1, v.0.opened-few);
-          }
+  says-hill : IsHill b → InBounds (numbers None (start_at b) (peak_at b) (end_at b) (opened_at b)) → SaysOf m (numbers_of (head_at b)) (decode m b)
+  says-hill v i =
+      let k = v.layout.kind_fits in
+      rw (head-hill b (λ e. omega arith) (λ e. omega arith)) record {
+        said = whole (peak_at b) (opened_at b) (hill_in (mode_of m).read b);
+        is = decode-hill k;
+        says = record {
+          fault = refl;
+          start = omega (arith, lefts-length (mode_of m).read b (rise_at b), v.peak-start);
+          peak = λ w. refl;
+          end = omega (arith, rights-length (mode_of m).read b (fall_at b), v.peak-end);
+          opened = refl;
+          bounds = i;
+        };
+      }
 
-      pub says-spoilt : SaysPart m (numbers h.fault h.start 0 h.end h.opened) (decode m b)
-      says-spoilt =
-          let v = spoilt-at i h q in
-          record {
-            said = spoilt (fault_at b) (spoilt_start_at b) (end_at b) (opened_at b);
-            is = decode-spoilt v.0.layout.kind_fits;
-            says = record {
-              fault = found h.fault (omega (arith, fault-small)) ∙ ap (λ (x : SpoiltHead). refuse x.fault) v.1;
-              start = ap (λ (x : SpoiltHead). x.start) v.1;
-              peak = λ w. refl;
-              end = ap (λ (x : SpoiltHead). x.end) v.1;
-              opened = ap (λ (x : SpoiltHead). x.opened) v.1;
-              bounds = spoilt-bounds;
-            };
-          }
+  bounds : IsSummary b → AllInBounds (numbers_of (head_at b))
+  bounds i = in-bounds (head_at b) (summary-fits b i)
 
-    module _ {h : HillHead} (q : head_at b ≡ Hill h) where
-      pub hill-bounds : InBounds (numbers no_fault h.start h.peak h.end h.opened)
-      hill-bounds =
-          let v = hill-at i h q in
-          record {
-            start-high = omega (arith, ap (λ (x : HillHead). x.start) v.1, v.0.start-high);
-            peak-high = omega (arith, ap (λ (x : HillHead). x.peak) v.1, v.0.peak-start, v.0.start-high);
-            end-high = omega (arith, ap (λ (x : HillHead). x.end) v.1, v.0.end-high);
-            opened-few = omega (arith, ap (λ (x : HillHead). x.opened) v.1, v.0.opened-few);
-          }
+  -- of accepted bytes start, peak and end are at most 64
+  pub spoilt-bounds : IsSummary b → {h : SpoiltHead} → head_at b ≡ Spoilt h → InBounds (numbers (Some h.fault) h.start 0 h.end h.opened)
+  spoilt-bounds i q = subst AllInBounds (ap numbers_of q) (bounds i)
 
-      pub says-hill : SaysPart m (numbers no_fault h.start h.peak h.end h.opened) (decode m b)
-      says-hill =
-          let v = hill-at i h q in
-          record {
-            said = whole (peak_at b) (opened_at b) (hill_in (mode_of m).read b);
-            is = decode-hill v.0.layout.kind_fits;
-            says = record {
-              fault = clear no_fault (omega arith);
-              start = omega (arith, ap (λ (x : HillHead). x.start) v.1, lefts-length (mode_of m).read b (rise_at b), v.0.peak-start);
-              peak = λ w. ap (λ (x : HillHead). x.peak) v.1;
-              end = omega (arith, ap (λ (x : HillHead). x.end) v.1, rights-length (mode_of m).read b (fall_at b), v.0.peak-end);
-              opened = ap (λ (x : HillHead). x.opened) v.1;
-              bounds = hill-bounds;
-            };
-          }
+  pub hill-bounds : IsSummary b → {h : HillHead} → head_at b ≡ Hill h → InBounds (numbers None h.start h.peak h.end h.opened)
+  hill-bounds i q = subst AllInBounds (ap numbers_of q) (bounds i)
 
-module _ (m : ℕ) (s : SummaryIn m) (r : Side) (h : SaysOf m r s) where
-  pub blank-said : r ≡ side.Blank → s ≡ blank
-  blank-said e = rw e at h
+  pub says-side : IsSummary b → SaysOf m (numbers_of (head_at b)) (decode m b)
+  says-side (is_blank f) = says-blank f
+  says-side (is_spoilt v) = says-spoilt v (rw (head-spoilt b v.layout.kind_fits) at (bounds (is_spoilt v)))
+  says-side (is_hill v) = let k = v.layout.kind_fits in says-hill v (rw (head-hill b (λ e. omega arith) (λ e. omega arith)) at (bounds (is_hill v)))
 
-  pub part-said : {p : Numbers} → r ≡ side.Part p → SaysPart m p s
+module _ (m : ℕ) (s : SummaryIn m) (r : Option Numbers) (h : SaysOf m r s) where
+  pub part-said : {p : Numbers} → r ≡ Some p → SaysPart m p s
   part-said e = rw e at h
 
-pub side-bounds : (m : ℕ) (s : SummaryIn m) (r : Side) → SaysOf m r s → SideInBounds r
-side-bounds m s side.Blank h = tt
-side-bounds m s (side.Part p) h = h.says.bounds
+pub side-bounds : (m : ℕ) (s : SummaryIn m) (r : Option Numbers) → SaysOf m r s → AllInBounds r
+side-bounds m s None h = tt
+side-bounds m s (Some p) h = h.says.bounds
 
 -- ---- two sides
 
-cut_most : (n : ℕ) → cut n ≤ 100001
+cut_is : (n : ℕ) → min n 100001 ≡ cut n
 unfolding cut
-cut_most n = omega arith
+cut_is n = omega arith
 
 module _ (m : ℕ) where
   abbrev 𝒜 : Algebra Amounts
   𝒜 = (mode_of m).algebra
 
   module _ {s t : SummaryIn m} {p : Numbers} (h : SaysPart m p t) where
-    -- "A blank adds nothing."
-    pub after-blank : s ≡ blank → SaysPart m p (merge_summary 𝒜 s t)
-    after-blank e = rw e h
-
     -- "The lowest of these faults, the left's start, the right's end, opened added and cut to 100,001."
-    pub after-part : {q : Numbers} {f k o : ℕ} → SaysPart m q s →
+    pub after-part : {q : Numbers} {f : Option Refusal} {k o : ℕ} → SaysPart m q s →
         verdict_of f ≡ low (verdict_of q.fault) (low (verdict_of p.fault) (low (joint q.end p.start) (count (q.opened + p.opened)))) →
-        k ≡ min q.peak p.peak → o ≡ cut (q.opened + p.opened) → SaysPart m (numbers f q.start k p.end o) (merge_summary 𝒜 s t)
+        k ≡ min q.peak p.peak → o ≡ min (q.opened + p.opened) 100001 → SaysPart m (numbers f q.start k p.end o) (merge_summary 𝒜 s t)
     after-part {q} {f} {k} {o} g ef ek eo =
         let l = g.says in
         let r = h.says in
@@ -149,12 +122,12 @@ module _ (m : ℕ) where
             start = l.start ∙ sym (start-merge 𝒜 (mode_of m).laws a b);
             peak = λ v. lowest a b (sym (verdict-merge 𝒜 a b) ∙ v) ek l.peak r.peak;
             end = r.end ∙ sym (end-merge 𝒜 (mode_of m).laws a b);
-            opened = eo ∙ ap₂ (λ (x y : ℕ). cut (x + y)) l.opened r.opened ∙ sym (opened-merge 𝒜 a b);
+            opened = eo ∙ cut_is (q.opened + p.opened) ∙ ap₂ (λ (x y : ℕ). cut (x + y)) l.opened r.opened ∙ sym (opened-merge 𝒜 a b);
             bounds = record {
               start-high = l.bounds.start-high;
               peak-high = omega (arith, l.bounds.peak-high);
               end-high = r.bounds.end-high;
-              opened-few = omega (arith, cut_most (q.opened + p.opened));
+              opened-few = omega arith;
             };
           };
         }

@@ -5,7 +5,8 @@ use Rattle.std.proofs.Common.{sym, ap, subst, arith, leb→le, le→leb, ltb→l
 use Rattle.std.proofs.Math.Dec.{nleb→lt}
 use Rattle.std.proofs.Math.IntN.{sub_ℕ}
 use Rattle.std.specs.Int.Signed.{le_z, lt_z, mag}
-use Rattle.std.specs.Int.{Width}
+use Rattle.std.specs.Int.{Width, int_max, int_min}
+use Rattle.std.proofs.lemmas.Int.{clamps}
 use mir.Val.{SFits, hbits}
 use Rattle.number.specs.Integer.{min_z, max_z, clamp, up}
 
@@ -160,6 +161,13 @@ min-law a b = by_le a b (λ t. up (cond t a b) + (dn a + dn b) ≡ dn (cond t a 
 pub max-law : (a b : ℤ) → up (max_z a b) + (dn a + dn b) ≡ dn (max_z a b) + max (up a + dn b) (up b + dn a)
 unfolding max_z
 max-law a b = by_le a b (λ t. up (cond t b a) + (dn a + dn b) ≡ dn (cond t b a) + max (up a + dn b) (up b + dn a)) (λ h. omega zed) (λ h. omega zed)
+
+-- the language's own
+pub int_max-max_z : (a b : ℤ) → int_max a b ≡ max_z a b
+int_max-max_z a b = grind (zed, clamps, max-law a b)
+
+pub int_min-min_z : (a b : ℤ) → int_min a b ≡ min_z a b
+int_min-min_z a b = grind (zed, clamps, min-law a b)
 
 -- ---- differences: p - q for two numbers of ℕ, so that `simp` normalises an expression
 

@@ -1,12 +1,14 @@
 -- Laws of the little-endian codec: fields side by side, reading back what was written, and a field that a write leaves alone.
 -- Assumes nothing.
 use Rattle.std.specs.Prelude.{◌≡◌, refl, List, [], ◌∷◌, ◌++◌, ℕ, zero, suc, ◌+◌, ◌-◌, ◌*◌, ◌/◌, ◌%◌, ◌^◌, ◌≤◌, ◌<◌, length, get_or, take, drop, set}
-use Rattle.std.proofs.Common.{sym, ap, ◌∙◌, add-zero, add-suc, suc-add, zero-add, pow-suc, mul_comm, div-one, mod-lt, le_of_eq, add-one, arith, length-set, length-append, length-drop, take_all, get_or-drop, get_or-set_same, get_or-set_other, take_at, drop-drop, lit<}
+use Rattle.std.proofs.Common.{sym, ap, ◌∙◌, add-zero, add-suc, suc-add, zero-add, pow-suc, mul_comm, div-one, mod-lt, le_of_eq, add-one, add_assoc, arith, length-set, length-append, append_assoc, length-drop, take_all, get_or-drop, get_or-set_same, get_or-set_other, take_at, drop-drop, lit<}
 use Rattle.std.proofs.Math.Nat.{div-div-eq-div-mul, sub-zero, suc-sub-suc}
 use Rattle.std.proofs.Math.Arith.{mod-mul, digits_mod, digits_div}
 use Rattle.std.proofs.Math.ListN.{get_or-append}
 use Rattle.std.proofs.lemmas.List.Edits.{sets, sets-eq}
 use Rattle.std.proofs.Math.Seq.{drop-append-add}
+use Rattle.std.specs.Int.{Width, byte_len, byte_at, bytes_low_first, to_le_bytes}
+use borrow.Rule.Slice.PartMut.{put_mid}
 use Rattle.number.specs.Bytes.{le_at, bytes_of, put_at}
 
 -- ---- reading
@@ -21,6 +23,10 @@ le_at-add (suc m) n s i = rw (suc-add, add-suc, pow-suc, le_at-add m n s (suc i)
 pub le_at-two : (s : List ℕ) (i : ℕ) → le_at 2 s i ≡ get_or s i 0 + get_or s (i + 1) 0 * 256
 unfolding le_at
 le_at-two s i = rw add-one (omega arith)
+
+-- that of four
+pub le_at-four : (s : List ℕ) (i : ℕ) → le_at 4 s i ≡ get_or s i 0 + get_or s (i + 1) 0 * 2 ^ 8 + get_or s (i + 2) 0 * 2 ^ 16 + get_or s (i + 3) 0 * 2 ^ 24
+le_at-four s i = rw (le_at-add 2 2, le_at-two s i, le_at-two s (i + 2), add_assoc i 2 1) (omega arith)
 
 -- a field of the rest of a list
 pub le_at-drop : (n k : ℕ) (s : List ℕ) (i : ℕ) → le_at n (drop k s) i ≡ le_at n s (k + i)
@@ -67,11 +73,28 @@ bytes_of_mod zero v = refl
 bytes_of_mod (suc m) v =
     rw (pow-suc, mod-mul v {m = 256 ^ m} {c = 256} (pow-pos' m) (lit< tt), digits_mod (v / 256 % 256 ^ m) (mod-lt v (lit< tt)), digits_div (v / 256 % 256 ^ m) (mod-lt v (lit< tt)), bytes_of_mod m (v / 256))
 
+-- the language's own bytes of a number are these
+byte_at-is : (i v : ℕ) → byte_at i v ≡ v / 256 ^ i % 256
+byte_at-is zero v = rw div-one
+byte_at-is (suc i) v = refl
+
+low_first-is : (i n v : ℕ) → bytes_low_first i n v ≡ bytes_of n (v / 256 ^ i)
+unfolding bytes_of
+low_first-is i zero v = refl
+low_first-is i (suc n) v = rw (byte_at-is, low_first-is (suc i) n v, div-div-eq-div-mul, pow-suc)
+
+pub to_le_bytes-is : (w : Width) (v : ℕ) → to_le_bytes w v ≡ bytes_of (byte_len w) v
+to_le_bytes-is w v = low_first-is 0 (byte_len w) v ∙ rw div-one
+
 -- ---- a run of stores
 
 pub sets-append : (l : List ℕ) (i : ℕ) (a b : List ℕ) → sets l i (a ++ b) ≡ sets (sets l i a) (i + length a) b
 sets-append l i [] b = rw add-zero
 sets-append l i (x ∷ a) b = rw (sets-append (set l i x) (suc i) a b, suc-add, add-suc)
+
+-- a part of a list, overwritten, is a run of stores
+pub sets-part : (i k : ℕ) (s vs : List ℕ) → length vs ≡ k → i + k ≤ length s → put_mid i k s vs ≡ sets s i vs
+sets-part i k s vs e h = rw (drop-drop, ← append_assoc) (sym (rw e at (sets-eq vs s i (omega arith))))
 
 -- a run behind another that ends at j
 pub stores-next : (o : List ℕ) (i j : ℕ) (a b : List ℕ) → i + length a ≡ j → sets (sets o i a) j b ≡ sets o i (a ++ b)
@@ -91,6 +114,10 @@ get_or-sets-after l i j (v ∷ vs) h = get_or-sets-after (set l i v) (suc i) j v
 pub put_at-two : (s : List ℕ) (i v : ℕ) → put_at 2 s i v ≡ set (set s i (v % 256)) (i + 1) (v / 256 % 256)
 unfolding bytes_of
 put_at-two s i v = rw add-one
+
+-- the bytes of a number as a part of a list
+pub put_at-part : (n i k v : ℕ) (s bs : List ℕ) → k ≡ n → i + n ≤ length s → bs ≡ bytes_of n v → put_mid i k s bs ≡ put_at n s i v
+put_at-part n i k v s bs e h b = rw (b, e) (sets-part i n s (bytes_of n v) (length-bytes_of n v) h)
 
 -- two writes side by side are one
 pub put_at-add : (m n : ℕ) (s : List ℕ) (i v : ℕ) → put_at (m + n) s i v ≡ put_at n (put_at m s i (v % 256 ^ m)) (i + m) (v / 256 ^ m)

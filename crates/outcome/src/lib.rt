@@ -5,15 +5,8 @@
 ghost use Rattle.std.specs.Prelude.{◌≡◌};
 ghost use Rattle.outcome.specs.Outcomes.{has_fourth, run_length};
 
-// The mode that all pieces of a row are of, or the refusal. `mode_answer` says what each case means.
-#[derive(Clone, Copy)]
-pub enum OneMode {
-    Mode(u16),
-    Refused(u8),
-}
-
 // The four figures of a log, in the order in which the day program prints them.
-#[derive(Clone, Copy)]
+#[derive(Clone, Copy, Debug, PartialEq, Eq)]
 pub struct Figures {
     pub net: i64,
     pub heaviest: i64,

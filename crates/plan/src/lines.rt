@@ -2,34 +2,27 @@
 ghost use Rattle.std.specs.Prelude.{◌≡◌, ◌+◌, ◌*◌, ◌≤◌, length};
 ghost use Rattle.std.proofs.lemmas.List.Edits.{sets};
 ghost use Rattle.outcome.specs.Outcomes.{line_bytes, lines_bytes};
-ghost use Rattle.row_plan.specs.Arrays.{lines_in, line};
+ghost use Rattle.row_plan.specs.Arrays.{line_in, lines_in};
 
-fn write_line(out: &mut [u8], at: usize, i: u8, j: u8, low: u8, high: u8)
+use row_plan::Line;
+
+fn write_line(out: &mut [u8], at: usize, line: Line)
     requires { at + 12 ≤ length out.old }
-    ensures { out.new ≡ sets out.old at (line_bytes (line i j low high)) }
+    ensures { out.new ≡ sets out.old at (line_bytes (line_in line)) }
 {
     number::write_u16(out, at, 12);
     number::write_u16(out, at + 2, 19);
-    number::write_u16(out, at + 4, i as u16);
-    number::write_u16(out, at + 6, j as u16);
-    number::write_u16(out, at + 8, low as u16);
-    number::write_u16(out, at + 10, high as u16);
+    number::write_u16(out, at + 4, u16::from(line.i));
+    number::write_u16(out, at + 6, u16::from(line.j));
+    number::write_u16(out, at + 8, u16::from(line.low));
+    number::write_u16(out, at + 10, u16::from(line.high));
 }
 
-pub fn write_lines(
-    is: &[u8; 128],
-    js: &[u8; 128],
-    lows: &[u8; 128],
-    highs: &[u8; 128],
-    n: usize,
-    out: &mut [u8],
-)
-    requires { (n ≤ 128) × (12 * n ≤ length out.old) }
-    ensures { out.new ≡ sets out.old 0 (lines_bytes (lines_in is.now js.now lows.now highs.now n)) }
+pub fn write_lines(lines: &[Line], out: &mut [u8])
+    requires { (length lines.now ≤ 128) × (12 * length lines.now ≤ length out.old) }
+    ensures { out.new ≡ sets out.old 0 (lines_bytes (lines_in lines.now)) }
 {
-    let mut k: usize = 0;
-    while k < n {
-        write_line(out, 12 * k, is[k], js[k], lows[k], highs[k]);
-        k += 1;
+    for (k, line) in lines.iter().enumerate() {
+        write_line(out, 12 * k, *line);
     }
 }

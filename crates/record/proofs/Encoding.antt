@@ -17,6 +17,7 @@ use Rattle.record.proofs.Laws.{within-size, Sound, sound, Shape, full, short, ba
 use Rattle.record.proofs.RangeLaws.{range-parts, close-in-range}
 use Rattle.record.proofs.Readable.{First, first_read, none_read}
 use Rattle.record.specs.declared.Fields.{Fields}
+use Rattle.record.specs.declared.Kind.TheVariants as kind
 
 front_length : (n d : ℕ) (v l h : ℤ) → length (open_front n d v l h) ≡ 18
 front_length n d v l h = simp (length-append, length-bytes_of)
@@ -93,7 +94,7 @@ module _ (d : ℕ) (v l h : ℤ) (r : List ℕ) (ok : in_range d v l h ≡ true)
     long-batch : 22 ≤ length (open_front 22 d v l h ++ (bytes_of 4 b ++ r))
     long-batch = omega (arith, length-append (open_front 22 d v l h) (bytes_of 4 b ++ r), front_length 22 d v l h, length-append (bytes_of 4 b) r, length-bytes_of 4 b)
 
-    pub read-with-batch : read_of (batch_bytes d v l h b ++ r) ≡ granted (record { kind = 1; length = 22; depth = d; value = v; floor = l; ceiling = h; batch = b })
+    pub read-with-batch : read_of (batch_bytes d v l h b ++ r) ≡ granted (record { kind = kind.Open; length = 22; depth = d; value = v; floor = l; ceiling = h; batch = b })
     unfolding read_of by_shape whole accepted
     read-with-batch =
         let f = front_read 22 d v l h (bytes_of 4 b ++ r) (lit< tt) ok in

@@ -5,8 +5,10 @@ use Rattle.std.proofs.lemmas.Bool.{lt-leb}
 use Rattle.gate.specs.Outcome.{Outcome, refused, granted}
 use Rattle.gate.proofs.Laws.{not-result, one_number}
 use Rattle.number.specs.Bytes.{le_at}
-use Rattle.record.specs.Record.{within, in_range, accepted, whole, by_shape, read_of, before, and_then, records_in, records_of, full_open, open_with_batch, short_fields, short_open, close}
+use Rattle.record.specs.Record.{kind_number, within, in_range, accepted, whole, by_shape, read_of, before, and_then, records_in, records_of, full_open, open_with_batch, short_fields, short_open, close}
 use Rattle.record.specs.declared.Fields.{Fields}
+use Rattle.record.specs.declared.Kind.{Kind}
+use Rattle.record.specs.declared.Kind.TheVariants as kind
 
 cond_same : (b : Bool) (r : Outcome Fields) → cond b r r ≡ r
 cond_same true r = refl
@@ -176,6 +178,10 @@ unfolding records_of records_in Same
 records-next [] f e = absurd (omega (arith, sound [] f e))
 records-next (b ∷ s) f e =
     rw e (ap (before f) (enough (length s) (length (drop f.length (b ∷ s))) (drop f.length (b ∷ s)) (shorter b s f e) (le_refl _)))
+
+-- no record both opens and closes one
+pub not-both : {k : Kind} → k ≡ kind.Open → k ≡ kind.Close → ⊥
+not-both o c = let z : ◌≡◌ {A = ℕ} 1 2 = ap kind_number (sym o ∙ c) in omega arith
 
 -- ---- records one after the other
 

@@ -1,18 +1,28 @@
 -- Records, as document 01's section "Records" has them, with the batch of document 02, L2, and the floor of short records of L8.
-use Rattle.std.specs.Prelude.{ℕ, zero, suc, Bool, cond, ◌&&◌, List, [], ◌∷◌, ◌++◌, length, drop, leb, eqb, ℤ, pos, negsuc}
+use Rattle.std.specs.Prelude.{ℕ, zero, suc, Bool, true, false, cond, ◌&&◌, List, [], ◌∷◌, ◌++◌, length, drop, leb, eqb, ℤ, pos, negsuc, Option, Some, None}
 use Rattle.std.specs.Int.Signed.{le_z}
 use Rattle.gate.specs.Outcome.{Outcome, refused, granted}
 use Rattle.std.specs.Int.{w32}
 use Rattle.std.proofs.Common.{of_z}
 use Rattle.number.specs.Bytes.{le_at, bytes_of, i32_at}
 use Rattle.record.specs.declared.Fields.{Fields}
-use Rattle.record.specs.declared.Read.{Read}
-use Rattle.record.specs.declared.Read.TheVariants.{Record, Refused}
+use Rattle.record.specs.declared.Kind.{Kind}
+use Rattle.record.specs.declared.Kind.TheVariants as kind
+
+-- "kind 1, open", and "kind 2, close".
+abbrev pub kind_number : Kind → ℕ
+kind_number kind.Open = 1
+kind_number kind.Close = 2
+
+-- Whether a record of this kind opens one.
+abbrev pub is_open : Kind → Bool
+is_open kind.Open = true
+is_open kind.Close = false
 
 -- What the answer of `read_first` says, in the paper's numbers: the record's fields, or refusal 3.
-abbrev pub answer_of : Read → Outcome Fields
-answer_of (Record f) = granted f
-answer_of Refused = refused 3
+abbrev pub answer_of : Option Fields → Outcome Fields
+answer_of (Some f) = granted f
+answer_of None = refused 3
 
 -- "value, floor and ceiling lie within ±1,000,000,000"
 abbrev pub least : ℤ
@@ -46,7 +56,7 @@ batch_of len s = cond (eqb len 22) (le_at 4 s 18) 0
 
 -- The layouts: length at 0, kind at 2, depth at 4, then value, floor and ceiling, and the batch behind them.
 abbrev pub open_of : (len : ℕ) → List ℕ → Fields
-open_of len s = record { kind = 1; length = len; depth = le_at 2 s 4; value = i32_at s 6; floor = i32_at s 10; ceiling = i32_at s 14; batch = batch_of len s }
+open_of len s = record { kind = kind.Open; length = len; depth = le_at 2 s 4; value = i32_at s 6; floor = i32_at s 10; ceiling = i32_at s 14; batch = batch_of len s }
 
 abbrev pub full_open : List ℕ → Fields
 full_open s = open_of 18 s
@@ -56,16 +66,16 @@ open_with_batch s = open_of 22 s
 
 -- The fields of a full open record, which has no batch, and of a short one; and below of a close.
 abbrev pub full_fields : (depth : ℕ) → (value floor ceiling : ℤ) → Fields
-full_fields depth value floor ceiling = record { kind = 1; length = 18; depth = depth; value = value; floor = floor; ceiling = ceiling; batch = 0 }
+full_fields depth value floor ceiling = record { kind = kind.Open; length = 18; depth = depth; value = value; floor = floor; ceiling = ceiling; batch = 0 }
 
 abbrev pub short_fields : (depth : ℕ) → (value : ℤ) → Fields
-short_fields depth value = record { kind = 1; length = 10; depth = depth; value = value; floor = default_floor; ceiling = default_ceiling; batch = 0 }
+short_fields depth value = record { kind = kind.Open; length = 10; depth = depth; value = value; floor = default_floor; ceiling = default_ceiling; batch = 0 }
 
 abbrev pub short_open : List ℕ → Fields
 short_open s = short_fields (le_at 2 s 4) (i32_at s 6)
 
 abbrev pub close_fields : (depth : ℕ) → Fields
-close_fields depth = record { kind = 2; length = 6; depth = depth; value = pos 0; floor = pos 0; ceiling = pos 0; batch = 0 }
+close_fields depth = record { kind = kind.Close; length = 6; depth = depth; value = pos 0; floor = pos 0; ceiling = pos 0; batch = 0 }
 
 abbrev pub close : List ℕ → Fields
 close s = close_fields (le_at 2 s 4)
@@ -134,7 +144,7 @@ close_bytes depth = bytes_of 2 6 ++ (bytes_of 2 2 ++ bytes_of 2 depth)
 -- The bytes of a record that was read, from its fields. No byte of it is lost (`bytes-again`).
 abbrev pub fields_bytes : Fields → List ℕ
 fields_bytes f =
-    cond (eqb f.kind 1)
+    cond (is_open f.kind)
     (cond (eqb f.length 18) (open_bytes f.depth f.value f.floor f.ceiling)
     (cond (eqb f.length 10) (short_bytes f.depth f.value) (batch_bytes f.depth f.value f.floor f.ceiling f.batch)))
     (close_bytes f.depth)

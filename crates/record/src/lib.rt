@@ -16,23 +16,23 @@ ghost use Rattle.record.specs.Record.{
   read_of,
 };
 
+// Document 01: kind 1 opens a record, kind 2 closes one.
+#[derive(Clone, Copy, Debug, PartialEq, Eq)]
+pub enum Kind {
+    Open = 1,
+    Close = 2,
+}
+
 // A record's fields. Value, floor and ceiling are 0 for a close, and the batch is 0 where the record has none.
-#[derive(Clone, Copy)]
+#[derive(Clone, Copy, Debug, PartialEq, Eq)]
 pub struct Fields {
-    pub kind: u16,
+    pub kind: Kind,
     pub length: u16,
     pub depth: u16,
     pub value: i32,
     pub floor: i32,
     pub ceiling: i32,
     pub batch: u32,
-}
-
-// What reading the first record of a chunk finds. `answer_of` says what each case means.
-#[derive(Clone, Copy)]
-pub enum Read {
-    Record(Fields),
-    Refused,
 }
 
 // The floor and the ceiling of an open record of length 10.
@@ -66,13 +66,13 @@ pub fn in_range(depth: u16, value: i32, floor: i32, ceiling: i32) -> bool
 }
 
 // The record, if its fields are in range.
-fn accept(f: Fields) -> Read
+fn accept(f: Fields) -> Option<Fields>
     ensures { answer_of result ≡ accepted f }
 {
     if in_range(f.depth, f.value, f.floor, f.ceiling) {
-        Read::Record(f)
+        Some(f)
     } else {
-        Read::Refused
+        None
     }
 }
 
@@ -89,15 +89,15 @@ fn read_batch(chunk: &[u8], len: u16) -> u32
 }
 
 // An open record of length 18, or 22 with its batch. One function for both, or reading is too long to be inlined.
-fn read_open(chunk: &[u8], len: u16) -> Read
+fn read_open(chunk: &[u8], len: u16) -> Option<Fields>
     requires { 18 ≤ len }
     ensures { answer_of result ≡ whole chunk.now (open_of len chunk.now) }
 {
     if chunk.len() < len as usize {
-        return Read::Refused;
+        return None;
     }
     accept(Fields {
-        kind: 1,
+        kind: Kind::Open,
         length: len,
         depth: number::read_u16(chunk, 4),
         value: number::read_i32(chunk, 6),
@@ -107,14 +107,14 @@ fn read_open(chunk: &[u8], len: u16) -> Read
     })
 }
 
-fn read_short(chunk: &[u8]) -> Read
+fn read_short(chunk: &[u8]) -> Option<Fields>
     ensures { answer_of result ≡ whole chunk.now (short_open chunk.now) }
 {
     if chunk.len() < 10 {
-        return Read::Refused;
+        return None;
     }
     accept(Fields {
-        kind: 1,
+        kind: Kind::Open,
         length: 10,
         depth: number::read_u16(chunk, 4),
         value: number::read_i32(chunk, 6),
@@ -124,14 +124,14 @@ fn read_short(chunk: &[u8]) -> Read
     })
 }
 
-fn read_close(chunk: &[u8]) -> Read
+fn read_close(chunk: &[u8]) -> Option<Fields>
     ensures { answer_of result ≡ whole chunk.now (close chunk.now) }
 {
     if chunk.len() < 6 {
-        return Read::Refused;
+        return None;
     }
     accept(Fields {
-        kind: 2,
+        kind: Kind::Close,
         length: 6,
         depth: number::read_u16(chunk, 4),
         value: 0,
@@ -141,26 +141,20 @@ fn read_close(chunk: &[u8]) -> Read
     })
 }
 
-// The first record of a chunk. Later bytes, and how many there are, are not judged.
+// The first record of a chunk, where it is readable: `answer_of` says what that means. Later bytes, and how many there are, are not judged.
 #[inline(always)]
-pub fn read_first(chunk: &[u8]) -> Read
+pub fn read_first(chunk: &[u8]) -> Option<Fields>
     ensures { answer_of result ≡ read_of chunk.now }
 {
     if chunk.len() < 4 {
-        return Read::Refused;
+        return None;
     }
     let length = number::read_u16(chunk, 0);
     let kind = number::read_u16(chunk, 2);
-    match kind {
-        1 => match length {
-            18 | 22 => read_open(chunk, length),
-            10 => read_short(chunk),
-            _ => Read::Refused,
-        },
-        2 => match length {
-            6 => read_close(chunk),
-            _ => Read::Refused,
-        },
-        _ => Read::Refused,
+    match (kind, length) {
+        (1, 18 | 22) => read_open(chunk, length),
+        (1, 10) => read_short(chunk),
+        (2, 6) => read_close(chunk),
+        _ => None,
     }
 }

@@ -13,10 +13,7 @@ pub fn first_length(row: &[u8]) -> usize
         return rest;
     }
     let field = number::read_u16(row, 0) as usize;
-    if field < 6 {
-        return rest;
-    }
-    if rest < field {
+    if field < 6 || rest < field {
         return rest;
     }
     field
@@ -27,28 +24,22 @@ pub fn count_pieces(row: &[u8]) -> usize
     ensures { result ≡ min 65 (length (row_pieces row.now)) }
 {
     let mut rest = row;
-    let mut n: usize = 0;
-    while 0 < rest.len() {
-        if n == 65 {
+    for n in 0..65 {
+        if rest.is_empty() {
             return n;
         }
-        let first = first_length(rest);
-        rest = &rest[first..];
-        n += 1;
+        rest = &rest[first_length(rest)..];
     }
-    n
+    65
 }
 
 // Where the first n pieces of a row end.
 pub fn end_of(row: &[u8], n: usize) -> usize
     ensures { result ≡ length (end_to_end (take n (row_pieces row.now))) }
 {
-    let mut at: usize = 0;
-    let mut k: usize = 0;
-    while k < n {
-        let first = first_length(&row[at..]);
-        at += first;
-        k += 1;
+    let mut at = 0;
+    for _ in 0..n {
+        at += first_length(&row[at..]);
     }
     at
 }

@@ -1,48 +1,35 @@
 -- What is noted of a row's pieces is what its summaries say: its fault. Assumes nothing.
-use Rattle.std.specs.Prelude.{◌≡◌, refl, List, [], ◌∷◌, map, ℕ, zero, suc, ◌+◌, ◌≤◌, ◌<◌, length, get_or}
-use Rattle.std.proofs.Common.{sym, ap, ◌∙◌, zero-add, arith, ne_eqb}
-use Rattle.std.proofs.lemmas.List.{length-map}
+use Rattle.std.specs.Prelude.{◌≡◌, refl, List, [], ◌∷◌, map, ℕ, zero, suc, ◌+◌, ◌≤◌, ◌<◌, length, get_or, take, Option, None}
+use Rattle.std.proofs.Common.{sym, ap, ap₂, subst, ◌∙◌, arith, length-take}
+use Rattle.std.proofs.Math.Logic.{dite}
+use Rattle.std.proofs.Math.Decide.{dec_lt}
+use Rattle.std.proofs.Math.ListN.{get_or-eq_default}
+use Rattle.std.proofs.lemmas.List.{get_or-take}
 use Rattle.figure.specs.Mode.{mode_of}
-use Rattle.hill.specs.Verdict.{pass, refuse}
 use Rattle.hill.specs.Summary.{blank}
-use Rattle.summary.specs.Judge.{IsSummary, is_blank, is_spoilt, is_hill, rise_at, fall_at, start_at, peak_at, end_at, opened_at, fault_at}
+use Rattle.summary.specs.Judge.{IsSummary, is_blank, is_spoilt, is_hill, rise_at, fall_at, start_at, peak_at, end_at}
 use Rattle.summary.specs.Decode.{decode}
 use Rattle.summary.proofs.Values.{lefts-length, rights-length, reading-blank, reading-spoilt, reading-hill}
-use Rattle.summary.specs.Layout.{SummaryIn}
 use Rattle.judge.specs.Judged.{head_at}
-use Rattle.judge.specs.Laws.{head-blank, head-spoilt, head-hill}
+use Rattle.judge.specs.Numbers.{numbers_of, AllInBounds}
+use Rattle.judge.specs.Laws.{head-blank, head-spoilt, head-hill, summary-fits, in-bounds, fault-number}
+use Rattle.judge.specs.declared.Numbers.{Numbers}
 use Rattle.plan_work.specs.Gate.{row_fault}
 use Rattle.outcome.specs.Laws.{AllIn}
-use Rattle.row_gate.specs.Told.{Told, tells, told_of, told_from, told_in, tolds_from, told_fault}
-use Rattle.row_gate.specs.ToldLaws.{told-all, fault-row, own-hill, own-spoilt}
-use Rattle.fault.specs.Fault.{no_fault}
-use Rattle.fault.specs.Laws.{clear, found}
-use Rattle.row_gate.specs.Notes.{note_of, AllNoted}
-use Rattle.row_gate.specs.declared.pieces.Note.{Note}
+use Rattle.row_gate.specs.Told.{Told, told_of, told_fault, told_of_note}
+use Rattle.row_gate.specs.ToldLaws.{fault-row}
+use Rattle.row_gate.specs.Notes.{note_at, Noted, AllNoted}
 
 -- ---- one piece
 
-abbrev told : Note → Told
-told n = told_from n.state n.start n.end n.opened
-
-told-spoilt : (f s e o : ℕ) → 7 ≤ f → f ≤ 9 → told_from f s e o ≡ tells (refuse f) s e o
-unfolding told_from
-told-spoilt f s e o a b = rw (ne_eqb f 0 (omega arith), ← own-spoilt f (omega arith), found f (omega arith))
-
-told-hill : (s e o : ℕ) → told_from 1 s e o ≡ tells pass s e o
-unfolding told_from
-told-hill s e o = rw (← own-hill 1 refl, clear no_fault (omega arith))
-
-pub told-piece : (m : ℕ) (b : List ℕ) → IsSummary b → told (note_of (head_at b)) ≡ told_of (decode m b)
-unfolding decode told_from
+pub told-piece : (m : ℕ) (b : List ℕ) → IsSummary b → told_of_note (numbers_of (head_at b)) ≡ told_of (decode m b)
+unfolding decode
 told-piece m b (is_blank f) = rw (head-blank b f.kind_fits, reading-blank (mode_of m).read b f.kind_fits)
-told-piece m b (is_spoilt v) =
-    rw (head-spoilt b v.layout.kind_fits, reading-spoilt (mode_of m).read b v.layout.kind_fits) (told-spoilt (fault_at b) _ _ _ v.fault-low v.fault-high)
+told-piece m b (is_spoilt v) = rw (head-spoilt b v.layout.kind_fits, reading-spoilt (mode_of m).read b v.layout.kind_fits, fault-number v)
 told-piece m b (is_hill v) =
     let s : peak_at b + rise_at b ≡ start_at b = omega (arith, v.peak-start) in
     let e : peak_at b + fall_at b ≡ end_at b = omega (arith, v.peak-end) in
     rw (head-hill b (λ x. omega (arith, v.layout.kind_fits)) (λ x. omega (arith, v.layout.kind_fits)), reading-hill (mode_of m).read b v.layout.kind_fits, lefts-length (mode_of m).read b (rise_at b), rights-length (mode_of m).read b (fall_at b), s, e)
-    (told-hill (start_at b) (end_at b) (opened_at b))
 
 -- ---- the pieces of a row
 
@@ -57,15 +44,22 @@ module _ (m : ℕ) where
   decoded-at (p ∷ ps) zero h = refl
   decoded-at (p ∷ ps) (suc i) h = decoded-at ps i (omega arith)
 
-  module _ (ps : List (List ℕ)) (a : AllIn m ps) (states starts peaks ends openeds : List ℕ) (noted : AllNoted ps states starts peaks ends openeds) where
-    abbrev row : List (SummaryIn m)
-    row = map (decode m) ps
+  told-all : (ps : List (List ℕ)) → AllIn m ps → (notes : List (Option Numbers)) → AllNoted ps notes → length ps ≤ length notes → map told_of_note (take (length ps) notes) ≡ map told_of (map (decode m) ps)
+  told-all [] a notes n h = refl
+  told-all (p ∷ ps) a [] n h = absurd (omega arith)
+  told-all (p ∷ ps) a (x ∷ notes) n h =
+      ap₂ (λ (t : Told) (ts : List Told). t ∷ ts) (ap told_of_note (n 0 (omega arith)) ∙ told-piece m p a.0.is) (told-all ps a.1 notes (λ i l. n (suc i) (omega arith)) (omega arith))
 
-    pub row-fault : (count : ℕ) → length ps ≡ count → told_fault (tolds_from states starts ends openeds 0 count) ≡ row_fault row
-    row-fault count e =
-        ap told_fault (ap (tolds_from states starts ends openeds 0) (sym e ∙ sym (length-map ps (decode m))) ∙ told-all states starts ends openeds row 0 each) ∙ fault-row row
-      where
-        each : (i : ℕ) → i < length row → told_in states starts ends openeds (0 + i) ≡ told_of (get_or row i blank)
-        each i h =
-            let l : i < length ps = omega (arith, length-map ps (decode m)) in
-            ap (told_in states starts ends openeds) (zero-add i) ∙ ap told (noted i l) ∙ told-piece m (get_or ps i []) (each_in ps a i l) ∙ ap told_of (sym (decoded-at ps i l))
+  module _ (ps : List (List ℕ)) (a : AllIn m ps) (notes : List (Option Numbers)) (noted : AllNoted ps notes) (count : ℕ) (long : length ps ≡ count) where
+    pub row-fault : count ≤ length notes → told_fault (map told_of_note (take count notes)) ≡ row_fault (map (decode m) ps)
+    row-fault h = ap (λ (n : ℕ). told_fault (map told_of_note (take n notes))) (sym long) ∙ ap told_fault (told-all ps a notes noted (omega arith)) ∙ fault-row (map (decode m) ps)
+
+    pub note-bounds : (k : ℕ) → k < count → AllInBounds (note_at notes k)
+    note-bounds k h = subst AllInBounds (sym (noted k (omega arith))) (in-bounds (head_at (get_or ps k [])) (summary-fits (get_or ps k []) (each_in ps a k (omega arith))))
+
+    pub notes-bounds : Noted (take count notes)
+    notes-bounds = record {
+      each = λ k. dite (dec_lt k count)
+          (λ h. subst AllInBounds (sym (get_or-take count notes k None h)) (note-bounds k h))
+          (λ h. subst AllInBounds (sym (get_or-eq_default (take count notes) None (simp length-take (omega arith)))) tt);
+    }

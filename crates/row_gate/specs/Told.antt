@@ -1,8 +1,9 @@
 -- What questions 7 to 11 read of a row's pieces, and their lowest fault, piece by piece. Definitions only.
-use Rattle.std.specs.Prelude.{◌≡◌, cond, List, [], ◌∷◌, ℕ, zero, suc, ◌+◌, ◌≤◌, eqb, get_or}
+use Rattle.std.specs.Prelude.{◌≡◌, List, [], ◌∷◌, ℕ, ◌+◌, ◌≤◌, Option, Some, None}
 use Rattle.hill.specs.Verdict.{Verdict, refuse, low, joint, count, ends}
-use Rattle.fault.specs.Fault.{no_fault, verdict_of}
+use Rattle.fault.specs.Fault.{verdict_of}
 use Rattle.hill.specs.Summary.{Summary, blank, part, verdict, start, end, opened}
+use Rattle.judge.specs.declared.Numbers.{Numbers}
 use Rattle.row_gate.specs.declared.faults.Span.{Span}
 
 -- A blank tells nothing; any other its own fault, its start, its end and the records it opens.
@@ -26,35 +27,22 @@ told_fault [] = refuse 10
 told_fault (nothing ∷ ts) = told_fault ts
 told_fault (tells w s e n ∷ ts) = after_some s e w n ts
 
--- The state of a piece, as a byte: of a blank, of a hill, or the fault of a spoilt one.
-abbrev pub blank_state : ℕ
-blank_state = 0
+-- What is noted of a piece tells as much.
+abbrev pub told_of_note : Option Numbers → Told
+told_of_note None = nothing
+told_of_note (Some n) = tells (verdict_of n.fault) n.start n.end n.opened
 
-abbrev pub hill_state : ℕ
-hill_state = 1
+-- The pieces after those that a span has passed, or after blanks alone.
+abbrev pub onward_from : Option Span → List Told → Verdict
+onward_from None ts = told_fault ts
+onward_from (Some s) ts = after_some s.first s.last (verdict_of s.fault) s.opened ts
 
-unfoldable pub own_fault : ℕ → ℕ
-own_fault state = cond (eqb state hill_state) no_fault state
+-- The records opened by the pieces passed.
+abbrev pub opened_by : Option Span → ℕ
+opened_by None = 0
+opened_by (Some s) = s.opened
 
-unfoldable pub told_from : (state start end opened : ℕ) → Told
-told_from state start end opened = cond (eqb state blank_state) nothing (tells (verdict_of (own_fault state)) start end opened)
-
-abbrev pub told_in : (states starts ends openeds : List ℕ) → ℕ → Told
-told_in states starts ends openeds k = told_from (get_or states k 0) (get_or starts k 0) (get_or ends k 0) (get_or openeds k 0)
-
--- n pieces from the k-th on.
-unfoldable pub tolds_from : (states starts ends openeds : List ℕ) → (k n : ℕ) → List Told
-tolds_from states starts ends openeds k zero = []
-tolds_from states starts ends openeds k (suc n) = told_in states starts ends openeds k ∷ tolds_from states starts ends openeds (suc k) n
-
-pub record Few (openeds : List ℕ) : Type 0 where
-  pub each : (k : ℕ) → get_or openeds k 0 ≤ 100_001
-
--- The pieces after those that a span has passed.
-unfoldable pub onward_from : Span → List Told → Verdict
-onward_from s ts = cond s.seen (after_some s.first s.last (verdict_of s.fault) s.opened ts) (told_fault ts)
-
--- `pass`: a span has passed one piece more.
-pub record Passed (s : Span) (t : Told) (o : ℕ) (r : Span) : Type 0 where
-  pub is : (ts : List Told) → onward_from r ts ≡ onward_from s (t ∷ ts)
-  pub opened : r.opened ≤ s.opened + o
+-- `pass`: one piece more is passed, which is not blank.
+pub record Passed (s : Option Span) (n : Numbers) (r : Span) : Type 0 where
+  pub is : (ts : List Told) → onward_from (Some r) ts ≡ onward_from s (told_of_note (Some n) ∷ ts)
+  pub opened : r.opened ≤ opened_by s + n.opened

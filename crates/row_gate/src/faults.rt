@@ -1,102 +1,66 @@
 // Questions 7 to 11 of a row, from what is noted of its pieces.
-ghost use Rattle.std.specs.Prelude.{◌≡◌, List, [], ◌∷◌, ◌+◌, ◌*◌, ◌≤◌, min, length, get_or};
+ghost use Rattle.std.specs.Prelude.{◌≡◌, [], ◌+◌, ◌≤◌, map, length};
 ghost use Rattle.fault.specs.Fault.{verdict_of};
-ghost use Rattle.row_gate.specs.Told.{Told, told_from, tolds_from, told_fault, onward_from, own_fault, Passed, Few};
+ghost use Rattle.row_gate.specs.Notes.{Noted};
+ghost use Rattle.row_gate.specs.Told.{told_of_note, told_fault, opened_by, onward_from, Passed};
 
-use super::{BLANK, HILL};
+use gate::Refusal;
+use judge::Numbers;
 
-// The pieces passed: whether one of them was not blank, and then where the first starts and the last ends, the lowest fault so far and the
-// records opened.
-#[derive(Clone, Copy)]
+// The pieces passed, where one of them is not blank: where the first starts and the last ends, the lowest fault so far and the records opened.
+#[derive(Clone, Copy, Debug, PartialEq, Eq)]
 struct Span {
-    seen: bool,
     first: u8,
     last: u8,
-    fault: u8,
+    fault: Option<Refusal>,
     opened: u32,
 }
 
-// The fault of a piece by its state, which is not BLANK: a hill has none.
-fn own_fault(state: u8) -> u8
-    ensures { result ≡ own_fault state }
+// One piece more, which is not blank.
+fn pass(s: Option<Span>, n: Numbers) -> Span
+    requires { opened_by s + n.opened ≤ 10_000_000 }
+    ensures { Passed s n result }
 {
-    if state == HILL { fault::NONE } else { state }
-}
-
-// One piece more; a blank changes nothing.
-fn pass(s: Span, state: u8, start: u8, end: u8, opened: u32) -> Span
-    requires { s.opened + opened ≤ 10_000_000 }
-    ensures { Passed s (told_from state start end opened) opened result }
-{
-    if state == BLANK {
-        return s;
-    }
-    let own = own_fault(state);
-    let seen = s.seen;
-    if !seen {
+    let Some(s) = s else {
         return Span {
-            seen: true,
-            first: start,
-            last: end,
-            fault: own,
-            opened,
+            first: n.start,
+            last: n.end,
+            fault: n.fault,
+            opened: n.opened,
         };
-    }
-    let first = s.first;
-    let last = s.last;
-    let fault = s.fault;
-    let before = s.opened;
+    };
+    let joint = fault::joint(u16::from(s.last), u16::from(n.start));
     Span {
-        seen: true,
-        first,
-        last: end,
-        fault: fault::lower(
-            fault,
-            fault::lower(own, fault::joint(last as u16, start as u16)),
-        ),
-        opened: before + opened,
+        first: s.first,
+        last: n.end,
+        fault: fault::lower(s.fault, fault::lower(n.fault, joint)),
+        opened: s.opened + n.opened,
     }
 }
 
 // The lowest fault, once all pieces are passed.
-fn lowest(s: Span) -> u8
+fn lowest(s: Option<Span>) -> Option<Refusal>
     ensures { verdict_of result ≡ onward_from s [] }
 {
-    let seen = s.seen;
-    if !seen {
-        return 10;
-    }
-    let fault = s.fault;
-    let first = s.first;
-    let last = s.last;
-    let opened = s.opened;
-    let so_far = fault::lower(fault, fault::count(opened));
-    fault::lower(so_far, fault::ends(first as u16, last as u16))
+    let Some(s) = s else {
+        return Some(Refusal::NoRecord);
+    };
+    let so_far = fault::lower(s.fault, fault::count(s.opened));
+    fault::lower(so_far, fault::ends(u16::from(s.first), u16::from(s.last)))
 }
 
 // The lowest fault of a row.
-pub fn row_fault(
-    states: &[u8; 64],
-    starts: &[u8; 64],
-    ends: &[u8; 64],
-    opened: &[u32; 64],
-    count: usize,
-) -> u8
-    requires count_bound { count ≤ 64 }
-    requires few { Few opened.now }
-    ensures { verdict_of result ≡ told_fault (tolds_from states.now starts.now ends.now opened.now 0 count) }
+pub fn row_fault(notes: &[Option<Numbers>]) -> Option<Refusal>
+    requires few { length notes.now ≤ 64 }
+    requires noted { Noted notes.now }
+    ensures { verdict_of result ≡ told_fault (map told_of_note notes.now) }
 {
-    let mut s = Span {
-        seen: false,
-        first: 0,
-        last: 0,
-        fault: fault::NONE,
-        opened: 0,
-    };
-    let mut k: usize = 0;
-    while k < count {
-        s = pass(s, states[k], starts[k], ends[k], opened[k]);
-        k += 1;
+    let mut s = None;
+    for note in notes {
+        let Some(n) = note else {
+            continue;
+        };
+        s = Some(pass(s, *n));
     }
     lowest(s)
 }

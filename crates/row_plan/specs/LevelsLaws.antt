@@ -1,27 +1,15 @@
 -- The levels that the lines of a plan fold, line by line. Assumes nothing.
-use Rattle.std.specs.Prelude.{◌≡◌, ℕ, ◌+◌, ◌-◌}
-use Rattle.std.proofs.Math.Path.{refl}
-use Rattle.std.proofs.Common.{sym, ap, ◌∙◌, add-one}
-use mathlib.Core.List.{List, [], ◌∷◌, ◌++◌}
-use native.Mathlib.Omega.{arith}
-use Rattle.join_plan.specs.Plan.{Line, folded}
-use Rattle.row_plan.specs.Arrays.{line_in, lines_in}
+use Rattle.std.specs.Prelude.{◌≡◌, List, [], ◌∷◌, ◌+◌, ◌-◌, ℕ, sum_by}
+use Rattle.std.proofs.Common.{refl, ap, ◌∙◌}
+use Rattle.std.proofs.lemmas.List.Sums.{sum_by-cons}
+use Rattle.join_plan.specs.Plan.{folded}
+use Rattle.row_plan.specs.declared.Line.{Line as HeldLine}
+use Rattle.row_plan.specs.Arrays.{lines_in}
 
-module _ (is js lows highs : List ℕ) where
-  pub folded-none : 0 ≡ folded (lines_in is js lows highs 0)
-  unfolding folded
-  folded-none = refl
+abbrev pub levels_held : HeldLine → ℕ
+levels_held l = l.high - l.low + 1
 
-  folded-append : (a b : List Line) → folded (a ++ b) ≡ folded a + folded b
-  unfolding folded
-  folded-append [] b = omega arith
-  folded-append (l ∷ a) b = omega (arith, folded-append a b)
-
-  folded-one : (l : Line) → folded (l ∷ []) ≡ l.highest - l.lowest + 1
-  unfolding folded
-  folded-one l = omega arith
-
-  pub folded-next : (k v d : ℕ) → v ≡ folded (lines_in is js lows highs k) → d ≡ (line_in is js lows highs k).highest - (line_in is js lows highs k).lowest → v + d + 1 ≡ folded (lines_in is js lows highs (k + 1))
-  folded-next k v d e f =
-      omega (arith, folded-append (lines_in is js lows highs k) (line_in is js lows highs k ∷ []), folded-one (line_in is js lows highs k)) ∙
-      ap (λ (i : ℕ). folded (lines_in is js lows highs i)) (sym (add-one k))
+pub sum-folded : (ls : List HeldLine) → sum_by levels_held ls ≡ folded (lines_in ls)
+unfolding folded
+sum-folded [] = refl
+sum-folded (l ∷ ls) = sum_by-cons levels_held l ls ∙ ap (λ n. levels_held l + n) (sum-folded ls)

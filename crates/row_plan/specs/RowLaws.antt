@@ -1,7 +1,7 @@
 -- What is noted of a row that is let through says its plan, which has room. Assumes nothing.
-use Rattle.std.specs.Prelude.{◌≡◌, List, [], ◌++◌, map, length, get_or}
+use Rattle.std.specs.Prelude.{◌≡◌, List, [], ◌++◌, map, length, get_or, Option}
 use Rattle.std.proofs.Math.Path.{refl, ap, ap₂}
-use Rattle.std.proofs.Common.{sym, ◌∙◌, arith, le-leb}
+use Rattle.std.proofs.Common.{sym, ◌∙◌, arith}
 use Prim.Native.Nat.{ℕ, zero, suc, ◌+◌, ◌≤◌, ◌<◌}
 use Rattle.std.proofs.lemmas.List.{length-map}
 use Rattle.figure.specs.Mode.{mode_of}
@@ -11,6 +11,8 @@ use Rattle.summary.specs.Decode.{decode}
 use Rattle.summary.proofs.Values.{lefts-length, rights-length, reading-blank, reading-spoilt, reading-hill}
 use Rattle.summary.specs.Layout.{SummaryIn}
 use Rattle.judge.specs.Judged.{head_at}
+use Rattle.judge.specs.Numbers.{numbers_of}
+use Rattle.judge.specs.declared.Numbers.{Numbers}
 use Rattle.judge.specs.Laws.{head-blank, head-spoilt, head-hill}
 use Rattle.join_plan.specs.Plan.{Levels, blank as noLevels, hill as levels, levels_of_summary, plan_of_row}
 use Rattle.join_plan.specs.Scan.{line_of, passed, walk, lines_to, plan}
@@ -18,15 +20,15 @@ use Rattle.plan_work.proofs.RowLevels.{plan-row}
 use Rattle.outcome.specs.Laws.{AllIn}
 use Rattle.outcome.proofs.Through.{few-lines}
 use Rattle.row.specs.Row.{row_pieces}
-use Rattle.row_plan.specs.Arrays.{levels_from, levels_in}
-use Rattle.row_gate.specs.Notes.{note_of, AllNoted}
-use Rattle.row_gate.specs.Asks.{Through}
+use Rattle.row_plan.specs.Arrays.{levels_of, levels_at}
+use Rattle.row_gate.specs.Notes.{AllNoted}
+use Rattle.row_gate.specs.Asks.{LetThrough}
 use Rattle.row_gate.specs.RowLaws.{each_in, decoded-at}
 
 -- ---- one piece
 
-pub levels-piece : (m : ℕ) (b : List ℕ) → IsSummary b → levels_from (note_of (head_at b)).start (note_of (head_at b)).peak (note_of (head_at b)).end ≡ levels_of_summary (decode m b)
-unfolding decode levels_from
+pub levels-piece : (m : ℕ) (b : List ℕ) → IsSummary b → levels_of (numbers_of (head_at b)) ≡ levels_of_summary (decode m b)
+unfolding decode
 levels-piece m b (is_blank f) = rw (head-blank b f.kind_fits, reading-blank (mode_of m).read b f.kind_fits)
 levels-piece m b (is_spoilt v) = rw (head-spoilt b v.layout.kind_fits, reading-spoilt (mode_of m).read b v.layout.kind_fits)
 levels-piece m b (is_hill v) =
@@ -39,7 +41,6 @@ levels-piece m b (is_hill v) =
       rights-length (mode_of m).read b (fall_at b),
       s,
       e,
-      le-leb (peak_at b) 64 (omega (arith, v.peak-start, v.start-high)),
     )
 
 -- ---- the plan reads the levels of its chunks only
@@ -66,19 +67,19 @@ module _ (m : ℕ) (ps : List (List ℕ)) (a : AllIn m ps) where
   abbrev row : List (SummaryIn m)
   row = map (decode m) ps
 
-  pub row-plan : (states starts peaks ends openeds : List ℕ) → AllNoted ps states starts peaks ends openeds → (count : ℕ) → length ps ≡ count → plan (levels_in starts peaks ends) count ≡ plan_of_row row
-  row-plan states starts peaks ends openeds noted count e =
-      plan-cong (levels_in starts peaks ends) (λ k. levels_of_summary (get_or row k blank)) count each ∙ ap (plan (λ (k : ℕ). levels_of_summary (get_or row k blank))) (sym e ∙ sym (length-map ps (decode m))) ∙ sym (plan-row (mode_of m).algebra row)
+  pub row-plan : (notes : List (Option Numbers)) → AllNoted ps notes → (count : ℕ) → length ps ≡ count → plan (levels_at notes) count ≡ plan_of_row row
+  row-plan notes noted count e =
+      plan-cong (levels_at notes) (λ k. levels_of_summary (get_or row k blank)) count each ∙ ap (plan (λ (k : ℕ). levels_of_summary (get_or row k blank))) (sym e ∙ sym (length-map ps (decode m))) ∙ sym (plan-row (mode_of m).algebra row)
     where
-      each : (k : ℕ) → k < count → levels_in starts peaks ends k ≡ levels_of_summary (get_or row k blank)
-      each k h = ap (λ n. levels_from n.start n.peak n.end) (noted k (omega arith)) ∙ levels-piece m (get_or ps k []) (each_in m ps a k (omega arith)) ∙ ap levels_of_summary (sym (decoded-at m ps k (omega arith)))
+      each : (k : ℕ) → k < count → levels_at notes k ≡ levels_of_summary (get_or row k blank)
+      each k h = ap levels_of (noted k (omega arith)) ∙ levels-piece m (get_or ps k []) (each_in m ps a k (omega arith)) ∙ ap levels_of_summary (sym (decoded-at m ps k (omega arith)))
 
 -- ---- a row that is let through
 
-module _ {row : List ℕ} {count m : ℕ} {states starts peaks ends openeds : List ℕ} (t : Through row count m states starts peaks ends openeds) where
-  pub plan-is : plan (levels_in starts peaks ends) count ≡ plan_of_row (map (decode m) (row_pieces row))
-  plan-is = row-plan m (row_pieces row) t.all states starts peaks ends openeds t.noted count t.long
+module _ {row : List ℕ} {count m : ℕ} {notes : List (Option Numbers)} (t : LetThrough row count m notes) where
+  pub plan-is : plan (levels_at notes) count ≡ plan_of_row (map (decode m) (row_pieces row))
+  plan-is = row-plan m (row_pieces row) t.all notes t.noted count t.long
 
   -- at most 125 lines
-  pub plan-room : length (plan (levels_in starts peaks ends) count) ≤ 128
+  pub plan-room : length (plan (levels_at notes) count) ≤ 128
   plan-room = omega (arith, t.long, t.few, ap length plan-is, few-lines m (row_pieces row) t.all (omega (arith, t.long, t.some)) t.faultless)

@@ -1,11 +1,8 @@
--- A line of the plan in arrays: where its levels are read, what they are, and what they can add up to. Assumes nothing.
-use Rattle.std.specs.Prelude.{◌≡◌, ℕ, zero, suc, ◌+◌, ◌-◌, ◌≤◌, ◌<◌, length}
-use Rattle.std.proofs.Common.{ap, subst, ◌∙◌, arith}
+-- A line of the plan: where its levels are read, what they are, and what they can add up to. Assumes nothing.
+use Rattle.std.specs.Prelude.{◌≡◌, refl, ℕ, zero, suc, ◌+◌, ◌-◌, ◌≤◌, ◌<◌, length, take, Option}
+use Rattle.std.proofs.Common.{ap, subst, ◌∙◌, arith, length-take}
 use Rattle.std.proofs.Math.Path.{ap₂}
-use mathlib.Core.List.Memᴰ
 use mathlib.Core.List.{List, [], ◌∷◌, ◌++◌, Memᴰ}
-use Rattle.std.proofs.Math.Logic.{dite}
-use Rattle.std.proofs.Math.Decide.{dec_lt}
 use Rattle.row.specs.Row.{row_pieces}
 use Rattle.algebra.specs.Run.{Level}
 use Rattle.algebra.specs.Sizes.{costs}
@@ -18,7 +15,9 @@ use Rattle.plan_work.specs.Runs.{peak_of_summary, slopes_of, levels_down, summar
 use Rattle.plan_work.proofs.WorkLaws.{levels-next}
 use Rattle.plan_work.proofs.RunsExact.{line-spans}
 use Rattle.plan_work.proofs.WorkSizes.{levels-light, load_fits}
-use Rattle.row_plan.specs.Arrays.{levels_in, line_in, lines_in, Kept}
+use Rattle.row_plan.specs.Arrays.{levels_at, lines_in, Kept}
+use Rattle.row_plan.specs.declared.Line.{Line as HeldLine}
+use Rattle.judge.specs.declared.Numbers.{Numbers}
 use Rattle.row_plan.specs.RowLaws.{plan-is, plan-room}
 use Rattle.row_plan.specs.ScanLaws.{kept-count}
 use Rattle.outcome.proofs.Through.{valid-row}
@@ -28,43 +27,41 @@ use Rattle.run_level.specs.Levels.{piece_of, Begun, place_in, Reads, level_at, l
 use Rattle.run_level.specs.StandsFor.{LineLevels, level-is}
 use Rattle.run_level.specs.Lines.{line_reads, levels-of}
 use Rattle.row_gate.specs.Asks.{LetThrough}
-use Rattle.run_level.specs.Along.{row_in, Along, levels_of}
+use Rattle.run_level.specs.Along.{row_in, Along, line_at, levels_of}
 
--- ---- the lines in the arrays
+-- ---- the lines of a plan
 
 -- A row that is let through, once its plan is scanned.
-module _ {row : List ℕ} {count m : ℕ} {starts peaks ends : List ℕ} (t : LetThrough row count m starts peaks ends) {is₀ js₀ lows₀ highs₀ is js lows highs : List ℕ} {n : ℕ}
-    (k : Kept (plan (levels_in starts peaks ends) count) 0 is₀ js₀ lows₀ highs₀ n is js lows highs) where
+module _ {row : List ℕ} {count m : ℕ} {notes : List (Option Numbers)} (t : LetThrough row count m notes) {held held' : List HeldLine} {n : ℕ} (k : Kept (plan (levels_at notes) count) 0 held n held') where
   pub plan-count : n ≡ length (plan_of_row (row_in m row))
-  plan-count = kept-count _ is₀ js₀ lows₀ highs₀ is js lows highs n k ∙ ap length (plan-is t.through)
+  plan-count = kept-count k ∙ ap length (plan-is t)
 
   pub lines-few : n ≤ 128
-  lines-few = omega (arith, kept-count _ is₀ js₀ lows₀ highs₀ is js lows highs n k, plan-room t.through)
+  lines-few = omega (arith, kept-count k, plan-room t)
 
-  pub along : {ats : List ℕ} → Begun row count ats → Along row count m ats starts peaks is js lows highs n
-  along b = record { ready = record { ends = ends; let_through = t; begun = b }; lines = k.lines ∙ plan-is t.through; few = lines-few }
+  pub along : {ats : List ℕ} → Begun row count ats → Along row count m ats notes (take n held')
+  along b = record { ready = record { let_through = t; begun = b }; planned = k.lines ∙ plan-is t; few = simp length-take (omega (arith, lines-few)) }
 
-line-here : (is js lows highs : List ℕ) (k n : ℕ) → k < n → Memᴰ (line_in is js lows highs k) (lines_in is js lows highs n)
-line-here is js lows highs k zero h = absurd (omega arith)
-line-here is js lows highs k (suc n) h = dite (dec_lt k n)
-    (λ l. Memᴰ.append_left (line_in is js lows highs n ∷ []) (line-here is js lows highs k n l))
-    (λ l. let e : k ≡ n = omega arith in Memᴰ.append_right (lines_in is js lows highs n) (Memᴰ.head (ap (line_in is js lows highs) e)))
+line-here : (lines : List HeldLine) (k : ℕ) → k < length lines → Memᴰ (line_at lines k) (lines_in lines)
+line-here [] k h = absurd (omega arith)
+line-here (l ∷ lines) zero h = Memᴰ.head refl
+line-here (l ∷ lines) (suc k) h = Memᴰ.tail (line-here lines k (omega arith))
 
-module _ {row : List ℕ} {count m : ℕ} {ats starts peaks is js lows highs : List ℕ} {n : ℕ} (a : Along row count m ats starts peaks is js lows highs n) (k : ℕ) (h : k < n) where
+module _ {row : List ℕ} {count m : ℕ} {ats : List ℕ} {notes : List (Option Numbers)} {lines : List HeldLine} (a : Along row count m ats notes lines) (k : ℕ) (h : k < length lines) where
   abbrev e : Line
-  e = line_in is js lows highs k
+  e = line_at lines k
 
   pub line-member : Memᴰ e (plan_of_row (row_in m row))
-  line-member = subst (λ (ls : List Line). Memᴰ e ls) a.lines (line-here is js lows highs k n h)
+  line-member = subst (λ (ls : List Line). Memᴰ e ls) a.planned (line-here lines k h)
 
   pub line-levels-of : LineLevels m (row_pieces row) e
-  line-levels-of = levels-of a.ready.let_through.through a.ready.begun e line-member
+  line-levels-of = levels-of a.ready.let_through a.ready.begun e line-member
 
-  pub line-reads-at : (d : ℕ) → e.lowest ≤ d → d ≤ e.highest → Reads row (place_in ats starts peaks e.i) (place_in ats starts peaks e.j) d
-  line-reads-at = line_reads a.ready.let_through.through a.ready.begun e line-levels-of
+  pub line-reads-at : (d : ℕ) → e.lowest ≤ d → d ≤ e.highest → Reads row (place_in ats notes e.i) (place_in ats notes e.j) d
+  line-reads-at = line_reads a.ready.let_through a.ready.begun e line-levels-of
 
   -- The levels of the line are those of the hills at its places.
-  pub line-is : run_levels (mode_of m).algebra (row_in m row) e ≡ levels_of row m (place_in ats starts peaks e.i) (place_in ats starts peaks e.j) e.lowest (suc e.highest - e.lowest)
+  pub line-is : run_levels (mode_of m).algebra (row_in m row) e ≡ levels_of row m (place_in ats notes e.i) (place_in ats notes e.j) e.lowest (suc e.highest - e.lowest)
   unfolding run_levels
   line-is =
       let v = line-levels-of in
@@ -77,7 +74,7 @@ module _ {row : List ℕ} {count m : ℕ} {ats starts peaks is js lows highs : L
   line-costs =
       let 𝒜 = (mode_of m).algebra in
       let 𝒮 = (mode_of m).sizes in
-      let t = a.ready.let_through.through in
+      let t = a.ready.let_through in
       let v = valid-row m (row_pieces row) t.all in
       omega (arith, levels-light 𝒜 𝒮 (row_in m row) v e (line-spans 𝒜 (row_in m row) e line-member), load_fits 𝒜 𝒮 (row_in m row) v (mode_of m).laws (mode_of m).commutative t.faultless (mode_of m).unit-small)
 

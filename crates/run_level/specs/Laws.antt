@@ -14,7 +14,7 @@ use Rattle.row.specs.Row.{first_length, row_pieces, end_to_end}
 use Rattle.row.specs.Laws.{pieces-joined, end_of, end_none, end-next, first-inside}
 use Rattle.summary.specs.Judge.{start_at, peak_at, rise_at, fall_at, record_at}
 use Rattle.run_level.specs.declared.Place.{Place}
-use Rattle.run_level.specs.Levels.{piece_of, begin_of, Begun, Reads, level_in, level_at}
+use Rattle.run_level.specs.Levels.{piece_of, begin_of, Reads, level_in, level_at}
 
 -- ---- where pieces begin
 
@@ -33,24 +33,21 @@ end-last (suc k) s =
     end-next (suc k) s ∙ ap (λ (n : ℕ). first_length s + n) (end-last k t ∙ ap (λ (l : List ℕ). end_of k t + first_length l) d) ∙ omega arith
 
 -- What the loop over the pieces keeps: k of them have begun, and the next begins at `at`.
-pub record Beginning (row : List ℕ) (count : ℕ) (ats : List ℕ) (at k : ℕ) : Type 0 where
+pub record Beginning (row : List ℕ) (ats : List ℕ) (at k : ℕ) : Type 0 where
   pub long : length ats ≡ 64
-  pub near : k ≤ count
   pub next : at ≡ end_of k row
   pub inside : at ≤ length row
   pub each : (i : ℕ) → i < k → get_or ats i 0 ≡ begin_of row i
 
-pub begin-start : (row : List ℕ) (count : ℕ) (ats : List ℕ) → length ats ≡ 64 → Beginning row count ats 0 0
-begin-start row count ats l = record { long = l; near = omega arith; next = sym (end_none row); inside = omega arith; each = λ i h. absurd (omega arith) }
+pub begin-start : (row : List ℕ) (ats : List ℕ) → length ats ≡ 64 → Beginning row ats 0 0
+begin-start row ats l = record { long = l; next = sym (end_none row); inside = omega arith; each = λ i h. absurd (omega arith) }
 
-pub begin-next : (row : List ℕ) (count : ℕ) (ats : List ℕ) (at k first : ℕ) → count ≤ 64 → Beginning row count ats at k → k < count → first ≡ first_length (take (length row - at) (drop at row)) →
-    Beginning row count (set ats k at) (at + first) (k + 1)
-begin-next row count ats at k first c v h e =
+pub begin-next : (row : List ℕ) (ats : List ℕ) (at k first : ℕ) → Beginning row ats at k → k < 64 → first ≡ first_length (take (length row - at) (drop at row)) → Beginning row (set ats k at) (at + first) (k + 1)
+begin-next row ats at k first v h e =
     let f : first ≡ first_length (drop at row) = e ∙ ap first_length (part-rest at row) in
     let n : end_of (k + 1) row ≡ end_of k row + first_length (drop (end_of k row) row) = ap (λ (i : ℕ). end_of i row) (omega arith) ∙ end-last k row in
     record {
       long = length-set ats k at ∙ v.long;
-      near = omega arith;
       next = ap₂ ◌+◌ v.next (f ∙ ap (λ (i : ℕ). first_length (drop i row)) v.next) ∙ sym n;
       inside = first-inside row at first e v.inside;
       each = each;
@@ -61,9 +58,6 @@ begin-next row count ats at k first c v h e =
         (λ q. get_or-set_other ats k i at 0 (omega arith) ∙ v.each i q)
         (λ q. let e : i ≡ k = omega arith in
         ap (λ (n : ℕ). get_or (set ats k at) n 0) e ∙ get_or-set_same ats k at 0 (omega (arith, v.long)) ∙ v.next ∙ sym (begin-is row k) ∙ ap (begin_of row) (sym e))
-
-pub begin-end : (row : List ℕ) (count : ℕ) (ats : List ℕ) (at k : ℕ) → Beginning row count ats at k → count ≤ k → Begun row count ats
-begin-end row count ats at k v h = record { long = v.long; each = λ i l. v.each i (omega (arith, v.near)) }
 
 -- ---- the bytes of a piece in the row
 

@@ -1,11 +1,13 @@
 -- One level of a run in the bytes of a row. Definitions only.
-use Rattle.std.specs.Prelude.{◌≡◌, List, [], ℕ, suc, ◌+◌, ◌-◌, ◌≤◌, ◌<◌, length, get_or, take}
+use Rattle.std.specs.Prelude.{◌≡◌, List, [], ℕ, suc, ◌+◌, ◌-◌, ◌≤◌, ◌<◌, length, get_or, take, Option, Some, None}
 use Rattle.number.specs.Bytes.{i32_at, i64_at}
 use Rattle.row.specs.Row.{row_pieces, end_to_end}
 use Rattle.algebra.specs.Run.{Level}
 use Rattle.figure.specs.Mode.{mode_of}
 use Rattle.figure.specs.Stored.{amounts}
 use Rattle.summary.specs.Judge.{start_at, peak_at, end_at, value_at, floor_at, ceiling_at, held_at, left_at, IsHill}
+use Rattle.judge.specs.declared.Numbers.{Numbers}
+use Rattle.row_gate.specs.Notes.{note_at}
 use Rattle.run_level.specs.declared.Place.{Place}
 use Rattle.run_level.specs.declared.RunLevel.{RunLevel}
 
@@ -21,8 +23,17 @@ pub record Begun (row : List ℕ) (count : ℕ) (ats : List ℕ) : Type 0 where
   pub long : length ats ≡ 64
   pub each : (k : ℕ) → k < count → get_or ats k 0 ≡ begin_of row k
 
-abbrev pub place_in : (ats starts peaks : List ℕ) → ℕ → Place
-place_in ats starts peaks k = record { piece = k; at = get_or ats k 0; start = get_or starts k 0; peak = get_or peaks k 0 }
+-- The levels noted of a piece, and 0 of a blank.
+abbrev pub start_of : Option Numbers → ℕ
+start_of None = 0
+start_of (Some n) = n.start
+
+abbrev pub peak_of : Option Numbers → ℕ
+peak_of None = 0
+peak_of (Some n) = n.peak
+
+abbrev pub place_in : List ℕ → List (Option Numbers) → ℕ → Place
+place_in ats notes k = record { piece = k; at = get_or ats k 0; start = start_of (note_at notes k); peak = peak_of (note_at notes k) }
 
 -- A place is that of its piece.
 pub record Placed (row : List ℕ) (p : Place) : Type 0 where

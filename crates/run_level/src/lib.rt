@@ -2,10 +2,12 @@
 #![tactic(auto)]
 
 ghost use Rattle.std.specs.Prelude.{◌≡◌, ◌+◌, ◌≤◌, ◌<◌, length};
-ghost use Rattle.run_level.specs.Levels.{Begun, Reads, piece_of, level_at, level_in, place_in};
+ghost use Rattle.run_level.specs.Levels.{Begun, Reads, piece_of, level_at, level_in};
+
+pub mod hills;
 
 // A hill of a row: the number of its piece, where the piece begins, and the hill's start and peak.
-#[derive(Clone, Copy)]
+#[derive(Clone, Copy, Debug, PartialEq, Eq)]
 pub struct Place {
     pub piece: usize,
     pub at: usize,
@@ -15,7 +17,7 @@ pub struct Place {
 
 // One level of a run, as it is stored: an unclosed record with its held figures so far, and the left value at its level of the hill that
 // closes it.
-#[derive(Clone, Copy)]
+#[derive(Clone, Copy, Debug, PartialEq, Eq)]
 pub struct RunLevel {
     pub value: i32,
     pub floor: i32,
@@ -26,28 +28,13 @@ pub struct RunLevel {
 
 // Where each piece of a row begins.
 pub fn begin_pieces(row: &[u8], count: usize, ats: &mut [usize; 64])
-    requires { (count ≤ 64) × (length ats.old ≡ 64) }
+    requires { count ≤ 64 }
     ensures { Begun row.now count ats.new }
 {
-    let mut at: usize = 0;
-    let mut k: usize = 0;
-    while k < count {
+    let mut at = 0;
+    for k in 0..count {
         ats[k] = at;
-        let first = row::first_length(&row[at..]);
-        at += first;
-        k += 1;
-    }
-}
-
-pub fn place_of(ats: &[usize; 64], starts: &[u8; 64], peaks: &[u8; 64], k: usize) -> Place
-    requires { k < 64 }
-    ensures { result ≡ place_in ats.now starts.now peaks.now k }
-{
-    Place {
-        piece: k,
-        at: ats[k],
-        start: starts[k],
-        peak: peaks[k],
+        at += row::first_length(&row[at..]);
     }
 }
 
@@ -70,9 +57,9 @@ pub fn read_level(row: &[u8], opener: Place, closer: Place, depth: u8) -> RunLev
     requires { Reads row.now opener closer depth }
     ensures { result ≡ level_at (piece_of row.now opener.piece) (piece_of row.now closer.piece) depth }
 {
-    let rise = (opener.start - opener.peak) as usize;
-    let nth = (depth - opener.peak) as usize;
-    let below = (closer.start - depth - 1) as usize;
+    let rise = usize::from(opener.start - opener.peak);
+    let nth = usize::from(depth - opener.peak);
+    let below = usize::from(closer.start - depth - 1);
     read_at(
         row,
         opener.at + 24 + 8 * rise + 20 * nth,

@@ -1,5 +1,5 @@
 -- What the functions of `runs` ask and answer. Definitions only.
-use Rattle.std.specs.Prelude.{◌≡◌, List, [], ◌∷◌, map, ℕ, suc, ◌-◌, ◌≤◌, ◌<◌}
+use Rattle.std.specs.Prelude.{◌≡◌, List, [], ◌∷◌, map, ℕ, suc, ◌-◌, ◌≤◌, ◌<◌, length, Option}
 use Rattle.algebra.specs.Run.{Level}
 use Rattle.algebra.specs.Sizes.{cost, costs}
 use Rattle.figure.specs.Mode.{mode_of}
@@ -9,10 +9,13 @@ use Rattle.summary.specs.Judge.{mode_at}
 use Rattle.join_plan.specs.Plan.{Line}
 use Rattle.plan_work.specs.Runs.{run_levels, run_of, runs_along}
 use Rattle.outcome.specs.Outcomes.{each_run}
+use Rattle.judge.specs.declared.Numbers.{Numbers}
+use Rattle.row_plan.specs.declared.Line.{Line as HeldLine}
+use Rattle.row_plan.specs.Arrays.{line_in}
 use Rattle.run_level.specs.declared.Place.{Place}
 use Rattle.run_level.specs.declared.RunLevel.{RunLevel}
 use Rattle.run_level.specs.Levels.{piece_of, Reads, level_at, level_for}
-use Rattle.run_level.specs.Along.{row_in, Along, levels_of}
+use Rattle.run_level.specs.Along.{row_in, Along, line_at, levels_of}
 
 -- What the levels of a line can add up to: a row opens at most 100,000 records, of at most 10^9.
 unfoldable pub most : ℕ
@@ -45,15 +48,17 @@ pub record LineReads (row : List ℕ) (m : ℕ) (opener closer : Place) (low hig
 abbrev pub RunIs : (m : ℕ) → List (Level (mode_of m).algebra) → Run → Type 0
 RunIs m ls r = map (mode_of m).store_run (run_of (mode_of m).context ls) ≡ r ∷ []
 
--- The arrays hold the n lines of a plan; and k is one of them.
-pub record Lines (row : List ℕ) (m : ℕ) (ats starts peaks is js lows highs : List ℕ) (n : ℕ) : Type 0 where
+-- These are the lines of a plan; and this is one of them.
+pub record Lines (row : List ℕ) (m : ℕ) (ats : List ℕ) (notes : List (Option Numbers)) (lines : List HeldLine) : Type 0 where
   pub count : ℕ
-  pub along : Along row count m ats starts peaks is js lows highs n
+  pub along : Along row count m ats notes lines
 
-pub record LineAt (row : List ℕ) (m : ℕ) (ats starts peaks is js lows highs : List ℕ) (k : ℕ) : Type 0 where
-  pub n : ℕ
-  pub lines : Lines row m ats starts peaks is js lows highs n
-  pub inside : k < n
+pub record LineOf (row : List ℕ) (m : ℕ) (ats : List ℕ) (notes : List (Option Numbers)) (line : HeldLine) : Type 0 where
+  pub lines : List HeldLine
+  pub whole : Lines row m ats notes lines
+  pub k : ℕ
+  pub inside : k < length lines
+  pub is : line_in line ≡ line_at lines k
 
 -- r is the run of a line, as it is stored.
 abbrev pub LineRun : List ℕ → (m : ℕ) → Line → Run → Type 0

@@ -20,9 +20,7 @@ pub fn run_of_line(row: &[u8], opener: Place, closer: Place, low: u8, high: u8, 
     ensures { RunIs mode (line_levels row.now mode opener closer low high) result }
 {
     let mut run = run_of_level(row, opener, closer, high, mode);
-    let mut depth = high;
-    while low < depth {
-        depth -= 1;
+    for depth in (low..high).rev() {
         let outer = run_of_level(row, opener, closer, depth, mode);
         run = figure::runs::compose(mode, outer, run);
     }

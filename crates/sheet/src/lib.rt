@@ -4,7 +4,7 @@
 
 ghost use Rattle.std.specs.Prelude.{◌≡◌, true, List, ◌-◌, ◌<◌, min, length};
 ghost use Rattle.gate.specs.Outcome.{buffer_after};
-ghost use Rattle.gate.specs.Answers.{written_answer, length_answered};
+ghost use Rattle.gate.specs.Answers.{answered, length_answered};
 ghost use Rattle.gate.specs.Promises.{Answers};
 ghost use Rattle.modes.specs.FourModes.{Amounts};
 ghost use Rattle.figure.specs.Mode.{mode_in_use};
@@ -13,8 +13,8 @@ ghost use Rattle.whole_log.specs.AskLaws.{Opens};
 ghost use Rattle.chunk.specs.Laws.{IsLog};
 ghost use Rattle.day_sheet.specs.Sheet.{page_outcome, sheet_outcome};
 
-use gate::Written;
-use whole_log::LogAsked;
+use gate::Refusal;
+use page::Page;
 
 mod line;
 mod page;
@@ -24,41 +24,37 @@ fn lines_from(first: u32, opened: u32) -> u32
     requires { first < opened }
     ensures { result ≡ min 60 (opened - first) }
 {
-    let left = opened - first;
-    if left < 60 { left } else { 60 }
+    (opened - first).min(60)
 }
 
 // The page of a log that was let through: 18 and 12, and then its lines. 60 × page does not fit 32 bits for every page.
-fn put_page(log: &[u8], mode: u16, opened: u32, page: u32, out: &mut [u8]) -> Written
+fn put_page(log: &[u8], mode: u16, opened: u32, page: u32, out: &mut [u8]) -> Result<usize, Refusal>
     requires mode_value { mode_in_use mode ≡ true }
     requires opens { Opens log.now opened }
     ensures { (xs : List (Record Amounts)) → IsLog log.now xs → Answers (page_outcome mode page (length out.old) xs) out.old out.new result }
 {
     let starts = 60 * (page as u64);
     if (opened as u64) <= starts {
-        return Written::Refused(18);
+        return Err(Refusal::NoSuchPage);
     }
     let first = starts as u32;
     let lines = lines_from(first, opened);
     let total = 27 * (lines as usize);
     if out.len() < total {
-        return Written::Refused(12);
+        return Err(Refusal::BufferTooShort);
     }
-    page::print(log, mode, first, lines, out);
-    Written::Bytes(total)
+    page::print(log, Page { mode, first, lines }, out);
+    Ok(total)
 }
 
 // A page of the sheet of a whole log, in a mode, or the first question that gets a "no".
-pub fn sheet(log: &[u8], mode: u32, page: u32, out: &mut [u8]) -> Written
-    ensures answer { written_answer result ≡ length_answered (sheet_outcome log.now mode page (length out.old)) }
+pub fn sheet(log: &[u8], mode: u32, page: u32, out: &mut [u8]) -> Result<usize, Refusal>
+    ensures answer { answered result ≡ length_answered (sheet_outcome log.now mode page (length out.old)) }
     ensures buffer { out.new ≡ buffer_after (sheet_outcome log.now mode page (length out.old)) out.old }
 {
     if !figure::in_use(mode) {
-        return Written::Refused(1);
+        return Err(Refusal::Mode);
     }
-    let asked = whole_log::ask(log);
-    match asked {
-        LogAsked::Opened(opened) => put_page(log, mode as u16, opened, page, out),
-        LogAsked::Refused(n) => Written::Refused(n),
-    }
+    let opened = whole_log::ask(log)?;
+    put_page(log, mode as u16, opened, page, out)
 }

@@ -1,7 +1,8 @@
 -- The three cases of a chunk's summary. Assumes nothing.
-use Rattle.std.specs.Prelude.{◌≡◌, true, false, not, List, [], ◌∷◌, ℕ, ◌-◌, ◌≤◌, ◌<◌}
+use Rattle.std.specs.Prelude.{◌≡◌, true, false, not, List, [], ◌∷◌, ℕ, ◌-◌, ◌≤◌, Some, None}
 use Rattle.std.proofs.Math.Path.{refl}
 use Rattle.std.proofs.Common.{sym, ap, ◌∙◌, arith}
+use Rattle.hill.specs.Verdict.{refuse}
 use Rattle.hill.proofs.VerdictLaws.{low-pass, cut-few, count-few}
 use Rattle.hill.specs.Log.{Record, peak_of, opened_of, fault_of}
 use Rattle.hill.specs.Summary.{Hill as HillOf, part, spoilt, judged, part_of, summary_of}
@@ -18,8 +19,9 @@ use Rattle.slopes.specs.Laws.{rise-is, fall-is}
 use Rattle.summary.specs.Layout.{SummaryIn, encode}
 use Rattle.summary.specs.Outcomes.{summary_bytes}
 use Rattle.whole_log.specs.declared.Tally.{Tally}
-use Rattle.fault.specs.Fault.{no_fault, verdict_of}
-use Rattle.fault.specs.Laws.{found}
+use Rattle.gate.specs.Answers.{number_of}
+use Rattle.gate.specs.declared.Refusal.{Refusal}
+use Rattle.fault.specs.Laws.{found-is}
 use Rattle.whole_log.specs.Tallies.{Tells}
 use Rattle.whole_log.specs.TallyLaws.{begun, not-begun, not-both, joints-pass}
 use Rattle.summarise.specs.Scans.{Summed}
@@ -27,8 +29,8 @@ use Rattle.summarise.specs.ScanLaws.{start-low, start_is, end_is, part-whole}
 use Rattle.emit.specs.Emitted.{Said}
 use Rattle.emit.specs.Laws.{spoilt_head, hill_head, hill-said}
 
-judged-spoilt : {Fig R : Type 0} (k s e o p : ℕ) (h : HillOf Fig R) → k < no_fault → o ≤ 100000 → judged (verdict_of k) s e o p h ≡ spoilt k s e o
-judged-spoilt k s e o p h some le = rw (found k some) (ap (spoilt k s e) (cut-few o le))
+judged-spoilt : {Fig R : Type 0} (k s e o p : ℕ) (h : HillOf Fig R) → o ≤ 100000 → judged (refuse k) s e o p h ≡ spoilt k s e o
+judged-spoilt k s e o p h le = ap (spoilt k s e) (cut-few o le)
 
 module _ (m : ℕ) where
   abbrev M : Mode
@@ -41,12 +43,12 @@ module _ (m : ℕ) where
   unfolding summary_bytes
   bytes-are xs = refl
 
-  part-spoilt : {t : Tally} (x : Record Amounts) (xs : List (Record Amounts)) → t.fault < no_fault → opened_of (x ∷ xs) ≤ 65536 → Tells x xs t
-      → spoilt t.fault t.start t.level t.opened ≡ part_of M.algebra x xs
-  part-spoilt {t} x xs some few s =
-      let v : fault_of x xs ≡ verdict_of t.fault = rw (count-few (opened_of (x ∷ xs)) (omega arith), ← s.fault) (low-pass (verdict_of t.fault)) in
+  part-spoilt : {t : Tally} {r : Refusal} (x : Record Amounts) (xs : List (Record Amounts)) → t.fault ≡ Some r → opened_of (x ∷ xs) ≤ 65536 → Tells x xs t
+      → spoilt (number_of r) t.start t.level t.opened ≡ part_of M.algebra x xs
+  part-spoilt {t} {r} x xs some few s =
+      let v : fault_of x xs ≡ refuse (number_of r) = rw (count-few (opened_of (x ∷ xs)) (omega arith), found-is s.fault some) (low-pass (refuse (number_of r))) in
       sym (part_of-built M.algebra M.laws x xs
-      ∙ rw (v, ← s.start, ← s.level, ← s.opened) (judged-spoilt t.fault t.start t.level t.opened (peak_of x xs) (hill_of M.algebra (x ∷ xs)) some (omega (arith, s.opened))))
+      ∙ rw (v, ← s.start, ← s.level, ← s.opened) (judged-spoilt (number_of r) t.start t.level t.opened (peak_of x xs) (hill_of M.algebra (x ∷ xs)) (omega (arith, s.opened))))
 
 module _ (m : ℕ) {A : Arrays} {t : Tally} {c : Counts} where
   pub says-blank : (xs : List (Record Amounts)) → not t.begun ≡ true → Summed (M m) A c t xs → Said m Blank A (said m xs)
@@ -54,11 +56,11 @@ module _ (m : ℕ) {A : Arrays} {t : Tally} {c : Counts} where
   says-blank (x ∷ xs) b s = absurd (not-both s.tallied.begun (not-begun t.begun b))
 
   module _ (b : not t.begun ≡ false) where
-    pub says-spoilt : (xs : List (Record Amounts)) → t.fault < no_fault → Summed (M m) A c t xs → Said m (Spoilt (spoilt_head t.fault t.start t.level t.opened)) A (said m xs)
+    pub says-spoilt : {r : Refusal} (xs : List (Record Amounts)) → t.fault ≡ Some r → Summed (M m) A c t xs → Said m (Spoilt (spoilt_head r t.start t.level t.opened)) A (said m xs)
     says-spoilt [] some s = absurd (not-both (begun t.begun b) s.tallied.begun)
     says-spoilt (x ∷ xs) some s = record { writable = tt; is = ap part (part-spoilt m x xs some s.few s.tallied) }
 
-    module _ (z : no_fault ≤ t.fault) where
+    module _ (z : t.fault ≡ None) where
       -- the peak is as many levels below the start as there are left values
       pub rises : (xs : List (Record Amounts)) → Summed (M m) A c t xs → (c.nl ≤ t.start) × (t.start ≤ 64)
       rises [] s = absurd (not-both (begun t.begun b) s.tallied.begun)

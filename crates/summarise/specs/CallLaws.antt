@@ -15,6 +15,6 @@ module _ (chunk : List ℕ) (m cap : ℕ) where
   unfolding summarise_outcome
   too_many u h = rw (u, lt-leb (length chunk) 65536 h)
 
-  pub not-readable : mode_in_use m ≡ true → length chunk ≤ 65536 → records_of chunk ≡ refused 3 → summarise_outcome chunk m cap ≡ refused 3
+  pub not-readable : {n : ℕ} → mode_in_use m ≡ true → length chunk ≤ 65536 → records_of chunk ≡ refused n → summarise_outcome chunk m cap ≡ refused n
   unfolding summarise_outcome
   not-readable u h e = rw (u, le-leb (length chunk) 65536 h, e)

@@ -1,9 +1,9 @@
 -- One record more in a pass over a chunk: there is room for it, and what is known of the records so far holds of them with it. Assumes nothing.
-use Rattle.std.specs.Prelude.{◌≡◌, refl, Bool, true, false, cond, List, [], ◌∷◌, ◌++◌, ℕ, ◌+◌, ◌-◌, ◌*◌, ◌^◌, ◌≤◌, ◌<◌, T, eqb, ℤ, length, take, drop}
+use Rattle.std.specs.Prelude.{◌≡◌, refl, Bool, true, false, cond, List, [], ◌∷◌, ◌++◌, ℕ, ◌+◌, ◌-◌, ◌*◌, ◌^◌, ◌≤◌, ◌<◌, T, ℤ, length, take, drop, None}
 use Rattle.std.proofs.Common.{sym, ap, subst, ◌∙◌, arith}
 use Rattle.std.proofs.lemmas.List.{length-map}
 use Rattle.gate.specs.Outcome.{granted}
-use Rattle.record.specs.Record.{read_of}
+use Rattle.record.specs.Record.{is_open, read_of}
 use Rattle.record.proofs.Laws.{sound}
 use Rattle.record.proofs.Handed as handed
 use Rattle.record.proofs.Handed.{Handed}
@@ -21,7 +21,6 @@ use Rattle.hill.proofs.ValidLaws.{readable-append}
 use Rattle.modes.specs.FourModes.{Amounts, InRange}
 use Rattle.figure.specs.Mode.{Mode}
 use Rattle.figure.specs.Stored.{amounts, none}
-use Rattle.fault.specs.Fault.{no_fault}
 use Rattle.slopes.specs.declared.Counts.{Counts}
 use Rattle.slopes.specs.Arrays.{Arrays, Fig, Arrays64, StandsFor}
 use Rattle.slopes.specs.Actions.{Room, entry, cost}
@@ -36,8 +35,8 @@ use Rattle.summarise.specs.Scans.{Grows, Grown, Summed}
 
 -- ---- a record that was read
 
-pub record-entry : (f : Fields) → record_of f ≡ entry (eqb f.kind 1) f.depth (amounts f.value f.floor f.ceiling)
-record-entry f = go (eqb f.kind 1)
+pub record-entry : (f : Fields) → record_of f ≡ entry (is_open f.kind) f.depth (amounts f.value f.floor f.ceiling)
+record-entry f = go (is_open f.kind)
   where
     go : (o : Bool) → cond o (opening f.depth (amounts f.value f.floor f.ceiling)) (closing f.depth) ≡ entry o f.depth (amounts f.value f.floor f.ceiling)
     go true = refl
@@ -52,8 +51,8 @@ module _ {v w x v' w' x' : ℤ} (ev : v ≡ v') (ew : w ≡ w') (ex : x ≡ x') 
 
 -- the arrays have taken the record whose numbers the code has read
 pub taken : {M : Mode} {A' : Arrays} {c' : Counts} (h : Hill (Fig M) Amounts) {b : ℕ} (f : Fields) {v w x : ℤ} → v ≡ f.value → w ≡ f.floor → x ≡ f.ceiling
-    → StandsFor M A' c' (step M.algebra h (entry (eqb f.kind 1) f.depth (amounts v w x))) b → StandsFor M A' c' (step M.algebra h (record_of f)) b
-taken {M} h {b} f ev ew ex s = restate s b (ap (step M.algebra h) (same-entry ev ew ex (eqb f.kind 1) f.depth ∙ sym (record-entry f))) (omega arith)
+    → StandsFor M A' c' (step M.algebra h (entry (is_open f.kind) f.depth (amounts v w x))) b → StandsFor M A' c' (step M.algebra h (record_of f)) b
+taken {M} h {b} f ev ew ex s = restate s b (ap (step M.algebra h) (same-entry ev ew ex (is_open f.kind) f.depth ∙ sym (record-entry f))) (omega arith)
 
 module _ (M : Mode) where
   abbrev AllRead : List (Record Amounts) → Type 0
@@ -97,7 +96,7 @@ module _ (M : Mode) where
   fits-room true d r h f = record { up = λ _. (omega (arith, f.records, h.0), h.1); down = λ e. absurd (subst T e tt) }
   fits-room false d r h f = record { up = λ e. absurd (subst T (sym e) tt); down = λ _. f.lefts (omega arith) }
 
-  module _ {A : Arrays} {c : Counts} {b : ℕ} (y : Record Amounts) (t u : Tally) (e : no_fault ≤ u.fault) where
+  module _ {A : Arrays} {c : Counts} {b : ℕ} (y : Record Amounts) (t u : Tally) (e : u.fault ≡ None) where
     hill-fits : (xs : List (Record Amounts)) → opened_of xs ≤ 100000 → AllRead xs → StandsFor M A c (hill_of M.algebra xs) b → Tallied xs t → Tallied (xs ++ (y ∷ [])) u
         → Fits c (start_level y)
     hill-fits [] h a s w v = record { records = omega (arith, fall-is s); lefts = λ _. omega (arith, rise-is s) }
@@ -138,13 +137,16 @@ module _ (M : Mode) where
       a = amounts f.value f.floor f.ceiling
 
       abbrev y : Record Amounts
-      y = entry (eqb f.kind 1) f.depth a
+      y = entry (is_open f.kind) f.depth a
 
       pub in-range : (f.depth ≤ 63) × InRange a
       in-range = (tells-range f.depth a).from (sound rest f r).ranged
 
-      module _ (u : Tally) (v : Tallied (chunk_of i.done ++ (y ∷ [])) u) where
-        quiet : no_fault ≤ u.fault → no_fault ≤ t.fault
+      module _ (u : Tally) (w : Tallied (chunk_of i.done ++ (record_of f ∷ [])) u) where
+        v : Tallied (chunk_of i.done ++ (y ∷ [])) u
+        v = subst (λ (x : Record Amounts). Tallied (chunk_of i.done ++ (x ∷ [])) u) (record-entry f) w
+
+        quiet : u.fault ≡ None → t.fault ≡ None
         quiet e = faultless y u e (chunk_of i.done) t i.summed.tallied v
 
         light : M.sizes.unit * opened_of (chunk_of i.done) < 2 ^ 62
@@ -153,7 +155,7 @@ module _ (M : Mode) where
         pub grows : Grows M u.fault f A c
         grows = record {
           able = λ e. able (i.summed.hill (quiet e)) light;
-          room = λ e. fits-room (eqb f.kind 1) f.depth a in-range
+          room = λ e. fits-room (is_open f.kind) f.depth a in-range
               (hill-fits y t u e (chunk_of i.done) (omega (arith, i.summed.few)) i.summed.readable (i.summed.hill (quiet e)) i.summed.tallied v);
         }
 
@@ -165,12 +167,12 @@ module _ (M : Mode) where
               done = i.done ++ (f ∷ []);
               handed = handed.next i.handed f r;
               summed = rw e record {
-                readable = readable-append M.algebra M.sizes xs (y ∷ []) i.summed.readable (entry-readable (eqb f.kind 1) f.depth a in-range, tt);
+                readable = readable-append M.algebra M.sizes xs (y ∷ []) i.summed.readable (entry-readable (is_open f.kind) f.depth a in-range, tt);
                 few = rw (← e) (omega (arith, opened-few (chunk_of (i.done ++ (f ∷ []))), length-map (i.done ++ (f ∷ [])) record_of, (handed.next i.handed f r).few));
                 tallied = v;
-                hill = λ z. restate (after_more (i.summed.hill (quiet z)) (λ h. step M.algebra h (record_of f)) (cost M (eqb f.kind 1)) (g z))
+                hill = λ z. restate (after_more (i.summed.hill (quiet z)) (λ h. step M.algebra h (record_of f)) (cost M (is_open f.kind)) (g z))
                     (M.sizes.unit * opened_of (xs ++ (y ∷ [])))
                     (ap (step M.algebra (hill_of M.algebra xs)) (record-entry f) ∙ sym (run-append M.algebra (empty M.algebra) xs (y ∷ [])))
-                    (rw (opened-append xs (y ∷ []), entry-cost (eqb f.kind 1) f.depth a) (omega arith));
+                    (rw (opened-append xs (y ∷ []), entry-cost (is_open f.kind) f.depth a) (omega arith));
               };
             }

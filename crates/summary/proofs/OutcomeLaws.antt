@@ -4,7 +4,7 @@ use Rattle.std.specs.Prelude.{◌≡◌, refl, Bool, true, false, cond, ◌&&◌
 use Rattle.std.proofs.Common.{sym, ap, subst, ◌∙◌, arith, le-leb, leb-true, eqb-true, eq-eqb}
 use Rattle.gate.specs.Outcome.{Outcome, granted, question, onward, written}
 use Rattle.gate.proofs.Laws.{fits}
-use Rattle.record.specs.Record.{records_of}
+use Rattle.record.specs.Record.{is_open, records_of}
 use Rattle.record.proofs.Ranged.{AllInRange, records-in-range}
 use Rattle.record.specs.declared.Fields.{Fields}
 use Rattle.modes.specs.FourModes.{Amounts, InRange}
@@ -38,7 +38,7 @@ readable : (m : ℕ) (fs : List Fields) → AllInRange fs → Readables m (chunk
 readable m [] h = tt
 readable m (f ∷ fs) h =
     let r : Amounts = record { value = f.value; floor = f.floor; ceiling = f.ceiling } in
-    (either-readable m (eqb f.kind 1) f.depth r ((tells-range f.depth r).from h.0), readable m fs h.1)
+    (either-readable m (is_open f.kind) f.depth r ((tells-range f.depth r).from h.0), readable m fs h.1)
 
 pub chunk-readable : (m : ℕ) (s : List ℕ) (fs : List Fields) → records_of s ≡ granted fs → Readables m (chunk_of fs)
 chunk-readable m s fs e = readable m fs (records-in-range s fs e)

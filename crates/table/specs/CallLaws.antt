@@ -1,10 +1,13 @@
 -- What the two calls come to, where they are refused and where they write. Assumes nothing.
-use Rattle.std.specs.Prelude.{◌≡◌, refl, Bool, true, false, ◌&&◌, List, ℕ, ◌*◌, ◌/◌, ◌%◌, ◌≤◌, leb, eqb, length}
+use Rattle.std.specs.Prelude.{◌≡◌, Bool, true, false, ◌&&◌, List, ℕ, ◌*◌, ◌/◌, ◌%◌, ◌≤◌, leb, eqb, length, Option, Some, None}
 use Rattle.std.proofs.Common.{sym, ap, subst, ◌∙◌, arith, le-leb, leb-true, eqb-true}
 use Rattle.std.proofs.Math.Logic.{dite}
 use Rattle.std.proofs.Math.Decide.{dec_lt}
 use Rattle.std.proofs.lemmas.Bool.{lt-leb}
 use Rattle.gate.specs.Outcome.{refused, written}
+use Rattle.gate.specs.Answers.{number_of}
+use Rattle.gate.specs.declared.Refusal.{Refusal}
+use Rattle.gate.specs.declared.Refusal.TheVariants as no
 use Rattle.record.proofs.Laws.{and_left, and_right}
 use Rattle.modes.specs.FourModes.{Amounts}
 use Rattle.hill.specs.Log.{Record, opened_of}
@@ -20,27 +23,16 @@ use Rattle.day_table.specs.CallLaws.{Taken}
 use Rattle.day_table.proofs.CallLaws.{unreadable, not-nested, no_line, nested-length}
 use Rattle.table.specs.Promised.{first_no, TableFits}
 
--- ---- questions 3, 13 and 10 by one number
+-- ---- questions 3, 13 and 10
 
-module _ (readable nest some : Bool) where
-  pub no-3 : readable ≡ false → 3 ≡ first_no readable nest some
-  no-3 h = rw h
+-- What the first "no" settles of a table: none that it is taken, and any the refusal.
+pub record Settled (table : List ℕ) (f : Option Refusal) : Type 0 where
+  pub yes : f ≡ None → Taken table
+  pub no : (r : Refusal) → f ≡ Some r → (cap : ℕ) → write_log_outcome table cap ≡ refused (number_of r)
 
-  module _ (h : readable ≡ true) where
-    pub no-13 : nest ≡ false → 13 ≡ first_no readable nest some
-    no-13 n = rw (h, n)
-
-    module _ (n : nest ≡ true) where
-      pub no-10 : some ≡ false → 10 ≡ first_no readable nest some
-      no-10 s = rw (h, n, s)
-
-      pub all_yes : some ≡ true → 0 ≡ first_no readable nest some
-      all_yes s = rw (h, n, s)
-
--- What the number n settles of a table: 0 that it is taken, and any other the refusal.
-pub record Settled (table : List ℕ) (n : ℕ) : Type 0 where
-  pub yes : n ≡ 0 → Taken table
-  pub no : (n ≡ 0 → ⊥) → (cap : ℕ) → write_log_outcome table cap ≡ refused n
+-- a "no" settles that the table is refused
+refused-by : {table : List ℕ} (r : Refusal) → ((cap : ℕ) → write_log_outcome table cap ≡ refused (number_of r)) → Settled table (Some r)
+refused-by r h = record { yes = λ e. let z : ◌≡◌ {A = ℕ} 0 1 = cc in absurd (omega arith); no = λ q e cap. let g : r ≡ q = cc in h cap ∙ ap (λ (x : Refusal). refused (number_of x)) g }
 
 some-line : (table : List ℕ) → leb 14 (length table) ≡ leb 1 (length (table_lines table))
 some-line table =
@@ -50,9 +42,9 @@ some-line table =
 
 module _ (table : List ℕ) (short : length table ≤ 38_220) where
   asked : (h d s : Bool) → h ≡ eqb (length table % 14) 0 && all_could_hold (table_lines table) → d ≡ nested (table_lines table) → s ≡ leb 1 (length (table_lines table)) → Settled table (first_no h d s)
-  asked false d s eh ed es = record { yes = λ z. absurd (omega arith); no = λ _ cap. unreadable table cap short (sym eh) }
-  asked true false s eh ed es = record { yes = λ z. absurd (omega arith); no = λ _ cap. not-nested table cap short (sym eh) (sym ed) }
-  asked true true false eh ed es = record { yes = λ z. absurd (omega arith); no = λ _ cap. no_line table cap short (sym eh) (sym ed) (sym es) }
+  asked false d s eh ed es = refused-by no.Unreadable (λ cap. unreadable table cap short (sym eh))
+  asked true false s eh ed es = refused-by no.NotNested (λ cap. not-nested table cap short (sym eh) (sym ed))
+  asked true true false eh ed es = refused-by no.NoRecord (λ cap. no_line table cap short (sym eh) (sym ed) (sym es))
   asked true true true eh ed es = record {
     yes = λ _. record {
       short = short;
@@ -61,11 +53,11 @@ module _ (table : List ℕ) (short : length table ≤ 38_220) where
       in_order = sym ed;
       some = leb-true 1 (length (table_lines table)) (sym es);
     };
-    no = λ n. absurd (n refl);
+    no = λ q e cap. cc;
   }
 
-  pub settled : {n : ℕ} {a b : Bool} → a ≡ all_could_hold (table_lines table) → b ≡ nested (table_lines table) → n ≡ first_no (eqb (length table % 14) 0 && a) b (leb 14 (length table)) → Settled table n
-  settled {n} {a} {b} ea eb e = subst (Settled table) (sym e) (asked _ b _ (ap (λ (t : Bool). eqb (length table % 14) 0 && t) ea) eb (some-line table))
+  pub settled : {f : Option Refusal} {a b : Bool} → a ≡ all_could_hold (table_lines table) → b ≡ nested (table_lines table) → f ≡ first_no (eqb (length table % 14) 0 && a) b (leb 14 (length table)) → Settled table f
+  settled {f} {a} {b} ea eb e = subst (Settled table) (sym e) (asked _ b _ (ap (λ (t : Bool). eqb (length table % 14) 0 && t) ea) eb (some-line table))
 
 -- ---- the log of a table that is taken: 24 bytes a line
 

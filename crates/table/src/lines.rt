@@ -10,18 +10,18 @@ ghost use Rattle.day_table.specs.Table.{table_line, table_of, nested};
 ghost use Rattle.day_table.specs.Outcomes.{table_line_in, table_line_bytes, table_bytes, table_lines, could_hold, all_could_hold};
 ghost use Rattle.table.specs.Promised.{TableFits};
 
-use record::{Fields, Read};
+use record::{Fields, Kind};
 
-// Whether a readable full open record could hold the first line: question 3.
-fn could_hold(table: &[u8]) -> bool
-    requires { 14 ≤ length table.now }
-    ensures { result ≡ could_hold (table_line_in table.now) }
+// Whether a readable full open record could hold the line: question 3.
+fn could_hold(line: &[u8]) -> bool
+    requires { 14 ≤ length line.now }
+    ensures { result ≡ could_hold (table_line_in line.now) }
 {
     record::in_range(
-        number::read_u16(table, 0),
-        number::read_i32(table, 2),
-        number::read_i32(table, 6),
-        number::read_i32(table, 10),
+        number::read_u16(line, 0),
+        number::read_i32(line, 2),
+        number::read_i32(line, 6),
+        number::read_i32(line, 10),
     )
 }
 
@@ -29,12 +29,10 @@ fn could_hold(table: &[u8]) -> bool
 pub fn all_could_hold(table: &[u8]) -> bool
     ensures { result ≡ all_could_hold (table_lines table.now) }
 {
-    let mut rest = table;
-    while 14 <= rest.len() {
-        if !could_hold(rest) {
+    for line in table.chunks_exact(14) {
+        if !could_hold(line) {
             return false;
         }
-        rest = &rest[14..];
     }
     true
 }
@@ -43,21 +41,20 @@ pub fn all_could_hold(table: &[u8]) -> bool
 pub fn all_nested(table: &[u8]) -> bool
     ensures { result ≡ nested (table_lines table.now) }
 {
-    if table.len() < 14 {
+    let mut lines = table.chunks_exact(14);
+    let Some(first) = lines.next() else {
         return true;
-    }
-    if number::read_u16(table, 0) != 0 {
+    };
+    if number::read_u16(first, 0) != 0 {
         return false;
     }
     let mut before: u32 = 0;
-    let mut rest = &table[14..];
-    while 14 <= rest.len() {
-        let depth = number::read_u16(rest, 0) as u32;
+    for line in lines {
+        let depth = u32::from(number::read_u16(line, 0));
         if !((0 < depth) & (depth <= before + 1)) {
             return false;
         }
         before = depth;
-        rest = &rest[14..];
     }
     true
 }
@@ -78,11 +75,13 @@ fn write_line_of(f: Fields, out: &mut [u8], at: usize) -> usize
     requires { at + length (table_bytes (table_of (record_of f ∷ []))) ≤ length out.old }
     ensures { StoredAt (table_bytes (table_of (record_of f ∷ []))) at out.old out.new result }
 {
-    if f.kind == 1 {
-        write_line(out, at, f.depth, f.value, f.floor, f.ceiling);
-        return at + 14;
+    match f.kind {
+        Kind::Open => {
+            write_line(out, at, f.depth, f.value, f.floor, f.ceiling);
+            at + 14
+        }
+        Kind::Close => at,
     }
-    at
 }
 
 // The table of a log that was let through, so that the reader cannot refuse.
@@ -92,12 +91,12 @@ pub fn write_table(log: &[u8], out: &mut [u8])
 {
     let mut at: usize = 0;
     let mut rest = log;
+    // The rest is handed on as a chunk of its own, the form that document 01 asks for, so no iterator goes over the records.
     while 0 < rest.len() {
-        let Read::Record(f) = record::read_first(rest) else {
+        let Some(f) = record::read_first(rest) else {
             return;
         };
-        let length = f.length as usize;
         at = write_line_of(f, out, at);
-        rest = &rest[length..];
+        rest = &rest[f.length as usize..];
     }
 }

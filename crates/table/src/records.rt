@@ -24,9 +24,7 @@ fn write_closes(out: &mut [u8], start: usize, from: u16, to: u16) -> usize
     ensures { StoredAt (log_bytes (closes_to from to)) start out.old out.new result }
 {
     let mut at = start;
-    let mut level = from;
-    while to < level {
-        level -= 1;
+    for level in (to..from).rev() {
         record_writer::write_close(out, at, level);
         at += 6;
     }
@@ -41,21 +39,19 @@ pub fn write_records(table: &[u8], out: &mut [u8])
 {
     let mut at: usize = 0;
     let mut level: u16 = 0;
-    let mut rest = table;
-    while 14 <= rest.len() {
-        let depth = number::read_u16(rest, 0);
+    for line in table.chunks_exact(14) {
+        let depth = number::read_u16(line, 0);
         at = write_closes(out, at, level, depth);
         write_open(
             out,
             at,
             depth,
-            number::read_i32(rest, 2),
-            number::read_i32(rest, 6),
-            number::read_i32(rest, 10),
+            number::read_i32(line, 2),
+            number::read_i32(line, 6),
+            number::read_i32(line, 10),
         );
         at += 18;
         level = depth + 1;
-        rest = &rest[14..];
     }
     write_closes(out, at, level, 0);
 }

@@ -1,4 +1,4 @@
--- What the loops over the digits of a number and over blanks keep: what is still to be done, with what is done, comes to the whole.
+-- What the loops over the digits of a number keep: what is still to be done, with what is done, comes to the whole.
 -- Assumes nothing.
 use mathlib.Core.Path.{◌≡◌, refl, sym, ap, ◌∙◌}
 use mathlib.Core.List.{List, [], ◌∷◌}
@@ -9,7 +9,6 @@ use lib.ListN.{length, set, length-set, length-append}
 use lib.Seq.{sets, set_comm}
 use Rattle.number.specs.Laws.{sets-append}
 use Rattle.text.specs.Decimal.{digits_of}
-use Rattle.text.specs.Columns.{blanks}
 use Rattle.text.proofs.DecimalLaws.{digits-one, digits_more, digits-some}
 
 one-digit : (n : ℕ) → n < 10 → length (digits_of n) ≡ 1
@@ -63,23 +62,3 @@ pub write-end : {before : List ℕ} {at n : ℕ} {out : List ℕ} {i rest : ℕ}
 write-end {at = at} {out = out} {i = i} {rest = rest} v h =
     let e : i ≡ at = omega (arith, one-digit rest h) in
     ap (λ (k : ℕ). set out k (48 + rest)) e ∙ ap (sets out at) (sym (digits-one rest h)) ∙ v.is
-
--- ---- blanks, from the first to the last
-
-pub record Blanking (before : List ℕ) (at end : ℕ) (out : List ℕ) (i : ℕ) : Type 0 where
-  pub upto : i ≤ end
-  pub same : length out ≡ length before
-  pub is : sets out i (blanks (end - i)) ≡ sets before at (blanks (end - at))
-
-pub blank-next : {before : List ℕ} {at end : ℕ} {out : List ℕ} {i : ℕ} → Blanking before at end out i → i < end → Blanking before at end (set out i 32) (i + 1)
-blank-next {end = end} {out = out} {i = i} v h =
-    let left : end - i ≡ suc (end - (i + 1)) = omega arith in
-    let next : i + 1 ≡ suc i = omega arith in
-    record {
-      upto = omega arith;
-      same = length-set out i 32 ∙ v.same;
-      is = ap (λ (k : ℕ). sets (set out i 32) k (blanks (end - (i + 1)))) next ∙ ap (λ (n : ℕ). sets out i (blanks n)) (sym left) ∙ v.is;
-    }
-
-pub blank-end : {before : List ℕ} {at end : ℕ} {out : List ℕ} {i : ℕ} → Blanking before at end out i → end ≤ i → out ≡ sets before at (blanks (end - at))
-blank-end {end = end} {out = out} {i = i} v h = let none : end - i ≡ 0 = omega arith in ap (λ (n : ℕ). sets out i (blanks n)) (sym none) ∙ v.is

@@ -12,8 +12,9 @@ fn count_digits(n: u64) -> usize
 {
     let mut left = n;
     let mut count: usize = 1;
+    // A step is a division by ten, which no range makes.
     while 10 <= left {
-        left = left / 10;
+        left /= 10;
         count += 1;
     }
     count
@@ -28,28 +29,28 @@ fn write_digits(out: &mut [u8], at: usize, n: u64) -> usize
     let end = at + count_digits(n);
     let mut rest = n;
     let mut i = end - 1;
+    // .. and here too.
     while 10 <= rest {
         out[i] = (48 + rest % 10) as u8;
-        rest = rest / 10;
+        rest /= 10;
         i -= 1;
     }
     out[i] = (48 + rest) as u8;
     end
 }
 
-// A minus where x is negative, and the digits; the answer is where the text ends. The magnitude of a negative number is taken from its
-// bits, since that of the least one does not fit an i64.
+// A minus where x is negative, and the digits; the answer is where the text ends.
 fn write_decimal(out: &mut [u8], at: usize, x: i64) -> usize
     requires { at + length (decimal_of x) ≤ length out.old }
     ensures answer { result ≡ at + length (decimal_of x) }
     ensures buffer { out.new ≡ sets out.old at (decimal_of x) }
 {
-    let bits = number::bits_64(x);
-    if bits < 0x8000_0000_0000_0000 {
-        write_digits(out, at, bits)
-    } else {
+    let size = x.unsigned_abs();
+    if x < 0 {
         out[at] = b'-';
-        write_digits(out, at + 1, 0xffff_ffff_ffff_ffff - bits + 1)
+        write_digits(out, at + 1, size)
+    } else {
+        write_digits(out, at, size)
     }
 }
 
@@ -68,7 +69,7 @@ pub fn write_item(out: &mut [u8], at: usize, x: i64, after: u8) -> usize
 fn decimal_length(x: i64) -> usize
     ensures { result ≡ length (decimal_of x) }
 {
-    let digits = count_digits(number::magnitude(x));
+    let digits = count_digits(x.unsigned_abs());
     if x < 0 { digits + 1 } else { digits }
 }
 
@@ -77,11 +78,7 @@ fn write_blanks(out: &mut [u8], at: usize, end: usize)
     requires { (at ≤ end) × (end ≤ length out.old) }
     ensures { out.new ≡ sets out.old at (blanks (end - at)) }
 {
-    let mut i = at;
-    while i < end {
-        out[i] = b' ';
-        i += 1;
-    }
+    out[at..end].fill(b' ');
 }
 
 // A number at the right end of its columns, with blanks before it, and the byte after them.

@@ -1,6 +1,7 @@
 -- What the C functions answer and leave in the lent buffers, from what the calls come to. Definitions only.
 use Rattle.std.specs.Prelude.{List, [], ◌∷◌, ℕ, ◌^◌, ◌<◌, ℤ, pos, neg_ℤ}
 use Rattle.gate.specs.Outcome.{Outcome, refused, granted}
+use Rattle.record.specs.Record.{kind_number}
 use Rattle.record.specs.declared.Fields.{Fields}
 use Rattle.outcome.specs.declared.Figures.{Figures}
 use Rattle.plan_work.specs.Work.{Work}
@@ -27,7 +28,7 @@ Short (granted n) = n < 2 ^ 63
 -- The buffer of seven: the record's fields in the order of document 01 and then its batch, or as it was.
 abbrev pub fields_after : Outcome Fields → List ℤ → List ℤ
 fields_after (refused n) fields = fields
-fields_after (granted f) fields = pos f.kind ∷ pos f.length ∷ pos f.depth ∷ f.value ∷ f.floor ∷ f.ceiling ∷ pos f.batch ∷ []
+fields_after (granted f) fields = pos (kind_number f.kind) ∷ pos f.length ∷ pos f.depth ∷ f.value ∷ f.floor ∷ f.ceiling ∷ pos f.batch ∷ []
 
 -- The buffer of one: the figure, or as it was.
 abbrev pub figure_after : Outcome ℤ → List ℤ → List ℤ

@@ -3,7 +3,7 @@
 
 ghost use Rattle.std.specs.Prelude.{◌≡◌, pos, neg_ℤ, length};
 ghost use Rattle.gate.specs.Outcome.{granted, buffer_after};
-ghost use Rattle.gate.specs.Answers.{written_answer, finished_answer, length_answered};
+ghost use Rattle.gate.specs.Answers.{number_of, answered, length_answered};
 ghost use Rattle.record.specs.Record.{read_of};
 ghost use Rattle.summary.specs.Outcomes.{summarise_outcome, merge_outcome, finish_outcome};
 ghost use Rattle.outcome.specs.Outcomes.{merge_row_outcome, plan_outcome, runs_outcome, work_outcome};
@@ -14,56 +14,51 @@ ghost use Rattle.run_back.specs.Backwards.{backwards_outcome};
 ghost use Rattle.log_records.specs.Line.{heaviest_line_outcome};
 ghost use Rattle.day_sheet.specs.Sheet.{sheet_outcome};
 ghost use Rattle.common_record.specs.Common.{common_outcome};
-ghost use Rattle.common.specs.Answers.{named_answer};
 ghost use Rattle.valley_station.specs.Station.{fresh_outcome, send_outcome, end_outcome};
 ghost use Rattle.valley_station.specs.State.{station_of, fresh_after, send_after, end_after};
 ghost use Rattle.work.specs.Answers.{work_in};
 ghost use Rattle.tulghimo.specs.Interface.{status_of, length_status, record_status, Short, fields_after, figure_after, figures_after, work_after};
 ghost use Rattle.tulghimo.specs.TakenLaws.{taken_status};
 
-use common::Named;
-use day::Day;
-use farms::Taken;
-use gate::{Finished, Written};
+use gate::Refusal;
 use outcome::Figures;
-use record::Read;
-use work::{Totals, Worked};
+use work::Totals;
 
 // A refusal, as the C functions answer it.
-fn refusal(n: u8) -> i64
-    ensures { result ≡ neg_ℤ (pos n) }
+fn refusal(no: Refusal) -> i64
+    ensures { result ≡ neg_ℤ (pos (number_of no)) }
 {
-    0 - (n as i64)
+    -i64::from(no.number())
 }
 
 // What a call that writes bytes answers, as one number.
-fn status(w: Written) -> i64
-    requires { Short (written_answer w) }
-    ensures { result ≡ length_status (written_answer w) }
+fn status(written: Result<usize, Refusal>) -> i64
+    requires { Short (answered written) }
+    ensures { result ≡ length_status (answered written) }
 {
-    match w {
-        Written::Bytes(n) => n as i64,
-        Written::Refused(n) => refusal(n),
+    match written {
+        Ok(n) => n as i64,
+        Err(no) => refusal(no),
     }
 }
 
 // What a call that names a record answers, as one number.
-fn name_status(d: Named) -> i64
-    ensures { result ≡ record_status (named_answer d) }
+fn name_status(named: Result<u32, Refusal>) -> i64
+    ensures { result ≡ record_status (answered named) }
 {
-    match d {
-        Named::Record(n) => n as i64,
-        Named::Refused(n) => refusal(n),
+    match named {
+        Ok(n) => i64::from(n),
+        Err(no) => refusal(no),
     }
 }
 
 // What a call that tells only that it was taken answers, as one number.
-fn taken_status(d: Taken) -> i64
-    ensures { result ≡ taken_status d }
+fn taken_status(taken: Result<(), Refusal>) -> i64
+    ensures { result ≡ taken_status taken }
 {
-    match d {
-        Taken::Yes => 0,
-        Taken::Refused(n) => refusal(n),
+    match taken {
+        Ok(()) => 0,
+        Err(no) => refusal(no),
     }
 }
 
@@ -76,13 +71,13 @@ fn put_figure(z: i64, figure: &mut [i64; 1]) -> i64
 }
 
 // What a call that gives a figure answers: 0 and the figure stored, or minus the refusal and the buffer as it was.
-fn figure_status(d: Finished, figure: &mut [i64; 1]) -> i64
-    ensures answer { result ≡ status_of (finished_answer d) }
-    ensures buffer { figure.new ≡ figure_after (finished_answer d) figure.old }
+fn figure_status(found: Result<i64, Refusal>, figure: &mut [i64; 1]) -> i64
+    ensures answer { result ≡ status_of (answered found) }
+    ensures buffer { figure.new ≡ figure_after (answered found) figure.old }
 {
-    match d {
-        Finished::Figure(z) => put_figure(z, figure),
-        Finished::Refused(n) => refusal(n),
+    match found {
+        Ok(z) => put_figure(z, figure),
+        Err(no) => refusal(no),
     }
 }
 
@@ -98,11 +93,7 @@ fn put_figures(f: Figures, figures: &mut [i64; 4]) -> i64
 fn put_totals(t: Totals, totals: &mut [i64; 3]) -> i64
     ensures { (result ≡ pos 0) × (totals.new ≡ work_after (granted (work_in t)) totals.old) }
 {
-    *totals = [
-        t.figure,
-        number::from_u32(t.joins),
-        number::from_u32(t.levels),
-    ];
+    *totals = [t.figure, i64::from(t.joins), i64::from(t.levels)];
     0
 }
 
@@ -112,17 +103,17 @@ pub extern "C" fn tulghimo_read_record(chunk: &[u8], fields: &mut [i64; 7]) -> i
     ensures answer { result ≡ status_of (read_of chunk.now) }
     ensures buffer { fields.new ≡ fields_after (read_of chunk.now) fields.old }
 {
-    let Read::Record(f) = record::read_first(chunk) else {
-        return -3;
+    let Some(f) = record::read_first(chunk) else {
+        return refusal(Refusal::Unreadable);
     };
     *fields = [
         f.kind as i64,
-        f.length as i64,
-        f.depth as i64,
-        number::widen(f.value),
-        number::widen(f.floor),
-        number::widen(f.ceiling),
-        number::from_u32(f.batch),
+        i64::from(f.length),
+        i64::from(f.depth),
+        i64::from(f.value),
+        i64::from(f.floor),
+        i64::from(f.ceiling),
+        i64::from(f.batch),
     ];
     0
 }
@@ -192,10 +183,9 @@ pub extern "C" fn tulghimo_work(row: &[u8], totals: &mut [i64; 3]) -> i64
     ensures answer { result ≡ status_of (work_outcome row.now) }
     ensures buffer { totals.new ≡ work_after (work_outcome row.now) totals.old }
 {
-    let d = work::work(row);
-    match d {
-        Worked::Done(t) => put_totals(t, totals),
-        Worked::Refused(n) => refusal(n),
+    match work::work(row) {
+        Ok(t) => put_totals(t, totals),
+        Err(no) => refusal(no),
     }
 }
 
@@ -205,10 +195,9 @@ pub extern "C" fn tulghimo_day(log: &[u8], figures: &mut [i64; 4]) -> i64
     ensures answer { result ≡ status_of (day_outcome log.now) }
     ensures buffer { figures.new ≡ figures_after (day_outcome log.now) figures.old }
 {
-    let d = day::figures(log);
-    match d {
-        Day::Figures(f) => put_figures(f, figures),
-        Day::Refused(n) => refusal(n),
+    match day::figures(log) {
+        Ok(f) => put_figures(f, figures),
+        Err(no) => refusal(no),
     }
 }
 

@@ -1,5 +1,5 @@
 -- A pass over a whole log that judges it: what every such loop keeps from turn to turn, and what it comes to. Assumes nothing.
-use Rattle.std.specs.Prelude.{◌≡◌, List, [], ◌∷◌, ◌++◌, ℕ, ◌-◌, ◌≤◌, ◌<◌, length, take, drop}
+use Rattle.std.specs.Prelude.{◌≡◌, List, [], ◌∷◌, ◌++◌, ℕ, ◌-◌, ◌≤◌, ◌<◌, length, take, drop, Option, Some, None}
 use Rattle.std.proofs.Common.{sym, ap, ◌∙◌, arith}
 use Rattle.std.proofs.lemmas.List.{length-map}
 use Rattle.gate.specs.Outcome.{Outcome, refused, granted}
@@ -13,7 +13,9 @@ use Rattle.hill.specs.Log.{Record, opened_of}
 use Rattle.hill.specs.Finish.{outcome}
 use Rattle.hill.proofs.Growth.{opened-few}
 use Rattle.modes.specs.FourModes.{Amounts}
-use Rattle.fault.specs.Fault.{no_fault, verdict_of}
+use Rattle.gate.specs.Answers.{number_of}
+use Rattle.gate.specs.declared.Refusal.{Refusal}
+use Rattle.fault.specs.Fault.{verdict_of}
 use Rattle.fault.specs.Laws.{found-is, clear-is}
 use Rattle.chunk.specs.Chunk.{record_of, chunk_of}
 use Rattle.chunk.proofs.Laws.{depth_low, chunk-append, answer_from, unreadable, readable}
@@ -61,11 +63,11 @@ module _ {log rest : List ℕ} {done : List Fields} {t : Tally} (i : Reading log
         readable f log i.short done (handing.finished i.handed h)
         ∙ ap (λ v. outcome v (f (chunk_of done))) (sym (log-verdict (chunk_of done) t i.tallied (omega (arith, few))))
 
--- ---- what is answered of a verdict that a byte says
+-- ---- what is answered of a verdict that a fault says
 
-module _ {A : Type 0} {v : Verdict} {a : ℕ} (x : A) (e : verdict_of a ≡ v) where
-  pub refuses : a < no_fault → ◌≡◌ {A = Outcome A} (refused a) (outcome v x)
+module _ {A : Type 0} {v : Verdict} {a : Option Refusal} (x : A) (e : verdict_of a ≡ v) where
+  pub refuses : {r : Refusal} → a ≡ Some r → ◌≡◌ {A = Outcome A} (refused (number_of r)) (outcome v x)
   refuses l = rw (found-is e l)
 
-  pub answers : no_fault ≤ a → ◌≡◌ {A = Outcome A} (granted x) (outcome v x)
+  pub answers : a ≡ None → ◌≡◌ {A = Outcome A} (granted x) (outcome v x)
   answers l = rw (clear-is e l)

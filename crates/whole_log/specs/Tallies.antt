@@ -1,9 +1,9 @@
 -- What a pass over records keeps beside what it computes. Definitions only.
-use Rattle.std.specs.Prelude.{◌≡◌, true, false, cond, List, [], ◌∷◌, ◌≤◌}
+use Rattle.std.specs.Prelude.{◌≡◌, true, false, cond, List, [], ◌∷◌, None}
 use Rattle.hill.specs.Verdict.{Verdict, refuse, low, ends}
 use Rattle.hill.specs.Log.{Record, start_level, end_of, opened_of, joints}
 use Rattle.modes.specs.FourModes.{Amounts}
-use Rattle.fault.specs.Fault.{no_fault, verdict_of}
+use Rattle.fault.specs.Fault.{verdict_of}
 use Rattle.whole_log.specs.declared.Tally.{Tally}
 
 -- t tells of the chunk x ∷ xs: its levels, the lowest of faults 7 and 8, and its opened records.
@@ -19,7 +19,7 @@ pub record Fresh (t : Tally) : Type 0 where
   pub begun : t.begun ≡ false
   pub start : t.start ≡ 0
   pub level : t.level ≡ 0
-  pub fault : no_fault ≤ t.fault
+  pub fault : t.fault ≡ None
   pub opened : t.opened ≡ 0
 
 abbrev pub Tallied : List (Record Amounts) → Tally → Type 0

@@ -1,20 +1,18 @@
 -- Laws of the tally: one record more, what it means that there is still no fault, and what is asked of a log at its end. Assumes nothing.
-use Rattle.std.specs.Prelude.{◌≡◌, refl, Bool, true, false, cond, not, List, [], ◌∷◌, ◌++◌, ℕ, ◌+◌, ◌≤◌, T, eqb}
-use Rattle.std.proofs.Common.{sym, ap, subst, ◌∙◌, arith, eq-eqb}
+use Rattle.std.specs.Prelude.{◌≡◌, refl, Bool, true, false, cond, not, List, [], ◌∷◌, ◌++◌, ℕ, ◌+◌, ◌≤◌, T, eqb, Option, None}
+use Rattle.std.proofs.Common.{sym, subst, ◌∙◌, arith}
 use Rattle.hill.specs.Verdict.{pass, refuse, low, ask, joint, ends}
 use Rattle.hill.proofs.VerdictLaws.{low-pass, low-fst, low-snd, joint-pass, count-few}
 use Rattle.hill.specs.Log.{Record, start_level, end_level, end_of, opens, opened_of, joints, log_fault}
 use Rattle.hill.proofs.Growth.{grown}
 use Rattle.modes.specs.FourModes.{Amounts, net}
 use Rattle.whole_log.specs.declared.Tally.{Tally}
-use Rattle.fault.specs.Fault.{no_fault, verdict_of}
-use Rattle.fault.specs.Laws.{clear, clear-is, found, is-clear, ground-pass, raised}
+use Rattle.gate.specs.declared.Refusal.{Refusal}
+use Rattle.fault.specs.Fault.{verdict_of}
+use Rattle.fault.specs.Laws.{clear-is, is-clear, ground-pass}
 use Rattle.whole_log.specs.Tallies.{Tells, Tallied, log_verdict}
 
 -- ---- one record more
-
-abbrev pub tally : (start level fault opened : ℕ) → Tally
-tally s l f o = record { begun = true; start = s; level = l; fault = f; opened = o }
 
 pub not-begun : (b : Bool) → not b ≡ true → b ≡ false
 not-begun true e = sym e
@@ -28,17 +26,13 @@ pub not-both : {b : Bool} → b ≡ true → b ≡ false → ⊥
 not-both e f = subst T (sym e ∙ f) tt
 
 module _ (y : Record Amounts) {from to o : ℕ} (es : start_level y ≡ from) (ee : end_level y ≡ to) (eo : opens y ≡ o) (t : Tally) where
-  pub first : (xs : List (Record Amounts)) → not t.begun ≡ true → Tallied xs t → Tallied (xs ++ (y ∷ [])) (tally from to no_fault o)
-  first [] b s = record { begun = refl; start = sym es; level = sym ee; fault = clear no_fault (omega arith); opened = omega arith }
-  first (x ∷ xs) b s = absurd (not-both s.begun (not-begun t.begun b))
-
-  pub further : (xs : List (Record Amounts)) (f j : ℕ) → not t.begun ≡ false → verdict_of f ≡ low (verdict_of t.fault) (verdict_of j) → verdict_of j ≡ joint t.level from → Tallied xs t
-      → Tallied (xs ++ (y ∷ [])) (tally t.start to f (t.opened + o))
+  pub further : (xs : List (Record Amounts)) (f j : Option Refusal) → not t.begun ≡ false → verdict_of f ≡ low (verdict_of t.fault) (verdict_of j) → verdict_of j ≡ joint t.level from → Tallied xs t
+      → Tallied (xs ++ (y ∷ [])) (record t { level = to; fault = f; opened = t.opened + o })
   further [] f j b ef ej s = absurd (not-both (begun t.begun b) s.begun)
   further (x ∷ xs) f j b ef ej s =
       let g = grown net x xs y in
       record {
-        begun = refl;
+        begun = s.begun;
         start = s.start;
         level = sym ee ∙ sym g.end;
         fault = ef ∙ rw (ej, s.fault, s.level, ← es) (sym g.joint);
@@ -55,35 +49,28 @@ opened-is (x ∷ xs) t s = s.opened
 
 -- ---- where there is still no fault after one record more, there was none before it, and the two met
 
-module _ (y : Record Amounts) (u : Tally) (e : no_fault ≤ u.fault) where
+module _ (y : Record Amounts) (u : Tally) (e : u.fault ≡ None) where
   no-joint : (x : Record Amounts) (xs : List (Record Amounts)) → Tells x (xs ++ (y ∷ [])) u → low (joints x xs) (joint (end_of x xs) (start_level y)) ≡ pass
   no-joint x xs s = sym (grown net x xs y).joint ∙ clear-is s.fault e
 
   pub met : (x : Record Amounts) (xs : List (Record Amounts)) → Tells x (xs ++ (y ∷ [])) u → end_of x xs ≡ start_level y
   met x xs s = joint-pass (end_of x xs) (start_level y) (low-snd (joints x xs) (joint (end_of x xs) (start_level y)) (no-joint x xs s))
 
-  pub faultless : (xs : List (Record Amounts)) (t : Tally) → Tallied xs t → Tallied (xs ++ (y ∷ [])) u → no_fault ≤ t.fault
+  pub faultless : (xs : List (Record Amounts)) (t : Tally) → Tallied xs t → Tallied (xs ++ (y ∷ [])) u → t.fault ≡ None
   faultless [] t s v = s.fault
   faultless (x ∷ xs) t s v = is-clear t.fault (s.fault ∙ low-fst (joints x xs) (joint (end_of x xs) (start_level y)) (no-joint x xs v))
 
-pub joints-pass : (x : Record Amounts) (xs : List (Record Amounts)) (t : Tally) → Tells x xs t → no_fault ≤ t.fault → joints x xs ≡ pass
+pub joints-pass : (x : Record Amounts) (xs : List (Record Amounts)) (t : Tally) → Tells x xs t → t.fault ≡ None → joints x xs ≡ pass
 joints-pass x xs t s e = clear-is s.fault e
 
 -- ---- a log: its first record starts at level 0
 
-module _ (t : Tally) where
-  pub from-ground : t.start ≡ 0 → verdict_of t.fault ≡ low (verdict_of t.fault) (ask 11 (eqb t.start 0))
-  from-ground e = rw (eq-eqb t.start 0 e) (sym (low-pass (verdict_of t.fault)))
-
-  pub from-above : (r : ℕ) → ¬ (t.start ≡ 0) → verdict_of r ≡ low (verdict_of t.fault) (verdict_of 11) → verdict_of r ≡ low (verdict_of t.fault) (ask 11 (eqb t.start 0))
-  from-above r n e = e ∙ ap (low (verdict_of t.fault)) (raised t.start n)
-
-pub so_far : (t : Tally) {r : ℕ} → verdict_of r ≡ low (verdict_of t.fault) (ask 11 (eqb t.start 0)) → no_fault ≤ r → (no_fault ≤ t.fault) × (t.start ≡ 0)
+pub so_far : (t : Tally) {r : Option Refusal} → verdict_of r ≡ low (verdict_of t.fault) (ask 11 (eqb t.start 0)) → r ≡ None → (t.fault ≡ None) × (t.start ≡ 0)
 so_far t e h =
     let p = clear-is e h in
     (is-clear t.fault (low-fst (verdict_of t.fault) (ask 11 (eqb t.start 0)) p), ground-pass t.start (low-snd (verdict_of t.fault) (ask 11 (eqb t.start 0)) p))
 
-module _ (y : Record Amounts) (u : Tally) (e : no_fault ≤ u.fault) (z : u.start ≡ 0) where
+module _ (y : Record Amounts) (u : Tally) (e : u.fault ≡ None) (z : u.start ≡ 0) where
   pub grounded : (xs : List (Record Amounts)) (t : Tally) → Tallied xs t → Tallied (xs ++ (y ∷ [])) u → t.start ≡ 0
   grounded [] t s v = s.start
   grounded (x ∷ xs) t s v = s.start ∙ sym v.start ∙ z
@@ -99,16 +86,9 @@ pub log-verdict : (xs : List (Record Amounts)) (t : Tally) → Tallied xs t → 
 log-verdict [] t s few = rw s.begun
 log-verdict (x ∷ xs) t s few = rw (s.begun, s.fault, s.start, s.level, count-few (opened_of (x ∷ xs)) few, low-pass (joints x xs))
 
-module _ (t : Tally) where
-  pub asked-none : not t.begun ≡ true → verdict_of 10 ≡ log_verdict t
-  asked-none b = found 10 (omega arith) ∙ rw (not-begun t.begun b)
-
-  pub asked-all : (a r : ℕ) → not t.begun ≡ false → verdict_of a ≡ ends t.start t.level → verdict_of r ≡ low (verdict_of t.fault) (verdict_of a) → verdict_of r ≡ log_verdict t
-  asked-all a r b e f = f ∙ rw (e, begun t.begun b)
-
 -- where all is passed there is no fault, and the log goes from level 0 to level 0
 pub record Through (t : Tally) : Type 0 where
-  pub fault : no_fault ≤ t.fault
+  pub fault : t.fault ≡ None
   pub start : t.start ≡ 0
   pub level : t.level ≡ 0
 

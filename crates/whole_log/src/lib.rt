@@ -7,27 +7,22 @@ ghost use Rattle.hill.specs.Log.{Record, start_level, end_level, opens as opened
 ghost use Rattle.modes.specs.FourModes.{Amounts};
 ghost use Rattle.fault.specs.Fault.{verdict_of};
 ghost use Rattle.chunk.specs.Chunk.{record_of};
-ghost use Rattle.whole_log.specs.Gate.{ask_outcome, asked_answer};
+ghost use Rattle.gate.specs.Answers.{answered};
+ghost use Rattle.whole_log.specs.Gate.{ask_outcome};
 ghost use Rattle.whole_log.specs.Tallies.{Tallied, Fresh, log_verdict};
 
-use record::{Fields, Read};
+use gate::Refusal;
+use record::{Fields, Kind};
 
 // What a pass over records keeps beside what it computes: whether there was one, the start level, the level reached, the lowest of faults 7 and 8, and
 // the opened records.
-#[derive(Clone, Copy)]
+#[derive(Clone, Copy, Debug, PartialEq, Eq)]
 pub struct Tally {
     pub begun: bool,
     pub start: u16,
     pub level: u16,
-    pub fault: u8,
+    pub fault: Option<Refusal>,
     pub opened: u32,
-}
-
-// The answer of `ask`. `asked_answer` says what each case means.
-#[derive(Clone, Copy)]
-pub enum LogAsked {
-    Opened(u32),
-    Refused(u8),
 }
 
 // No record yet.
@@ -38,7 +33,7 @@ pub fn fresh() -> Tally
         begun: false,
         start: 0,
         level: 0,
-        fault: fault::NONE,
+        fault: None,
         opened: 0,
     }
 }
@@ -53,16 +48,15 @@ fn passed(t: Tally, from: u16, to: u16, opens: u32) -> Tally
             begun: true,
             start: from,
             level: to,
-            fault: fault::NONE,
+            fault: None,
             opened: opens,
         };
     }
     Tally {
-        begun: true,
-        start: t.start,
         level: to,
         fault: fault::lower(t.fault, fault::joint(t.level, from)),
         opened: t.opened + opens,
+        ..t
     }
 }
 
@@ -72,53 +66,52 @@ pub fn note(t: Tally, f: Fields) -> Tally
     ensures { (xs : List (Record Amounts)) → Tallied xs t → Tallied (xs ++ (record_of f ∷ [])) result }
 {
     let depth = f.depth;
-    if f.kind == 1 {
-        return passed(t, depth, depth + 1, 1);
+    match f.kind {
+        Kind::Open => passed(t, depth, depth + 1, 1),
+        Kind::Close => passed(t, depth + 1, depth, 0),
     }
-    passed(t, depth + 1, depth, 0)
 }
 
 // The lowest fault so far of a log: 11 too, where its first record does not start at level 0. It is asked for each record, so the usual case comes
 // first.
-pub fn fault_so_far(t: Tally) -> u8
+pub fn fault_so_far(t: Tally) -> Option<Refusal>
     ensures { verdict_of result ≡ low (verdict_of t.fault) (asking 11 (eqb t.start 0)) }
 {
     if t.start == 0 {
         return t.fault;
     }
-    fault::lower(t.fault, 11)
+    fault::lower(t.fault, Some(Refusal::NotWhole))
 }
 
 // The lowest fault of a log, once all its records are noted. Question 9 cannot get a "no": 65,536 bytes have too few records.
-pub fn log_fault(t: Tally) -> u8
+pub fn log_fault(t: Tally) -> Option<Refusal>
     ensures { verdict_of result ≡ log_verdict t }
 {
     if !t.begun {
-        return 10;
+        return Some(Refusal::NoRecord);
     }
     fault::lower(t.fault, fault::ends(t.start, t.level))
 }
 
 // How many records a log opens, or the first question that gets a "no".
-pub fn ask(log: &[u8]) -> LogAsked
-    ensures answer { asked_answer result ≡ ask_outcome log.now }
+pub fn ask(log: &[u8]) -> Result<u32, Refusal>
+    ensures { answered result ≡ ask_outcome log.now }
 {
     if 65536 < log.len() {
-        return LogAsked::Refused(2);
+        return Err(Refusal::TooLong);
     }
     let mut t = fresh();
     let mut rest = log;
+    // The rest is handed on as a chunk of its own, the form that document 01 asks for, so no iterator goes over the records.
     while 0 < rest.len() {
-        let Read::Record(f) = record::read_first(rest) else {
-            return LogAsked::Refused(3);
+        let Some(f) = record::read_first(rest) else {
+            return Err(Refusal::Unreadable);
         };
-        let length = f.length as usize;
         t = note(t, f);
-        rest = &rest[length..];
+        rest = &rest[f.length as usize..];
     }
-    let fault = log_fault(t);
-    if fault < fault::NONE {
-        return LogAsked::Refused(fault);
+    match log_fault(t) {
+        Some(fault) => Err(fault),
+        None => Ok(t.opened),
     }
-    LogAsked::Opened(t.opened)
 }

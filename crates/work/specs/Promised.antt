@@ -1,21 +1,21 @@
 -- What the inner functions of `work` ask, and the lists that their arrays stand for. Definitions only.
-use Rattle.std.specs.Prelude.{◌≡◌, ◌&&◌, cond, List, [], ◌∷◌, ℕ, zero, suc, ◌+◌, ◌-◌, ◌≤◌, ◌<◌, leb, eqb, ℤ, pos, get_or}
+use Rattle.std.specs.Prelude.{◌≡◌, ◌&&◌, cond, List, [], ◌∷◌, ℕ, zero, suc, ◌+◌, ◌-◌, ◌≤◌, ◌<◌, leb, eqb, ℤ, pos, length, take, get_or, Option}
 use Rattle.row.specs.Row.{row_pieces}
 use Rattle.algebra.specs.Sizes.{costs}
 use Rattle.figure.specs.Mode.{Mode, mode_of}
 use Rattle.figure.specs.Stored.{IsStored, size_of}
 use Rattle.summary.specs.Judge.{mode_at, middle_at, IsHill}
-use Rattle.join_plan.specs.Plan.{Line}
 use Rattle.plan_work.specs.Runs.{run_levels}
-use Rattle.plan_work.specs.Work.{Done, outcomes_at, given, worked}
+use Rattle.plan_work.specs.Work.{Done, given, worked}
 use Rattle.plan_work.specs.WorkSizes.{LineLight}
-use Rattle.row_plan.specs.Arrays.{line, line_in, lines_in}
+use Rattle.judge.specs.declared.Numbers.{Numbers}
+use Rattle.row_plan.specs.declared.Line.{Line as HeldLine}
+use Rattle.row_plan.specs.Arrays.{line_in, lines_in}
 use Rattle.run_level.specs.declared.Place.{Place}
 use Rattle.run_level.specs.declared.RunLevel.{RunLevel}
 use Rattle.run_level.specs.Levels.{piece_of, place_in, Placed, Reads}
 use Rattle.run_level.specs.StandsFor.{IsLevel, LineLevels}
-use Rattle.run_level.specs.Along.{row_in, Ready, levels_of}
-use Rattle.work.specs.declared.given.Join.{Join}
+use Rattle.run_level.specs.Along.{row_in, Ready, line_at, levels_of}
 use Rattle.work.specs.Stores.{Stores}
 
 -- What an outcome weighs at most, 10^9 for each of 100,000 opened records; and an x with all that its levels add: 130 times that.
@@ -60,11 +60,11 @@ pub record AddsMiddle (row : List ℕ) (m : ℕ) (p : Place) (level : ℕ) (acc 
   pub stored : IsStored (mode_of m) acc
   pub room : size_of (mode_of m) acc ≤ most
 
-pub record Middles (row : List ℕ) (count m : ℕ) (ats starts peaks : List ℕ) (i j level : ℕ) : Type 0 where
-  pub ready : Ready row count m ats starts peaks
+pub record Middles (row : List ℕ) (count m : ℕ) (ats : List ℕ) (notes : List (Option Numbers)) (i j level : ℕ) : Type 0 where
+  pub ready : Ready row count m ats notes
   pub order : i < j
   pub within : j ≤ count
-  pub level-high : level ≤ 64
+  pub level-low : 0 < level
 
 -- ---- outcomes
 
@@ -73,8 +73,9 @@ pub record AddsOutcome (m : ℕ) (out acc : ℤ) : Type 0 where
   pub acc-stored : IsStored (mode_of m) acc
   pub room : size_of (mode_of m) out + size_of (mode_of m) acc ≤ most
 
-abbrev pub with_outcome : (m i j level a b low : ℕ) (out acc : ℤ) → (mode_of m).algebra.Fig
-with_outcome m i j level a b low out acc = (mode_of m).algebra.◌⊗◌ (cond (leb i a && leb b j && eqb low level) ((mode_of m).read out) (mode_of m).algebra.ι) ((mode_of m).read acc)
+-- What a line gives, if it lies within i to j and its lowest depth is this level.
+abbrev pub with_outcome : (m i j level : ℕ) (line : HeldLine) (out acc : ℤ) → (mode_of m).algebra.Fig
+with_outcome m i j level line out acc = (mode_of m).algebra.◌⊗◌ (cond (leb i line.i && leb line.j j && eqb line.low level) ((mode_of m).read out) (mode_of m).algebra.ι) ((mode_of m).read acc)
 
 pub record OutsStored (M : Mode) (outs : List ℤ) (n : ℕ) : Type 0 where
   pub few : n ≤ 128
@@ -82,41 +83,38 @@ pub record OutsStored (M : Mode) (outs : List ℤ) (n : ℕ) : Type 0 where
   pub light : (k : ℕ) → k < n → size_of M (get_or outs k (pos 0)) ≤ outcome_most
 
 -- The first n lines with their outcomes, the latest first.
-abbrev pub done_at : (M : Mode) (is js lows highs : List ℕ) (outs : List ℤ) → ℕ → Done M.algebra.Fig
-done_at M is js lows highs outs k = record { line = line_in is js lows highs k; out = M.read (get_or outs k (pos 0)) }
+abbrev pub done_at : (M : Mode) (lines : List HeldLine) (outs : List ℤ) → ℕ → Done M.algebra.Fig
+done_at M lines outs k = record { line = line_at lines k; out = M.read (get_or outs k (pos 0)) }
 
-abbrev pub done_in : (M : Mode) (is js lows highs : List ℕ) (outs : List ℤ) → ℕ → List (Done M.algebra.Fig)
-done_in M is js lows highs outs zero = []
-done_in M is js lows highs outs (suc n) = done_at M is js lows highs outs n ∷ done_in M is js lows highs outs n
+abbrev pub done_in : (M : Mode) (lines : List HeldLine) (outs : List ℤ) → ℕ → List (Done M.algebra.Fig)
+done_in M lines outs zero = []
+done_in M lines outs (suc n) = done_at M lines outs n ∷ done_in M lines outs n
 
--- The number r stores the outcomes that they give, whatever their highest depths are.
-abbrev pub Outcomes : (m : ℕ) (is js lows : List ℕ) (outs : List ℤ) (n i j level : ℕ) (r : ℤ) → Type 0
-Outcomes m is js lows outs n i j level r = (highs : List ℕ) → Stores (mode_of m) r (outcomes_at (mode_of m).algebra i j level (done_in (mode_of m) is js lows highs outs n))
+-- All of these lines.
+abbrev pub done_of : (M : Mode) (lines : List HeldLine) (outs : List ℤ) → List (Done M.algebra.Fig)
+done_of M lines outs = done_in M lines outs (length lines)
 
 -- ---- lines
 
-abbrev pub join_line : Join → Line
-join_line e = line e.i e.j e.low e.high
+pub record Gives (row : List ℕ) (count m : ℕ) (ats : List ℕ) (notes : List (Option Numbers)) (lines : List HeldLine) (outs : List ℤ) (line : HeldLine) : Type 0 where
+  pub ready : Ready row count m ats notes
+  pub order : line.i < line.j
+  pub within : line.j ≤ count
+  pub level-high : line.high < 64
+  pub outcomes : OutsStored (mode_of m) outs (length lines)
 
-pub record Gives (row : List ℕ) (count m : ℕ) (ats starts peaks : List ℕ) (outs : List ℤ) (n : ℕ) (e : Join) : Type 0 where
-  pub ready : Ready row count m ats starts peaks
-  pub order : e.i < e.j
-  pub within : e.j ≤ count
-  pub level-high : e.high < 64
-  pub outcomes : OutsStored (mode_of m) outs n
+-- The number r stores the x of a line after these.
+abbrev pub Given : (row : List ℕ) (m : ℕ) (lines : List HeldLine) (outs : List ℤ) (line : HeldLine) (r : ℤ) → Type 0
+Given row m lines outs line r = Stores (mode_of m) r (given (mode_of m).algebra (row_in m row) (line_in line) (done_of (mode_of m) lines outs))
 
--- The number r stores the x of the line e after the first n.
-abbrev pub Given : (row : List ℕ) (m : ℕ) (is js lows : List ℕ) (outs : List ℤ) (n : ℕ) (e : Join) (r : ℤ) → Type 0
-Given row m is js lows outs n e r = (highs : List ℕ) → Stores (mode_of m) r (given (mode_of m).algebra (row_in m row) (join_line e) (done_in (mode_of m) is js lows highs outs n))
-
-pub record WorksLine (row : List ℕ) (count m : ℕ) (ats starts peaks is js lows highs : List ℕ) (outs : List ℤ) (k : ℕ) (e : Join) : Type 0 where
-  pub ready : Ready row count m ats starts peaks
-  pub outcomes : OutsStored (mode_of m) outs k
-  pub levels : LineLevels m (row_pieces row) (join_line e)
-  pub run_is : run_levels (mode_of m).algebra (row_in m row) (join_line e) ≡ levels_of row m (place_in ats starts peaks e.i) (place_in ats starts peaks e.j) e.low (suc e.high - e.low)
-  pub light : LineLight (mode_of m).algebra (mode_of m).sizes (row_in m row) (join_line e) (done_in (mode_of m) is js lows highs outs k)
+pub record WorksLine (row : List ℕ) (count m : ℕ) (ats : List ℕ) (notes : List (Option Numbers)) (lines : List HeldLine) (outs : List ℤ) (line : HeldLine) : Type 0 where
+  pub ready : Ready row count m ats notes
+  pub outcomes : OutsStored (mode_of m) outs (length lines)
+  pub levels : LineLevels m (row_pieces row) (line_in line)
+  pub run_is : run_levels (mode_of m).algebra (row_in m row) (line_in line) ≡ levels_of row m (place_in ats notes line.i) (place_in ats notes line.j) line.low (suc line.high - line.low)
+  pub light : LineLight (mode_of m).algebra (mode_of m).sizes (row_in m row) (line_in line) (done_of (mode_of m) lines outs)
 
 -- The first n lines are worked.
-pub record AllWorked (row : List ℕ) (m : ℕ) (is js lows highs : List ℕ) (outs : List ℤ) (n : ℕ) : Type 0 where
-  pub outcomes : done_in (mode_of m) is js lows highs outs n ≡ worked (mode_of m).algebra (row_in m row) (lines_in is js lows highs n) []
+pub record AllWorked (row : List ℕ) (m : ℕ) (lines : List HeldLine) (outs : List ℤ) (n : ℕ) : Type 0 where
+  pub outcomes : done_in (mode_of m) lines outs n ≡ worked (mode_of m).algebra (row_in m row) (lines_in (take n lines)) []
   pub each : (k : ℕ) → k < n → IsStored (mode_of m) (get_or outs k (pos 0))

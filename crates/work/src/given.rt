@@ -1,23 +1,27 @@
 // The x of a line: the middle values of the hills between its two, and the outcomes of earlier lines.
-ghost use Rattle.std.specs.Prelude.{◌≡◌};
+ghost use Rattle.std.specs.Prelude.{◌≡◌, length};
 ghost use Rattle.figure.specs.Mode.{mode_of};
 ghost use Rattle.summary.specs.Judge.{middle_at};
-ghost use Rattle.plan_work.specs.Work.{middles_at, strictly_between};
+ghost use Rattle.plan_work.specs.Work.{middles_at, outcomes_at, strictly_between};
 ghost use Rattle.run_level.specs.Levels.{piece_of};
 ghost use Rattle.work.specs.Stores.{Stores};
 ghost use Rattle.run_level.specs.Along.{row_in};
-ghost use Rattle.work.specs.Promised.{IsPlaceOfHill, AddsMiddle, with_middle, AddsOutcome, with_outcome, Middles, OutsStored, Outcomes, Gives, Given};
+ghost use Rattle.work.specs.Promised.{
+  IsPlaceOfHill,
+  AddsMiddle,
+  with_middle,
+  AddsOutcome,
+  with_outcome,
+  Middles,
+  OutsStored,
+  done_of,
+  Gives,
+  Given,
+};
 
+use row_plan::Line;
 use run_level::Place;
-
-// A line of the plan.
-#[derive(Clone, Copy)]
-pub struct Join {
-    pub i: u8,
-    pub j: u8,
-    pub low: u8,
-    pub high: u8,
-}
+use run_level::hills::{Hills, place_of};
 
 // The middle value of a hill.
 pub fn read_middle(row: &[u8], hill: Place) -> i64
@@ -39,98 +43,48 @@ fn add_middle(row: &[u8], mode: u16, piece: Place, level: u8, acc: i64) -> i64
     figure::combine(mode, acc, read_middle(row, piece))
 }
 
-// The middle values of the hills between i and j with this peak, combined.
-fn middles(
-    row: &[u8],
-    count: usize,
-    mode: u16,
-    ats: &[usize; 64],
-    starts: &[u8; 64],
-    peaks: &[u8; 64],
-    i: u8,
-    j: u8,
-    level: u8,
-) -> i64
-    requires { Middles row.now count mode ats.now starts.now peaks.now i j level }
-    ensures { Stores (mode_of mode) result (middles_at (mode_of mode).algebra level (strictly_between (mode_of mode).algebra (row_in mode row.now) i j)) }
+// The middle values of the hills between i and j with this peak, combined. The level is above 0, which stands for the peak of a piece that is no hill.
+fn middles(hills: Hills, i: u8, j: u8, level: u8) -> i64
+    requires { Middles hills.row.now hills.count hills.mode hills.ats.now hills.notes.now i j level }
+    ensures { Stores (mode_of hills.entry.mode) result (middles_at (mode_of hills.entry.mode).algebra level (strictly_between (mode_of hills.entry.mode).algebra (row_in hills.entry.mode hills.entry.row.now) i j)) }
 {
-    let end = j as usize;
-    let mut acc = figure::nothing(mode);
-    let mut k = (i as usize) + 1;
-    while k < end {
-        acc = add_middle(
-            row,
-            mode,
-            run_level::place_of(ats, starts, peaks, k),
-            level,
-            acc,
-        );
-        k += 1;
+    let mut acc = figure::nothing(hills.mode);
+    for k in usize::from(i) + 1..usize::from(j) {
+        acc = add_middle(hills.row, hills.mode, place_of(hills, k), level, acc);
     }
     acc
 }
 
-// The outcome of a line from a to b joins, if both lie within i to j and its lowest depth is this level.
-fn add_outcome(mode: u16, i: u8, j: u8, level: u8, a: u8, b: u8, low: u8, out: i64, acc: i64) -> i64
+// The outcome of a line joins, if the line lies within i to j and its lowest depth is this level.
+fn add_outcome(mode: u16, i: u8, j: u8, level: u8, line: Line, out: i64, acc: i64) -> i64
     requires { AddsOutcome mode out acc }
-    ensures { Stores (mode_of mode) result (with_outcome mode i j level a b low out acc) }
+    ensures { Stores (mode_of mode) result (with_outcome mode i j level line out acc) }
 {
-    if (i <= a) & (b <= j) & (low == level) {
+    if (i <= line.i) & (line.j <= j) & (line.low == level) {
         return figure::combine(mode, out, acc);
     }
     acc
 }
 
-// The outcomes of the first n lines, of those from i to j whose lowest depth is this level, combined.
-fn outcomes(
-    mode: u16,
-    is: &[u8; 128],
-    js: &[u8; 128],
-    lows: &[u8; 128],
-    outs: &[i64; 128],
-    n: usize,
-    i: u8,
-    j: u8,
-    level: u8,
-) -> i64
-    requires { OutsStored (mode_of mode) outs.now n }
-    ensures { Outcomes mode is.now js.now lows.now outs.now n i j level result }
+// The outcomes of lines, of those from i to j whose lowest depth is this level, combined.
+fn outcomes(mode: u16, lines: &[Line], outs: &[i64; 128], i: u8, j: u8, level: u8) -> i64
+    requires { OutsStored (mode_of mode) outs.now (length lines.now) }
+    ensures { Stores (mode_of mode) result (outcomes_at (mode_of mode).algebra i j level (done_of (mode_of mode) lines.now outs.now)) }
 {
     let mut acc = figure::nothing(mode);
-    let mut k: usize = 0;
-    while k < n {
-        acc = add_outcome(mode, i, j, level, is[k], js[k], lows[k], outs[k], acc);
-        k += 1;
+    for (k, line) in lines.iter().enumerate() {
+        acc = add_outcome(mode, i, j, level, *line, outs[k], acc);
     }
     acc
 }
 
-// The x of a line after the first n.
-pub fn given(
-    row: &[u8],
-    count: usize,
-    mode: u16,
-    ats: &[usize; 64],
-    starts: &[u8; 64],
-    peaks: &[u8; 64],
-    is: &[u8; 128],
-    js: &[u8; 128],
-    lows: &[u8; 128],
-    outs: &[i64; 128],
-    n: usize,
-    e: Join,
-) -> i64
-    requires { Gives row.now count mode ats.now starts.now peaks.now outs.now n e }
-    ensures { Given row.now mode is.now js.now lows.now outs.now n e result }
+// The x of a line after these lines, with their outcomes.
+pub fn given(hills: Hills, lines: &[Line], outs: &[i64; 128], line: Line) -> i64
+    requires { Gives hills.row.now hills.count hills.mode hills.ats.now hills.notes.now lines.now outs.now line }
+    ensures { Given hills.entry.row.now hills.entry.mode lines.now outs.now line result }
 {
-    let i = e.i;
-    let j = e.j;
-    let high = e.high;
-    let level = high + 1;
-    let between = middles(row, count, mode, ats, starts, peaks, i, j, level);
-    figure::combine(
-        mode,
-        between,
-        outcomes(mode, is, js, lows, outs, n, i, j, level),
-    )
+    let level = line.high + 1;
+    let between = middles(hills, line.i, line.j, level);
+    let before = outcomes(hills.mode, lines, outs, line.i, line.j, level);
+    figure::combine(hills.mode, between, before)
 }

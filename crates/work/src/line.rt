@@ -32,9 +32,7 @@ pub fn through_line(
     ensures { Stores (mode_of mode) result (through (mode_of mode).algebra (levels_of row.now mode opener closer low (suc high - low)) ((mode_of mode).read x)) }
 {
     let mut y = x;
-    let mut depth = high + 1;
-    while low < depth {
-        depth -= 1;
+    for depth in (low..high + 1).rev() {
         y = through_level(mode, run_level::read_level(row, opener, closer, depth), y);
     }
     y

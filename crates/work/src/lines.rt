@@ -3,123 +3,61 @@ ghost use Rattle.std.specs.Prelude.{◌≡◌, length};
 ghost use Rattle.figure.specs.Mode.{mode_of};
 ghost use Rattle.plan_work.specs.Work.{work_of, one_middle};
 ghost use Rattle.plan_work.specs.WorkLaws.{work};
+ghost use Rattle.row_plan.specs.Arrays.{line_in};
 ghost use Rattle.work.specs.Stores.{Stores};
 ghost use Rattle.run_level.specs.Along.{row_in, Ready, Along};
-ghost use Rattle.work.specs.Promised.{join_line, done_in, WorksLine, AllWorked};
+ghost use Rattle.work.specs.Promised.{done_of, WorksLine, AllWorked};
 
-use super::given::{Join, given, read_middle};
+use super::given::{given, read_middle};
 use super::line::through_line;
+use row_plan::Line;
+use run_level::hills::{Hills, place_of};
 
-// The outcome of a line after the first k.
-fn work_line(
-    row: &[u8],
-    count: usize,
-    mode: u16,
-    ats: &[usize; 64],
-    starts: &[u8; 64],
-    peaks: &[u8; 64],
-    is: &[u8; 128],
-    js: &[u8; 128],
-    lows: &[u8; 128],
-    highs: &[u8; 128],
-    outs: &[i64; 128],
-    k: usize,
-    e: Join,
-) -> i64
-    requires { WorksLine row.now count mode ats.now starts.now peaks.now is.now js.now lows.now highs.now outs.now k e }
-    ensures { Stores (mode_of mode) result (work (mode_of mode).algebra (row_in mode row.now) (join_line e) (done_in (mode_of mode) is.now js.now lows.now highs.now outs.now k)).out }
+// The outcome of a line after these lines, with their outcomes.
+fn work_line(hills: Hills, lines: &[Line], outs: &[i64; 128], line: Line) -> i64
+    requires { WorksLine hills.row.now hills.count hills.mode hills.ats.now hills.notes.now lines.now outs.now line }
+    ensures { Stores (mode_of hills.entry.mode) result (work (mode_of hills.entry.mode).algebra (row_in hills.entry.mode hills.entry.row.now) (line_in line) (done_of (mode_of hills.entry.mode) lines.now outs.now)).out }
 {
-    let x = given(
-        row, count, mode, ats, starts, peaks, is, js, lows, outs, k, e,
-    );
-    let i = e.i as usize;
-    let j = e.j as usize;
-    let low = e.low;
-    let high = e.high;
-    let opener = run_level::place_of(ats, starts, peaks, i);
-    let closer = run_level::place_of(ats, starts, peaks, j);
-    through_line(row, mode, opener, closer, low, high, x)
+    let x = given(hills, lines, outs, line);
+    let opener = place_of(hills, usize::from(line.i));
+    let closer = place_of(hills, usize::from(line.j));
+    through_line(
+        hills.row, hills.mode, opener, closer, line.low, line.high, x,
+    )
 }
 
 // The outcome of each line.
-fn work_each(
-    row: &[u8],
-    count: usize,
-    mode: u16,
-    ats: &[usize; 64],
-    starts: &[u8; 64],
-    peaks: &[u8; 64],
-    is: &[u8; 128],
-    js: &[u8; 128],
-    lows: &[u8; 128],
-    highs: &[u8; 128],
-    n: usize,
-    outs: &mut [i64; 128],
-)
-    requires along { Along row.now count mode ats.now starts.now peaks.now is.now js.now lows.now highs.now n }
-    requires outs_len { length outs.old ≡ 128 }
-    ensures { AllWorked row.now mode is.now js.now lows.now highs.now outs.new n }
+fn work_each(hills: Hills, lines: &[Line], outs: &mut [i64; 128])
+    requires { Along hills.row.now hills.count hills.mode hills.ats.now hills.notes.now lines.now }
+    ensures { AllWorked hills.entry.row.now hills.entry.mode lines.now outs.new (length lines.now) }
 {
-    let mut k: usize = 0;
-    while k < n {
-        let e = Join {
-            i: is[k],
-            j: js[k],
-            low: lows[k],
-            high: highs[k],
-        };
-        outs[k] = work_line(
-            row, count, mode, ats, starts, peaks, is, js, lows, highs, &*outs, k, e,
-        );
-        k += 1;
+    for (k, line) in lines.iter().enumerate() {
+        outs[k] = work_line(hills, &lines[..k], outs, *line);
     }
 }
 
 // The middle value of the one hill.
-fn one_middle(
-    row: &[u8],
-    count: usize,
-    mode: u16,
-    ats: &[usize; 64],
-    starts: &[u8; 64],
-    peaks: &[u8; 64],
-) -> i64
-    requires { Ready row.now count mode ats.now starts.now peaks.now }
-    ensures { Stores (mode_of mode) result (one_middle (mode_of mode).algebra (row_in mode row.now)) }
+fn one_middle(hills: Hills) -> i64
+    requires { Ready hills.row.now hills.count hills.mode hills.ats.now hills.notes.now }
+    ensures { Stores (mode_of hills.entry.mode) result (one_middle (mode_of hills.entry.mode).algebra (row_in hills.entry.mode hills.entry.row.now)) }
 {
-    let mut k: usize = 0;
-    while k < count {
-        if peaks[k] < row_gate::NO_PEAK {
-            return read_middle(row, run_level::place_of(ats, starts, peaks, k));
+    for k in 0..hills.count {
+        if hills.notes[k].is_some() {
+            return read_middle(hills.row, place_of(hills, k));
         }
-        k += 1;
     }
-    figure::nothing(mode)
+    figure::nothing(hills.mode)
 }
 
 // The last outcome; with no line, the middle value of the one hill.
-pub fn work_lines(
-    row: &[u8],
-    count: usize,
-    mode: u16,
-    ats: &[usize; 64],
-    starts: &[u8; 64],
-    peaks: &[u8; 64],
-    is: &[u8; 128],
-    js: &[u8; 128],
-    lows: &[u8; 128],
-    highs: &[u8; 128],
-    n: usize,
-) -> i64
-    requires { Along row.now count mode ats.now starts.now peaks.now is.now js.now lows.now highs.now n }
-    ensures { result ≡ (mode_of mode).store (work_of (mode_of mode).algebra (row_in mode row.now)).figure }
+pub fn work_lines(hills: Hills, lines: &[Line]) -> i64
+    requires { Along hills.row.now hills.count hills.mode hills.ats.now hills.notes.now lines.now }
+    ensures { result ≡ (mode_of hills.entry.mode).store (work_of (mode_of hills.entry.mode).algebra (row_in hills.entry.mode hills.entry.row.now)).figure }
 {
-    if n == 0 {
-        return one_middle(row, count, mode, ats, starts, peaks);
+    if lines.is_empty() {
+        return one_middle(hills);
     }
-    let mut outs = [0i64; 128];
-    work_each(
-        row, count, mode, ats, starts, peaks, is, js, lows, highs, n, &mut outs,
-    );
-    outs[n - 1]
+    let mut outs = [0; 128];
+    work_each(hills, lines, &mut outs);
+    outs[lines.len() - 1]
 }

@@ -1,6 +1,8 @@
-use Rattle.run_back.proofs.InverseLaws.{newton_is}
-use Rattle.std.proofs.Common.{rules}
+use Rattle.std.proofs.Common.{◌^◌}
+use Rattle.number.specs.Modulo.{times_mod}
+use Rattle.run_back.specs.Inverse.{newton}
 use Rattle.backwards.proofs.newton_step.Goals as goal
 
 pub returns : goal.returns
-returns c = newton_is _ _ _ c.wrapping_sub_u32.result _ c.wrapping_mul.ensures c.wrapping_sub_u32.ensures.value (search rules) c.wrapping_mul-2.ensures
+unfolding newton
+returns c = times_mod c.args.x _ (2 ^ 32)

@@ -9,20 +9,20 @@ use Rattle.slopes.specs.Laws.{adds}
 use Rattle.codec.specs.LoadLaws.{load-sinks, middle-joins, stack-room, loaded}
 use Rattle.codec.proofs.load.Goals as goal
 
-pub sink_all-s-requires : goal.sink_all-s-requires
-sink_all-s-requires c =
+pub sink_all-sunk-requires : goal.sink_all-sunk-requires
+sink_all-sunk-requires c =
     let peak = c.read_u16-peak.ensures in
     load-sinks c.requires (ap₂ ◌-◌ c.read_u16.ensures peak) (ap₂ ◌-◌ c.read_u16-2.ensures peak)
 
 pub add-mid-requires : goal.add-mid-requires
 add-mid-requires c =
     let b = c.args.b.now in
-    let m : mag c.sink_all-s.result.mid < 2 ^ 63 = search rules in
+    let m : mag c.sink_all-sunk.result.mid < 2 ^ 63 = search rules in
     let peak = c.read_u16-peak.ensures in
     let rise : c.read_u16.result - c.read_u16-peak.result ≡ rise_at b = ap₂ ◌-◌ c.read_u16.ensures peak in
     let fall : c.read_u16-2.result - c.read_u16-peak.result ≡ fall_at b = ap₂ ◌-◌ c.read_u16-2.ensures peak in
     let x : to_z w64 (of_z w64 c.read_i64-x.result) ≡ middle_at b = back w64 c.read_i64-x.result c.read_i64-x.type_inv ∙ c.read_i64-x.ensures ∙ ap (λ (r : ℕ). i64_at b (16 + 8 * r)) rise in
-    rw (back w64 c.sink_all-s.result.mid m) (adds (middle-joins c.requires rise fall c.sink_all-s.ensures x))
+    rw (back w64 c.sink_all-sunk.result.mid m) (adds (middle-joins c.requires rise fall c.sink_all-sunk.ensures x))
 
 pub push_all-requires : goal.push_all-requires
 push_all-requires c =
@@ -30,15 +30,15 @@ push_all-requires c =
     let peak = c.read_u16-peak.ensures in
     let rise : c.read_u16.result - c.read_u16-peak.result ≡ rise_at b = ap₂ ◌-◌ c.read_u16.ensures peak in
     let fall : c.read_u16-2.result - c.read_u16-peak.result ≡ fall_at b = ap₂ ◌-◌ c.read_u16-2.ensures peak in
-    (ap (λ (k : ℕ). 24 + 8 * k) rise, omega (arith, c.requires.hill.layout.length-fits, rise, fall), stack-room c.requires rise fall c.sink_all-s.ensures)
+    (ap (λ (k : ℕ). 24 + 8 * k) rise, omega (arith, c.requires.hill.layout.length-fits, rise, fall), stack-room c.requires rise fall c.sink_all-sunk.ensures)
 
 pub returns : goal.returns
 returns c =
     let b = c.args.b.now in
-    let m : mag c.sink_all-s.result.mid < 2 ^ 63 = search rules in
+    let m : mag c.sink_all-sunk.result.mid < 2 ^ 63 = search rules in
     let peak = c.read_u16-peak.ensures in
     let rise : c.read_u16.result - c.read_u16-peak.result ≡ rise_at b = ap₂ ◌-◌ c.read_u16.ensures peak in
     let fall : c.read_u16-2.result - c.read_u16-peak.result ≡ fall_at b = ap₂ ◌-◌ c.read_u16-2.ensures peak in
     let x : to_z w64 (of_z w64 c.read_i64-x.result) ≡ middle_at b = back w64 c.read_i64-x.result c.read_i64-x.type_inv ∙ c.read_i64-x.ensures ∙ ap (λ (r : ℕ). i64_at b (16 + 8 * r)) rise in
     let d = c.add-mid in
-    loaded c.requires rise fall c.sink_all-s.ensures (rw (back w64 d.result d.type_inv) (rw (back w64 c.sink_all-s.result.mid m, x) at d.ensures)) c.push_all.ensures
+    loaded c.requires rise fall c.sink_all-sunk.ensures (rw (back w64 d.result d.type_inv) (rw (back w64 c.sink_all-sunk.result.mid m, x) at d.ensures)) c.push_all.ensures

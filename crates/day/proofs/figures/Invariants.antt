@@ -1,12 +1,10 @@
 -- Of the log some records are read, and the arrays stand for their hills, as long as there is no fault: specs/Loop.antt.
-use lib.ListN.{length}
+use Rattle.std.proofs.Common.{length}
 use Rattle.day.specs.Loop.{Inv}
 use Rattle.day.proofs.figures.Given as goal
 
 abbrev pub invariant-loop-rest : goal.invariant-loop-rest
-invariant-loop-rest l =
-    Inv l.log l.rest l.t l.mid l.values l.floors l.ceilings l.net l.heaviest l.eaten l.stamp
+invariant-loop-rest l = Inv l.log l.rest l.t l.mid l.amounts l.held
 
 abbrev pub decreases-loop-rest : goal.decreases-loop-rest
-decreases-loop-rest l =
-    length l.rest
+decreases-loop-rest l = length l.rest

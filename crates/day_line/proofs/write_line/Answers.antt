@@ -1,32 +1,7 @@
--- `day_line::write_line` meets its contract: the four items, one after the other, are the line.
-use mathlib.Core.Path.{◌≡◌, refl}
-use native.Mathlib.Omega.{arith}
-use mathlib.Core.List.{[]}
-use mir.Syntax.{w64}
-use mir.Val.{to_z, of_z}
-use borrow.Author.Rules.{rules}
+-- The four items, one after the other, are the line.
+use Rattle.std.proofs.Common.{◌≡◌, [], refl, arith, rules, w64, to_z, of_z}
 use Rattle.day_line.proofs.Wrote.{Wrote, next, four, short}
 use Rattle.day_line.proofs.write_line.Goals as goal
-
-pub write_item-at-requires : goal.write_item-at-requires
-write_item-at-requires c =
-    let f = c.args.figures in
-    omega (arith, short (of_z w64 f.net))
-
-pub write_item-at-requires-2 : goal.write_item-at-requires-2
-write_item-at-requires-2 c =
-    let f = c.args.figures in
-    omega (arith, short (of_z w64 f.net), short (of_z w64 f.heaviest))
-
-pub write_item-at-requires-3 : goal.write_item-at-requires-3
-write_item-at-requires-3 c =
-    let f = c.args.figures in
-    omega (arith, short (of_z w64 f.net), short (of_z w64 f.heaviest), short (of_z w64 f.eaten))
-
-pub write_item-requires : goal.write_item-requires
-write_item-requires c =
-    let f = c.args.figures in
-    omega (arith, short (of_z w64 f.net), short (of_z w64 f.heaviest), short (of_z w64 f.eaten), short (of_z w64 f.stamp))
 
 pub returns : goal.returns
 returns c =
@@ -40,4 +15,4 @@ returns c =
     let two = next 32 one heaviest c.write_item-at-2.ensures.answer c.write_item-at-2.ensures.buffer in
     let three = next 32 two eaten c.write_item-at-3.ensures.answer c.write_item-at-3.ensures.buffer in
     let w = next 10 three stamp c.write_item.ensures.answer c.write_item.ensures.buffer in
-    record { answer = rw (← four f) w.end; buffer = rw (← four f) w.is; fits = omega (arith, short (of_z w64 f.net), short (of_z w64 f.heaviest), short (of_z w64 f.eaten), short (of_z w64 f.stamp)) }
+    record { answer = rw (← four f) w.end; buffer = rw (← four f) w.is; fits = omega (arith, short) }

@@ -1,22 +1,23 @@
--- `day_line::write_refusal` meets its contract: the word is stored byte by byte, and the number is one item more.
-use mathlib.Core.Path.{◌≡◌, refl}
-use native.Mathlib.Omega.{arith}
-use lib.IntN.{pos}
-use lib.Seq.{sets}
-use mir.Syntax.{w64}
-use mir.Val.{to_z}
-use mir.Facts.{to_z_pos}
+-- The word is copied to the start, and the number is one item more.
+use Rattle.std.proofs.Common.{◌≡◌, ℕ, ◌≤◌, List, length, refl, ap, ◌∙◌, arith, pos, w64, to_z}
+use Rattle.std.proofs.lemmas.Int.{to_z_pos}
+use borrow.Rule.Slice.PartMut.{put_mid}
+use Rattle.number.specs.Laws.{sets-part}
+use Rattle.gate.specs.Answers.{number_of}
 use Rattle.outcome.specs.Line.{ascii}
 use Rattle.day_line.proofs.Wrote.{Wrote, next, word, short}
 use Rattle.day_line.proofs.write_refusal.Goals as goal
 
-pub write_item-requires : goal.write_item-requires
-write_item-requires c = omega (arith, short c.args.n)
+copied : (out is : List ℕ) → 8 ≤ length out → is ≡ ascii "refused " → Wrote out (ascii "refused ") (put_mid 0 8 out is) 8
+unfolding ascii
+copied out is h e = record { is = rw e (sets-part 0 8 out (ascii "refused ") refl h); end = refl }
 
 pub returns : goal.returns
 unfolding ascii
 returns c =
-    let n : to_z w64 c.args.n ≡ pos c.args.n = to_z_pos w64 (omega arith) in
-    let refused : Wrote c.args.out.now (ascii "refused ") (sets c.args.out.now 0 (ascii "refused ")) 8 = record { is = refl; end = refl } in
-    let w = next 10 refused n c.write_item.ensures.answer c.write_item.ensures.buffer in
-    record { answer = rw (← word c.args.n) w.end; buffer = rw (← word c.args.n) w.is; fits = omega (arith, short c.args.n) }
+    let o = c.args.out.now in
+    let r = number_of c.args.no in
+    let w = copied o c.copy_from_slice.new.self (omega arith) c.copy_from_slice.ensures.after in
+    let n : to_z w64 c.number.result ≡ pos r = to_z_pos w64 c.number.result (omega arith) ∙ ap pos c.number.ensures in
+    let x = next 10 w n c.write_item.ensures.answer c.write_item.ensures.buffer in
+    record { answer = rw (← word r) x.end; buffer = rw (← word r) x.is; fits = omega (arith, short) }

@@ -1,9 +1,5 @@
-use Prim.Native.Nat.{◌-◌}
 use Rattle.farms.specs.SlotLaws.{Blanking}
 use Rattle.farms.proofs.make_all_blank.Given as goal
 
 abbrev pub invariant-loop-farm : goal.invariant-loop-farm
 invariant-loop-farm l = Blanking l.mode l.state l.farm
-
-abbrev pub decreases-loop-farm : goal.decreases-loop-farm
-decreases-loop-farm l = 8 - l.farm

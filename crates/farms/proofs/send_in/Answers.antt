@@ -1,4 +1,5 @@
-use mathlib.Core.Path.{◌≡◌, refl}
+use Rattle.std.proofs.Common.{◌≡◌, refl}
+use Rattle.std.proofs.lemmas.Result.{err_from_is_err_and}
 use Rattle.gate.specs.Outcome.{refused}
 use Rattle.valley_station.specs.Station.{send_outcome}
 use Rattle.valley_station.specs.State.{station_of}
@@ -15,17 +16,17 @@ returns-then-farm-gt7 c =
 pub settle-requires : goal.settle-requires
 settle-requires c =
     let a = c in
-    record { state_len = (a.requires, c.if-farm-gt7.false); slot = sent-slot a.args.state.now _ a.args.summary.now a.args.farm c.if-farm-gt7.false (held-part a.args.state.now _ _ c.held_end-end.ensures) _ _ c.merge-merged.ensures.answer c.merge-merged.ensures.buffer c.in-Bytes.is }
+    record { state_len = (a.requires, c.if-farm-gt7.false); slot = sent-slot a.args.state.now _ a.args.summary.now a.args.farm c.if-farm-gt7.false (held-part a.args.state.now _ _ c.held_end-end.ensures) _ _ c.merge.ensures.answer c.merge.ensures.buffer c.in_ok-n.was }
 
-pub returns-in-Bytes : goal.returns-in-Bytes
-returns-in-Bytes c =
+pub returns : goal.returns
+returns c =
     let a = c in
-    let r = sent a.args.state.now _ a.args.summary.now a.args.farm c.if-farm-gt7.false (held-part a.args.state.now _ _ c.held_end-end.ensures) _ _ c.merge-merged.ensures.answer c.merge-merged.ensures.buffer _ _ c.in-Bytes.is c.settle.ensures.answer c.settle.ensures.state in
+    let r = sent a.args.state.now _ a.args.summary.now a.args.farm c.if-farm-gt7.false (held-part a.args.state.now _ _ c.held_end-end.ensures) _ _ c.merge.ensures.answer c.merge.ensures.buffer _ _ c.in_ok-n.was c.settle.ensures.answer c.settle.ensures.state in
     record { answer = r.0; state = r.1 }
 
-pub returns-in-Refused : goal.returns-in-Refused
-returns-in-Refused c =
+pub returns-in_err-n : goal.returns-in_err-n
+returns-in_err-n c =
     let a = c in
-    let e : send_outcome (station_of a.args.state.now) a.args.farm a.args.summary.now ≡ refused c.in-Refused.n =
-    not-sent a.args.state.now _ a.args.summary.now a.args.farm c.if-farm-gt7.false (held-part a.args.state.now _ _ c.held_end-end.ensures) _ _ c.merge-merged.ensures.answer c.merge-merged.ensures.buffer c.in-Refused.is in
-    rw e record { answer = refl; state = refl }
+    let e = err_from_is_err_and c.from_residual.result c.from_residual.ensures.1 in
+    let n = not-sent a.args.state.now _ a.args.summary.now a.args.farm c.if-farm-gt7.false (held-part a.args.state.now _ _ c.held_end-end.ensures) _ _ c.merge.ensures.answer c.merge.ensures.buffer c.in_err-n.was in
+    rw (e.1, e.2, n) record { answer = refl; state = refl }

@@ -17,7 +17,6 @@ to_u32-requires-2 c = simp (to_z-of_z c.ranges.b) (stamp-range c.args.b c.requir
 pub returns : goal.returns
 unfolding combined mode_of
 returns c =
-    back w64 c.from_u32.result c.from_u32.type_inv ∙ c.from_u32.ensures
-    ∙ ap pos (c.wrapping_add_u32.ensures.value
-    ∙ ap₂ (λ (x y : ℕ). (x + y) % 2 ^ 32) (ap up (c.to_u32.ensures ∙ to_z-of_z c.ranges.a)) (ap up (c.to_u32-2.ensures ∙ to_z-of_z c.ranges.b))
+    back w64 c.from.result c.from.type_inv ∙ c.from.ensures
+    ∙ ap pos (ap₂ (λ (x y : ℕ). (x + y) % 2 ^ 32) (ap up (c.to_u32.ensures ∙ to_z-of_z c.ranges.a)) (ap up (c.to_u32-2.ensures ∙ to_z-of_z c.ranges.b))
     ∙ add-mod (up c.args.a) (up c.args.b) (2 ^ 32))

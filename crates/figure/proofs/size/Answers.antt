@@ -28,4 +28,4 @@ pub returns-in_default : goal.returns-in_default
 returns-in_default c =
     let s = c in
     let t = sym c.stores_nothing.ensures ∙ c.if-stores_nothing.false in
-    c.magnitude.ensures ∙ ap nat_abs (to_z-of_z s.ranges.x) ∙ size-by s.args.mode s.args.x false t (search rules)
+    c.unsigned_abs.ensures.value ∙ ap nat_abs (to_z-of_z s.ranges.x) ∙ size-by s.args.mode s.args.x false t (search rules)

@@ -10,4 +10,4 @@ returns-in-Nothing c = sym (ap size_held c.in-Nothing.is)
 
 pub returns-in-Figure : goal.returns-in-Figure
 unfolding size_held
-returns-in-Figure c = c.magnitude.ensures ∙ ap unsigned_abs (back w64 c.in-Figure.x (search rules)) ∙ sym (ap size_held c.in-Figure.is)
+returns-in-Figure c = c.unsigned_abs.ensures.value ∙ ap unsigned_abs (back w64 c.in-Figure.x (search rules)) ∙ sym (ap size_held c.in-Figure.is)

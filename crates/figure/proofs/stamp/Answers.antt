@@ -7,7 +7,6 @@ use Rattle.figure.proofs.stamp.Goals as goal
 pub returns : goal.returns
 unfolding wrap
 returns c =
-    c.wrapping_add_u32.ensures.value
-    ∙ ap₂ (λ (x y : ℕ). (x + y) % 2 ^ 32)
-    (c.bits_32.ensures ∙ ap (of_z w32) (to_z-of_z c.ranges.value) ∙ sym (wrap-bits c.args.value c.ranges.value)) c.wrapping_mul.ensures
+    ap₂ (λ (x y : ℕ). (x + y) % 2 ^ 32)
+    (c.cast_unsigned.ensures ∙ ap (of_z w32) (to_z-of_z c.ranges.value) ∙ sym (wrap-bits c.args.value c.ranges.value)) c.wrapping_mul.ensures
     ∙ sym (wrap-+ c.args.value (pos (31 * c.args.held)))

@@ -10,6 +10,6 @@ use Rattle.figure.proofs.through_eaten.Goals as goal
 pub eaten-requires : goal.eaten-requires
 unfolding size_of mode_of
 eaten-requires c =
-    let v = widened c.widen.result c.args.value c.widen.type_inv c.widen.ensures c.ranges.value in
+    let v = widened c.from.result c.args.value c.from.type_inv c.from.ensures c.ranges.value in
     let h = c.read_held.ensures ∙ ap read_held (to_z-of_z c.ranges.held) in
     simp v (omega (arith, c.requires.room, ap size_held h))

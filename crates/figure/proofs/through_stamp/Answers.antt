@@ -14,6 +14,6 @@ pub returns : goal.returns
 unfolding passed mode_of
 returns c =
     let s = c in
-    back w64 c.from_u32.result c.from_u32.type_inv ∙ c.from_u32.ensures
+    back w64 c.from.result c.from.type_inv ∙ c.from.ensures
     ∙ ap pos (c.stamp.ensures
     ∙ ap₂ (λ (v : ℤ) (t : ℕ). wrap (v +ℤ pos (31 * t))) (to_z-of_z s.ranges.value) (ap up (c.to_u32.ensures ∙ to_z-of_z s.ranges.held) ∙ stamp-number s.args.held s.requires.stored))

@@ -1,5 +1,5 @@
 -- Each turn judges one value.
-use Prim.Native.Nat.{ℕ, ◌-◌}
+use Prim.Native.Nat.{ℕ}
 use Rattle.figure.specs.Mode.{mode_of}
 use Rattle.judge.specs.Laid.{value_in}
 use Rattle.judge.proofs.Loops.{AllSo}
@@ -7,6 +7,3 @@ use Rattle.judge.proofs.all_figures.Given as goal
 
 abbrev pub invariant-loop-i : goal.invariant-loop-i
 invariant-loop-i l = AllSo (λ (k : ℕ). (mode_of l.mode).is_figure (value_in l.b l.at l.step k)) l.n l.i l.all
-
-abbrev pub decreases-loop-i : goal.decreases-loop-i
-decreases-loop-i l = l.n - l.i

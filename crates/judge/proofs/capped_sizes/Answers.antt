@@ -1,6 +1,5 @@
 -- Each turn adds one size, cut to the cap.
-use mathlib.Core.Path.{ap, ◌∙◌}
-use Prim.Native.Nat.{min}
+use mathlib.Core.Path.{◌≡◌, ap, ◌∙◌}
 use native.Mathlib.Omega.{arith}
 use mir.Syntax.{w64}
 use Rattle.number.specs.Word.{back}
@@ -23,5 +22,5 @@ loop-i-preserved c =
     let s = c in
     let i = c.loop-i.i in
     let z = c.read_i64 in
-    sum-next _ _ i c.loop-i.invariant c.loop-i-test.true
-    (c.capped-sum.ensures ∙ ap (min s.args.cap) (c.size.ensures ∙ ap (size_of (mode_of s.args.mode)) (back w64 z.result z.type_inv ∙ z.ensures)))
+    let size : c.size.result ≡ size_of (mode_of s.args.mode) (value_in s.args.b.now s.args.at s.args.step i) = c.size.ensures ∙ ap (size_of (mode_of s.args.mode)) (back w64 z.result z.type_inv ∙ z.ensures) in
+    sum-next _ _ i c.loop-i.invariant c.loop-i-test.true (omega (arith, c.min-sum.ensures, size))

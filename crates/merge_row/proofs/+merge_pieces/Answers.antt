@@ -17,8 +17,8 @@ add_piece-requires-clause-summary_in t c = (one_piece c.requires.row c.if-count-
 
 pub returns-then-count-lt2 : goal.returns-then-count-lt2
 returns-then-count-lt2 t c =
-    subst (Kept c.args.mode _ c.add_piece.result) (sym (one_piece c.requires.row c.if-count-lt2.true).says)
-    (c.add_piece.ensures blank (c.none_merged.ensures _ _ _ _ _ c.requires.arrays64))
+    subst (Kept c.args.mode c.add_piece.new.self) (sym (one_piece c.requires.row c.if-count-lt2.true).says)
+    (c.add_piece.ensures blank c.clear.ensures)
 
 pub slice_bounds-front-end : goal.slice_bounds-front-end
 slice_bounds-front-end t c = simp length-take (omega (arith, inside c.requires.row c.if-count-lt2.false refl c.end_of-at.ensures))
@@ -29,8 +29,8 @@ slice_bounds-back-count t c = inside c.requires.row c.if-count-lt2.false refl c.
 pub slice_bounds-back-start : goal.slice_bounds-back-start
 slice_bounds-back-start t c = inside c.requires.row c.if-count-lt2.false refl c.end_of-at.ensures
 
-pub merge_pieces-a-requires : goal.merge_pieces-a-requires
-merge_pieces-a-requires t c = (
+pub merge_pieces-requires : goal.merge_pieces-requires
+merge_pieces-requires t c = (
   omega (arith, c.decreases),
   (left-row c.requires.row c.if-count-lt2.false refl c.end_of-at.ensures, (fewer-wait c.requires.room (omega arith), c.requires.arrays64)),
 )
@@ -42,38 +42,38 @@ pub returns-then-rest-lt2 : goal.returns-then-rest-lt2
 returns-then-rest-lt2 t c =
     let m = c.args.mode in
     let one = one_piece (rest-row c.requires.row c.if-count-lt2.false refl c.end_of-at.ensures) c.if-rest-lt2.true in
-    subst (Kept m _ c.add_piece-then-rest-lt2.result) (halves-added c.requires.row c.if-count-lt2.false refl c.end_of-at.ensures _ (sym one.says))
-    (c.add_piece-then-rest-lt2.ensures _ c.merge_pieces-a.ensures)
+    subst (Kept m c.add_piece-then-rest-lt2.new.self) (halves-added c.requires.row c.if-count-lt2.false refl c.end_of-at.ensures _ (sym one.says))
+    (c.add_piece-then-rest-lt2.ensures _ c.merge_pieces.ensures)
 
-pub merge_pieces-r-requires : goal.merge_pieces-r-requires
-merge_pieces-r-requires t c = (
+pub merge_pieces-requires-2 : goal.merge_pieces-requires-2
+merge_pieces-requires-2 t c = (
   omega (arith, c.decreases),
   (rest-row c.requires.row c.if-count-lt2.false refl c.end_of-at.ensures, (fewer-wait c.requires.room (omega arith), c.requires.arrays64)),
 )
 
-pub merge_pieces-a-requires-2 : goal.merge_pieces-a-requires-2
-merge_pieces-a-requires-2 t c =
+pub merge_pieces-requires-3 : goal.merge_pieces-requires-3
+merge_pieces-requires-3 t c =
     let n = c.put_aside-n.result in
     let r = rest-row c.requires.row c.if-count-lt2.false refl c.end_of-at.ensures in
-    let f = c.put_aside-n.ensures _ c.merge_pieces-r.ensures in
+    let f = c.put_aside-n.ensures _ c.merge_pieces-2.ensures in
     let l : n ≤ 1788 = omega (arith, f.count, ap length f.is, summary-fits r) in
     let e : length c.put_aside-n.new.aside ≡ length c.args.aside.now = search rules in (
       omega (arith, c.decreases),
       (
         left-row c.requires.row c.if-count-lt2.false refl c.end_of-at.ensures,
-        (rw (part_length n c.put_aside-n.new.aside, e) (others-wait c.requires.room (omega arith) l), c.merge_pieces-r.ensures.whole),
+        (rw (part_length n c.put_aside-n.new.aside, e) (others-wait c.requires.room (omega arith) l), c.merge_pieces-2.ensures.whole),
       ),
     )
 
 pub add_piece-requires-2-clause-summary_in : goal.add_piece-requires-2-clause-summary_in
 add_piece-requires-2-clause-summary_in t c =
-    let f = c.put_aside-n.ensures _ c.merge_pieces-r.ensures in
+    let f = c.put_aside-n.ensures _ c.merge_pieces-2.ensures in
     subst (IsSummaryIn c.args.mode) (sym (front-stays f _).is) (summary-is (rest-row c.requires.row c.if-count-lt2.false refl c.end_of-at.ensures))
 
 pub returns : goal.returns
 returns t c =
     let m = c.args.mode in
-    let f = c.put_aside-n.ensures _ c.merge_pieces-r.ensures in
+    let f = c.put_aside-n.ensures _ c.merge_pieces-2.ensures in
     let r = rest-row c.requires.row c.if-count-lt2.false refl c.end_of-at.ensures in
-    subst (Kept m _ c.add_piece-2.result) (halves-added c.requires.row c.if-count-lt2.false refl c.end_of-at.ensures _ (ap (decode m) (front-stays f _).is ∙ summary-says r))
-    (c.add_piece-2.ensures _ c.merge_pieces-a-2.ensures)
+    subst (Kept m c.add_piece-2.new.self) (halves-added c.requires.row c.if-count-lt2.false refl c.end_of-at.ensures _ (ap (decode m) (front-stays f _).is ∙ summary-says r))
+    (c.add_piece-2.ensures _ c.merge_pieces-3.ensures)

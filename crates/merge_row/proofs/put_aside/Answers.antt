@@ -10,9 +10,9 @@ use Rattle.merge_row.proofs.put_aside.Goals as goal
 pub returns-in_default : goal.returns-in_default
 returns-in_default c s k =
     let fits : length (encode c.args.mode s) ≤ length c.args.aside.now = omega (arith, encode-fits c.args.mode s k.accepted, c.requires.in_bounds) in
-    absurd (never-refused (encode c.args.mode s) c.args.aside.now (c.put_merged.ensures s k) fits c.in_default.is)
+    absurd (never-refused (encode c.args.mode s) c.args.aside.now (c.put.ensures s k) fits c.in_default.is)
 
 pub returns : goal.returns
 returns c s k =
     let fits : length (encode c.args.mode s) ≤ length c.args.aside.now = omega (arith, encode-fits c.args.mode s k.accepted, c.requires.in_bounds) in
-    front (encode c.args.mode s) c.args.aside.now (c.put_merged.ensures s k) fits c.in-Bytes.is
+    front (encode c.args.mode s) c.args.aside.now (c.put.ensures s k) fits c.in-Ok.is

@@ -1,12 +1,7 @@
--- The greatermax by a test.
-use Rattle.std.proofs.Common.{to_z-of_z}
-use Rattle.number.specs.Integer.{max_z}
+-- The greater of two numbers, by another test.
+use Rattle.std.proofs.Common.{arith, to_z-of_z}
+use Rattle.number.specs.IntegerLaws.{int_max-max_z}
 use Rattle.number.proofs.max.Goals as goal
 
-pub returns-then-a-b : goal.returns-then-a-b
-unfolding max_z
-returns-then-a-b c = cc (to_z-of_z c.ranges.a, to_z-of_z c.ranges.b)
-
-pub returns-else-a-b : goal.returns-else-a-b
-unfolding max_z
-returns-else-a-b c = cc (to_z-of_z c.ranges.a, to_z-of_z c.ranges.b)
+pub returns : goal.returns
+returns c = grind (arith, to_z-of_z, int_max-max_z)

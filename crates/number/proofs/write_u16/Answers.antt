@@ -1,6 +1,8 @@
--- `put_at-two` is the code's own pair of stores.
-use Rattle.number.specs.Laws.{put_at-two}
+-- The bytes that the part was overwritten with are those of the number.
+use Rattle.std.proofs.Common.{arith}
+use Rattle.std.specs.Int.{w16}
+use Rattle.number.specs.Laws.{put_at-part, to_le_bytes-is}
 use Rattle.number.proofs.write_u16.Goals as goal
 
 pub returns : goal.returns
-returns c = rw put_at-two
+returns c = put_at-part 2 _ _ c.args.x _ _ (omega arith) c.requires (cc (to_le_bytes-is w16 c.args.x))

@@ -1,6 +1,8 @@
--- Two fields side by side are one, `put_at-add`.
-use Rattle.number.specs.Laws.{put_at-add}
+-- The bytes that the part was overwritten with are those of the number.
+use Rattle.std.proofs.Common.{arith}
+use Rattle.std.specs.Int.{w32}
+use Rattle.number.specs.Laws.{put_at-part, to_le_bytes-is}
 use Rattle.number.proofs.write_u32.Goals as goal
 
 pub returns : goal.returns
-returns c = rw (put_at-add 2 2) (cc)
+returns c = put_at-part 4 _ _ c.args.x _ _ (omega arith) c.requires (cc (to_le_bytes-is w32 c.args.x))

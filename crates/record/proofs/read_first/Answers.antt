@@ -1,10 +1,5 @@
--- `record::read_first` meets its contract: in each arm the kind and the length are put into `by_shape`.
-use mathlib.Core.Path.{◌≡◌, sym, ◌∙◌}
-use mathlib.Core.Logic.{◌⊎◌, inl, inr}
-use mathlib.Core.List.{List}
-use Prim.Native.Nat.{ℕ}
-use native.Mathlib.Omega.{arith}
-use borrow.Author.Tests.{ne_eqb}
+-- In each arm the kind and the length are put into `by_shape`.
+use Rattle.std.proofs.Common.{◌≡◌, ◌⊎◌, inl, inr, List, ℕ, sym, ◌∙◌, arith, ne_eqb}
 use Rattle.gate.specs.Outcome.{Outcome}
 use Rattle.record.specs.Record.{open_of, whole, read_of, by_shape}
 use Rattle.record.specs.declared.Fields.{Fields}
@@ -20,35 +15,40 @@ unfolding by_shape
 by_length k n s ek (inl e) h = rw (ek, e) (rw e at h)
 by_length k n s ek (inr e) h = rw (ek, e) (rw e at h)
 
-pub returns-in-18 : goal.returns-in-18
+pub returns-in-1-eq18 : goal.returns-in-1-eq18
 unfolding read_of
-returns-in-18 c =
+returns-in-1-eq18 c =
     rw (← c.read_u16-kind.ensures, ← c.read_u16-length.ensures)
-    (by_length _ _ _ c.in-1.is c.in-18.is c.read_open.ensures)
+    (by_length _ _ _ c.in-1-eq18.is-0 c.in-1-eq18.is-1 c.read_open.ensures)
 
-pub returns-in-10 : goal.returns-in-10
+pub returns-in-1-eq10 : goal.returns-in-1-eq10
 unfolding read_of by_shape
-returns-in-10 c = rw (sym c.read_u16-kind.ensures ∙ c.in-1.is, sym c.read_u16-length.ensures ∙ c.in-10.is) c.read_short.ensures
+returns-in-1-eq10 c = rw (sym c.read_u16-kind.ensures ∙ c.in-1-eq10.is-0, sym c.read_u16-length.ensures ∙ c.in-1-eq10.is-1) c.read_short.ensures
 
-pub returns-in_default-length : goal.returns-in_default-length
+pub returns-in-2-eq6 : goal.returns-in-2-eq6
 unfolding read_of by_shape
-returns-in_default-length c =
+returns-in-2-eq6 c = rw (sym c.read_u16-kind.ensures ∙ c.in-2-eq6.is-0, sym c.read_u16-length.ensures ∙ c.in-2-eq6.is-1) c.read_close.ensures
+
+-- the lengths that suit no open record, ..
+pub returns-in_default : goal.returns-in_default
+unfolding read_of by_shape
+returns-in_default c =
     rw (
-      sym c.read_u16-kind.ensures ∙ c.in-1.is,
+      sym c.read_u16-kind.ensures ∙ c.in_default.is-0,
       ← c.read_u16-length.ensures,
       ne_eqb c.read_u16-length.result 18 (grind arith),
       ne_eqb c.read_u16-length.result 22 (grind arith),
       ne_eqb c.read_u16-length.result 10 (omega arith),
     )
 
-pub returns-in-6 : goal.returns-in-6
+-- .. no close, ..
+pub returns-in_default-2 : goal.returns-in_default-2
 unfolding read_of by_shape
-returns-in-6 c = rw (sym c.read_u16-kind.ensures ∙ c.in-2.is, sym c.read_u16-length.ensures ∙ c.in-6.is) c.read_close.ensures
+returns-in_default-2 c =
+    rw (sym c.read_u16-kind.ensures ∙ c.in_default.is-0, ← c.read_u16-length.ensures, ne_eqb c.read_u16-length.result 6 (omega arith))
 
-pub returns-in_default-length-2 : goal.returns-in_default-length-2
+-- .. and the other kinds
+pub returns-in_default-3 : goal.returns-in_default-3
 unfolding read_of by_shape
-returns-in_default-length-2 c = rw (sym c.read_u16-kind.ensures ∙ c.in-2.is, ← c.read_u16-length.ensures, ne_eqb c.read_u16-length.result 6 (omega arith))
-
-pub returns-in_default : goal.returns-in_default
-unfolding read_of by_shape
-returns-in_default c = rw (← c.read_u16-kind.ensures, ne_eqb c.read_u16-kind.result 1 (omega arith), ne_eqb c.read_u16-kind.result 2 (omega arith))
+returns-in_default-3 c =
+    rw (← c.read_u16-kind.ensures, ne_eqb c.read_u16-kind.result 1 (omega arith), ne_eqb c.read_u16-kind.result 2 (omega arith))

@@ -1,36 +1,30 @@
--- `row::end_of` meets its contract: each turn passes the first piece of what is left.
-use mathlib.Core.Path.{◌≡◌, sym, subst}
-use native.Mathlib.Omega.{arith}
-use Prim.Native.Nat.{suc, ◌+◌, ◌-◌, ◌≤◌}
-use lib.ListN.{length, drop}
+-- Each turn passes the first piece of what is left.
+use Rattle.std.proofs.Common.{◌≡◌, suc, ◌+◌, ◌-◌, sym, subst, drop, arith}
 use Rattle.row.specs.Laws.{first-inside, end_of, end_none, end_step}
 use Rattle.row.proofs.end_of.Goals as goal
 
 pub overflow_add-at : goal.overflow_add-at
 overflow_add-at c =
-    let at = c.loop-k.at in
-    let i : at + c.first_length-first.result ≤ length c.args.row.now = first-inside c.args.row.now at c.first_length-first.result c.first_length-first.ensures c.loop-k.invariant.1 in
+    let i = first-inside c.args.row.now c.loop.at c.first_length-at.result c.first_length-at.ensures c.loop.invariant.within in
     omega arith
 
-pub loop-k-preserved : goal.loop-k-preserved
-loop-k-preserved c =
+pub loop-preserved : goal.loop-preserved
+loop-preserved c =
     let row = c.args.row.now in
     let n = c.args.n in
-    let at = c.loop-k.at in
-    let k = c.loop-k.k in
-    let first = c.first_length-first.result in
-    let v = c.loop-k.invariant in
-    let e : n - k ≡ suc (n - (k + 1)) = omega arith in (
-      end_step row at first (n - (k + 1)) (end_of n row) c.first_length-first.ensures (subst (λ m. at + end_of m (drop at row) ≡ end_of n row) e v.0),
-      first-inside row at first c.first_length-first.ensures v.1,
-      omega arith,
-    )
+    let at = c.loop.at in
+    let k = c.loop.counter in
+    let first = c.first_length-at.result in
+    let e : n - k ≡ suc (n - (k + 1)) = omega arith in
+    record {
+      passed = end_step row at first (n - (k + 1)) (end_of n row) c.first_length-at.ensures (subst (λ m. at + end_of m (drop at row) ≡ end_of n row) e c.loop.invariant.passed);
+      within = first-inside row at first c.first_length-at.ensures c.loop.invariant.within;
+    }
 
 pub returns : goal.returns
 unfolding end_of
 returns c =
-    let v = c.loop-k.invariant in
-    let left = drop c.loop-k.at c.args.row.now in
-    let e : c.args.n - c.loop-k.k ≡ 0 = omega arith in
-    let z : end_of (c.args.n - c.loop-k.k) left ≡ 0 = subst (λ m. end_of m left ≡ 0) (sym e) (end_none left) in
-    omega (arith, v.0, z)
+    let left = drop c.loop.at c.args.row.now in
+    let e : c.args.n - c.loop.counter ≡ 0 = omega arith in
+    let z : end_of (c.args.n - c.loop.counter) left ≡ 0 = subst (λ m. end_of m left ≡ 0) (sym e) (end_none left) in
+    omega (arith, c.loop.invariant.passed, z)

@@ -1,6 +1,5 @@
 -- 18 and 12 are asked, then the page is printed.
-use mathlib.Core.Path.{refl}
-use native.Mathlib.Omega.{arith}
+use Rattle.std.proofs.Common.{refl, arith}
 use Rattle.sheet.specs.CallLaws.{short, put}
 use Rattle.sheet.proofs.put_page.Goals as goal
 

@@ -10,22 +10,21 @@ returns-then-table-gt38220 c =
     let p = refuses a.out.now (too_long a.table.now _ c.if-table-gt38220.true) in
     record { answer = p.0; buffer = p.1 }
 
-pub returns-then-refusal-ne0 : goal.returns-then-refusal-ne0
-returns-then-refusal-ne0 c =
+pub returns-in-Some : goal.returns-in-Some
+returns-in-Some c =
     let a = c.args in
-    let told = settled a.table.now c.if-table-gt38220.false c.all_could_hold.ensures c.all_nested.ensures c.first_no-refusal.ensures in
-    let p = refuses a.out.now (told.no c.if-refusal-ne0.true _) in
+    let told = settled a.table.now c.if-table-gt38220.false c.all_could_hold.ensures c.all_nested.ensures c.first_no.ensures in
+    let p = refuses a.out.now (told.no _ c.in-Some.is _) in
     record { answer = p.0; buffer = p.1 }
 
 pub put_log-requires : goal.put_log-requires
 put_log-requires c =
     let a = c.args in
-    let told = settled a.table.now c.if-table-gt38220.false c.all_could_hold.ensures c.all_nested.ensures c.first_no-refusal.ensures in
-    told.yes c.if-refusal-ne0.false
+    (settled a.table.now c.if-table-gt38220.false c.all_could_hold.ensures c.all_nested.ensures c.first_no.ensures).yes c.in_default.is
 
 pub returns : goal.returns
 returns c =
     let a = c.args in
-    let told = settled a.table.now c.if-table-gt38220.false c.all_could_hold.ensures c.all_nested.ensures c.first_no-refusal.ensures in
-    let p = comes-to (taken_is a.table.now _ (told.yes c.if-refusal-ne0.false)) c.put_log.ensures in
+    let told = settled a.table.now c.if-table-gt38220.false c.all_could_hold.ensures c.all_nested.ensures c.first_no.ensures in
+    let p = comes-to (taken_is a.table.now _ (told.yes c.in_default.is)) c.put_log.ensures in
     record { answer = p.0; buffer = p.1 }

@@ -17,24 +17,24 @@ returns-in_default c xs i =
     absurd (second.not-refused l.invariant.second (some_left l.invariant c.loop-s-test.true) (sym c.in_default.ensures))
 
 pub note-s-requires : goal.note-s-requires
-note-s-requires c = can-note c.loop-s.invariant c.loop-s-test.true (sym c.in-Record.ensures)
+note-s-requires c = can-note c.loop-s.invariant c.loop-s-test.true (sym c.in-Some.ensures)
 
 pub slice_bounds-rest-count : goal.slice_bounds-rest-count
-slice_bounds-rest-count c = (sound _ _ (sym c.in-Record.ensures)).inside
+slice_bounds-rest-count c = (sound _ _ (sym c.in-Some.ensures)).inside
 
 pub slice_bounds-rest-start : goal.slice_bounds-rest-start
-slice_bounds-rest-start c = (sound _ _ (sym c.in-Record.ensures)).inside
+slice_bounds-rest-start c = (sound _ _ (sym c.in-Some.ensures)).inside
 
 pub loop-s-smaller : goal.loop-s-smaller
 loop-s-smaller c =
     let l = c.loop-s in
-    let f = c.in-Record.f in
-    rw (part-rest f.length l.rest.now) (omega (arith, length-drop f.length l.rest.now, sound _ _ (sym c.in-Record.ensures)))
+    let f = c.in-Some.f in
+    rw (part-rest f.length l.rest.now) (omega (arith, length-drop f.length l.rest.now, sound _ _ (sym c.in-Some.ensures)))
 
 pub loop-s-preserved : goal.loop-s-preserved
 loop-s-preserved c =
     let l = c.loop-s in
-    walking-next l.invariant c.loop-s-test.true (sym c.in-Record.ensures) c.note-s.ensures
+    walking-next l.invariant c.loop-s-test.true (sym c.in-Some.ensures) c.note-s.ensures
 
 pub overflow_sub-deepest : goal.overflow_sub-deepest
 overflow_sub-deepest c = (found c.loop-s.invariant c.loop-s-test.false).some

@@ -4,6 +4,5 @@ use Rattle.emit.proofs.bytes.write_spoilt.Goals as goal
 
 pub returns : goal.returns
 returns c =
-    let a = c in
-    spoilt-written a.args.mode a.args.fault a.args.start a.args.end a.args.opened a.args.out.now c.put_front.new.out _ a.requires
-    c.put_front.ensures c.put_levels.ensures
+    let a = c.args in
+    spoilt-written a.mode a.s a.out.now c.put_front.new.out _ c.number.result c.number.ensures c.requires c.put_front.ensures c.put_levels.ensures

@@ -42,10 +42,9 @@ returns c =
     let q = ap up (c.to_u32-q.ensures ∙ f.second_back) ∙ stamp-number c.args.outer.second (stamp-second c.args.outer c.requires.outer-run) in
     let n = ap up (c.to_u32-n.ensures ∙ g.first_back) ∙ stamp-number c.args.inner.first (stamp-first c.args.inner c.requires.inner-run) in
     let p = ap up (c.to_u32-p.ensures ∙ g.second_back) ∙ stamp-number c.args.inner.second (stamp-second c.args.inner c.requires.inner-run) in
-    let a = back w64 c.from_u32-first.result c.from_u32-first.type_inv ∙ c.from_u32-first.ensures
+    let a = back w64 c.from-first.result c.from-first.type_inv ∙ c.from-first.ensures
     ∙ ap pos (c.wrapping_mul.ensures ∙ ap₂ (λ (x y : ℕ). (x * y) % 2 ^ 32) m n) in
-    let b = back w64 c.from_u32-second.result c.from_u32-second.type_inv ∙ c.from_u32-second.ensures
-    ∙ ap pos (c.wrapping_add_u32.ensures.value
-    ∙ ap₂ (λ (x y : ℕ). (x + y) % 2 ^ 32) (c.wrapping_mul-2.ensures ∙ ap₂ (λ (x y : ℕ). (x * y) % 2 ^ 32) m p) q
+    let b = back w64 c.from-second.result c.from-second.type_inv ∙ c.from-second.ensures
+    ∙ ap pos (ap₂ (λ (x y : ℕ). (x + y) % 2 ^ 32) (c.wrapping_mul-2.ensures ∙ ap₂ (λ (x y : ℕ). (x * y) % 2 ^ 32) m p) q
     ∙ mod-add-mod (up c.args.outer.first % 2 ^ 32 * (up c.args.inner.second % 2 ^ 32)) (2 ^ 32) (up c.args.outer.second % 2 ^ 32)) in
     λ i. record { first = a i; second = b i; third = pos 0; fourth = pos 0 }

@@ -26,7 +26,7 @@ sum_held-sides-requires c =
 
 pub eaten-z-requires : goal.eaten-z-requires
 eaten-z-requires c =
-    let v = widened c.widen-v.result c.args.value c.widen-v.type_inv c.widen-v.ensures c.ranges.value in
+    let v = widened c.from-v.result c.args.value c.from-v.type_inv c.from-v.ensures c.ranges.value in
     let b = c.read_held.ensures ∙ ap read_held (to_z-of_z c.ranges.before) in
     let a = c.read_held-2.ensures ∙ ap read_held (to_z-of_z c.ranges.behind) in
     let s = c.sum_held-sides.ensures ∙ ap₂ (lift ◌+ℤ◌) b a in
@@ -34,7 +34,7 @@ eaten-z-requires c =
 
 pub sum-a-requires : goal.sum-a-requires
 sum-a-requires c =
-    let v = widened c.widen-v.result c.args.value c.widen-v.type_inv c.widen-v.ensures c.ranges.value in
+    let v = widened c.from-v.result c.args.value c.from-v.type_inv c.from-v.ensures c.ranges.value in
     let b = c.read_held.ensures ∙ ap read_held (to_z-of_z c.ranges.before) in
     let a = c.read_held-2.ensures ∙ ap read_held (to_z-of_z c.ranges.behind) in
     let s = c.sum_held-sides.ensures ∙ ap₂ (lift ◌+ℤ◌) b a in
@@ -45,9 +45,9 @@ sum-a-requires c =
 pub returns : goal.returns
 unfolding level_run mode_of
 returns c =
-    let v = widened c.widen-v.result c.args.value c.widen-v.type_inv c.widen-v.ensures c.ranges.value in
-    let low = widened c.widen-low.result c.args.floor c.widen-low.type_inv c.widen-low.ensures c.ranges.floor in
-    let high = widened c.widen-high.result c.args.ceiling c.widen-high.type_inv c.widen-high.ensures c.ranges.ceiling in
+    let v = widened c.from-v.result c.args.value c.from-v.type_inv c.from-v.ensures c.ranges.value in
+    let low = widened c.from-low.result c.args.floor c.from-low.type_inv c.from-low.ensures c.ranges.floor in
+    let high = widened c.from-high.result c.args.ceiling c.from-high.type_inv c.from-high.ensures c.ranges.ceiling in
     let b = c.read_held.ensures ∙ ap read_held (to_z-of_z c.ranges.before) in
     let a = c.read_held-2.ensures ∙ ap read_held (to_z-of_z c.ranges.behind) in
     let s = c.sum_held-sides.ensures ∙ ap₂ (lift ◌+ℤ◌) b a in

@@ -25,14 +25,14 @@ room v b a h l e = omega (arith, l.room, ap size_held e, size-lift max_z max-sum
 
 pub line-z-requires : goal.line-z-requires
 line-z-requires c =
-    let v = widened c.widen-v.result c.args.value c.widen-v.type_inv c.widen-v.ensures c.ranges.value in
+    let v = widened c.from-v.result c.args.value c.from-v.type_inv c.from-v.ensures c.ranges.value in
     let o = other-is c.args.value c.args.before c.args.behind _ c.read_held-other.result c.requires c.read_held-other.ensures
     (back w64 c.combine_heaviest.result c.combine_heaviest.type_inv ∙ (simp (to_z-of_z c.ranges.before, to_z-of_z c.ranges.behind) at c.combine_heaviest.ensures)) in
     simp v (omega (arith, room _ _ _ _ c.requires o))
 
 pub moved_by-requires : goal.moved_by-requires
 moved_by-requires c =
-    let v = widened c.widen-v.result c.args.value c.widen-v.type_inv c.widen-v.ensures c.ranges.value in
+    let v = widened c.from-v.result c.args.value c.from-v.type_inv c.from-v.ensures c.ranges.value in
     let o = other-is c.args.value c.args.before c.args.behind _ c.read_held-other.result c.requires c.read_held-other.ensures
     (back w64 c.combine_heaviest.result c.combine_heaviest.type_inv ∙ (simp (to_z-of_z c.ranges.before, to_z-of_z c.ranges.behind) at c.combine_heaviest.ensures)) in
     simp v (omega (arith, room _ _ _ _ c.requires o))
@@ -40,7 +40,7 @@ moved_by-requires c =
 pub returns : goal.returns
 unfolding level_run mode_of
 returns c =
-    let v = widened c.widen-v.result c.args.value c.widen-v.type_inv c.widen-v.ensures c.ranges.value in
+    let v = widened c.from-v.result c.args.value c.from-v.type_inv c.from-v.ensures c.ranges.value in
     let o = other-is c.args.value c.args.before c.args.behind _ c.read_held-other.result c.requires c.read_held-other.ensures
     (back w64 c.combine_heaviest.result c.combine_heaviest.type_inv ∙ (simp (to_z-of_z c.ranges.before, to_z-of_z c.ranges.behind) at c.combine_heaviest.ensures)) in
     let z = back w64 c.line-z.result c.line-z.type_inv ∙ (simp v at c.line-z.ensures) ∙ ap (line_of c.args.value) o in

@@ -13,7 +13,7 @@ sum-requires c = simp (to_z-of_z c.ranges.before, to_z-of_z c.ranges.behind) (om
 pub sum-a-requires : goal.sum-a-requires
 unfolding size_of mode_of
 sum-a-requires c =
-    let v = widened c.widen.result c.args.value c.widen.type_inv c.widen.ensures c.ranges.value in
+    let v = widened c.from.result c.args.value c.from.type_inv c.from.ensures c.ranges.value in
     let s : to_z w64 (of_z w64 c.sum.result) ≡ c.args.before +ℤ c.args.behind =
     back w64 c.sum.result c.sum.type_inv ∙ (simp (to_z-of_z c.ranges.before, to_z-of_z c.ranges.behind) at c.sum.ensures) in
     simp (v, s) (omega (arith, c.requires.room, abs-+ c.args.before c.args.behind))
@@ -21,7 +21,7 @@ sum-a-requires c =
 pub returns : goal.returns
 unfolding level_run mode_of
 returns c =
-    let v = widened c.widen.result c.args.value c.widen.type_inv c.widen.ensures c.ranges.value in
+    let v = widened c.from.result c.args.value c.from.type_inv c.from.ensures c.ranges.value in
     let s : to_z w64 (of_z w64 c.sum.result) ≡ c.args.before +ℤ c.args.behind =
     back w64 c.sum.result c.sum.type_inv ∙ (simp (to_z-of_z c.ranges.before, to_z-of_z c.ranges.behind) at c.sum.ensures) in
     let a = back w64 c.sum-a.result c.sum-a.type_inv ∙ (simp (v, s) at c.sum-a.ensures) in

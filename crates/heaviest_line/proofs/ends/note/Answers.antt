@@ -9,14 +9,14 @@ use Rattle.number.specs.Word.{back}
 use Rattle.heaviest_line.specs.SearchLaws.{note-open, note-close}
 use Rattle.heaviest_line.proofs.ends.note.Goals as goal
 
-pub returns-then-f-eq1 : goal.returns-then-f-eq1
-returns-then-f-eq1 c xs k i l e =
+pub returns-in-Open : goal.returns-in-Open
+returns-in-Open c xs k i l e =
     let a = c in
     let h : mag a.args.f.value < 2 ^ 31 = search rules in
-    note-open a.args.f a.requires xs k i l e c.if-f-eq1.true (back w32 a.args.f.value h) c.after_open.ensures
+    note-open a.args.f a.requires xs k i l e c.in-Open.is (back w32 a.args.f.value h) c.after_open.ensures
 
-pub returns : goal.returns
-returns c xs k i l e =
+pub returns-in-Close : goal.returns-in-Close
+returns-in-Close c xs k i l e =
     let a = c in
     let z = get_or a.args.sums.now (a.args.f.depth + 1) (pos 0) in
-    note-close a.args.f a.requires xs k i l e c.if-f-eq1.false (back w64 z c.after_close-arg-1.given) c.after_close.ensures
+    note-close a.args.f a.requires xs k i l e c.in-Close.is (back w64 z c.after_close-arg-1.given) c.after_close.ensures

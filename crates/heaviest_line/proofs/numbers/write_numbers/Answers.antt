@@ -17,21 +17,21 @@ returns-in_default c xs i =
     absurd (second.not-refused l.invariant.second (some_left l.invariant c.loop-number-test.true) (sym c.in_default.ensures))
 
 pub slice_bounds-rest-count : goal.slice_bounds-rest-count
-slice_bounds-rest-count c = (sound _ _ (sym c.in-Record.ensures)).inside
+slice_bounds-rest-count c = (sound _ _ (sym c.in-Some.ensures)).inside
 
 pub slice_bounds-rest-start : goal.slice_bounds-rest-start
-slice_bounds-rest-start c = (sound _ _ (sym c.in-Record.ensures)).inside
+slice_bounds-rest-start c = (sound _ _ (sym c.in-Some.ensures)).inside
 
 pub loop-number-smaller : goal.loop-number-smaller
 loop-number-smaller c =
     let l = c.loop-number in
-    let f = c.in-Record.f in
-    rw (part-rest f.length l.rest.now) (omega (arith, length-drop f.length l.rest.now, sound _ _ (sym c.in-Record.ensures)))
+    let f = c.in-Some.f in
+    rw (part-rest f.length l.rest.now) (omega (arith, length-drop f.length l.rest.now, sound _ _ (sym c.in-Some.ensures)))
 
 pub loop-number-preserved : goal.loop-number-preserved
 loop-number-preserved c =
     let l = c.loop-number in
-    numbering-next l.invariant c.loop-number-test.true (sym c.in-Record.ensures) c.write_number-number.ensures
+    numbering-next l.invariant c.loop-number-test.true (sym c.in-Some.ensures) c.write_number-number.ensures
 
 pub returns : goal.returns
 returns c xs i = let l = c.loop-number in numbered l.invariant c.loop-number-test.false xs i

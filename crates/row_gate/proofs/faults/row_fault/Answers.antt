@@ -1,14 +1,20 @@
 -- `row_gate::faults::row_fault` meets its contract: one piece more is passed at each turn.
-use mathlib.Core.Path.{◌∙◌}
-use native.Mathlib.Omega.{arith}
-use Rattle.row_gate.specs.ToldLaws.{span-start, span-next, span-end}
+use Rattle.std.proofs.Common.{subst, ◌∙◌, arith}
+use Rattle.judge.specs.Numbers.{AllInBounds}
+use Rattle.row_gate.specs.ToldLaws.{span-start, span-blank, span-next, span-end}
 use Rattle.row_gate.proofs.faults.row_fault.Goals as goal
 
-pub loop-k-init : goal.loop-k-init
-loop-k-init c = span-start _ _ _ _ _
+pub loop-note-init : goal.loop-note-init
+loop-note-init c = span-start _
 
-pub loop-k-preserved : goal.loop-k-preserved
-loop-k-preserved c = span-next _ _ _ _ _ c.loop-k.s c.pass-s.result c.loop-k.k c.requires.few c.loop-k.invariant c.loop-k-test.true c.pass-s.ensures
+pub loop-note-preserved-in_default : goal.loop-note-preserved-in_default
+loop-note-preserved-in_default c = span-blank _ _ _ c.loop-note.invariant c.loop-note-test.true c.in_default.is
+
+pub pass-requires : goal.pass-requires
+pass-requires c = omega (arith, c.loop-note.invariant.light, (subst AllInBounds c.in-Some.is (c.requires.noted.each c.loop-note.note-index)).opened-few)
+
+pub loop-note-preserved : goal.loop-note-preserved
+loop-note-preserved c = span-next _ _ _ c.loop-note.invariant _ _ c.requires.noted c.loop-note-test.true c.in-Some.is c.pass.ensures
 
 pub returns : goal.returns
-returns c = c.lowest.ensures ∙ span-end _ _ _ _ _ _ _ c.loop-k.invariant (omega arith)
+returns c = c.lowest.ensures ∙ span-end _ _ _ c.loop-note.invariant (omega arith)

@@ -1,10 +1,6 @@
 -- `row_gate::pieces::judge_pieces` meets its contract: one piece more is judged and noted at each turn.
-use Prim.Native.Nat.{◌-◌}
 use Rattle.row_gate.specs.NotesLaws.{Judging}
 use Rattle.row_gate.proofs.pieces.judge_pieces.Given as goal
 
 abbrev pub invariant-loop-k : goal.invariant-loop-k
-invariant-loop-k l = Judging l.row l.count l.states l.starts l.peaks l.ends l.opened l.rest l.k l.mode l.same
-
-abbrev pub decreases-loop-k : goal.decreases-loop-k
-decreases-loop-k l = l.count - l.k
+invariant-loop-k l = Judging l.row l.notes l.rest l.k l.mode l.same

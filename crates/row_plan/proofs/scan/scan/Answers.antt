@@ -1,20 +1,26 @@
 -- `row_plan::scan::scan` meets its contract: the lines of the chunks passed are kept.
-use Rattle.row_plan.specs.Arrays.{levels_in}
-use Rattle.row_plan.specs.ScanLaws.{scan-start, scan-room, scan-next}
+use Rattle.std.proofs.Common.{arith}
+use Rattle.row_plan.specs.Arrays.{levels_at}
+use Rattle.row_plan.specs.ScanLaws.{scan-start, scan-room, scan-next, scan-end}
 use Rattle.row_plan.proofs.scan.scan.Goals as goal
 
 pub loop-j-init : goal.loop-j-init
-loop-j-init c = scan-start _ _ _ _ _ _ c.requires.sized
+loop-j-init c = scan-start (levels_at c.args.notes.now) c.args.lines.now
 
-pub lines_to-n-requires-clause-j_bound_2 : goal.lines_to-n-requires-clause-j_bound_2
-lines_to-n-requires-clause-j_bound_2 c =
+pub lines_to-n-requires-clause-n_bound : goal.lines_to-n-requires-clause-n_bound
+lines_to-n-requires-clause-n_bound c =
     let a = c.args in
     let l = c.loop-j in
-    scan-room (levels_in a.starts.now a.peaks.now a.ends.now) a.count l.is l.js l.lows l.highs l.n l.j l.invariant c.loop-j-test.true c.requires.count_len_bound
+    scan-room (levels_at a.notes.now) a.count l.lines l.n l.j l.invariant (omega arith) c.requires.count_len_bound
 
 pub loop-j-preserved : goal.loop-j-preserved
 loop-j-preserved c =
     let a = c.args in
     let l = c.loop-j in
-    let k = c.lines_to-n in
-    scan-next (levels_in a.starts.now a.peaks.now a.ends.now) a.count l.is l.js l.lows l.highs l.n l.j l.invariant c.loop-j-test.true k.result k.new.is k.new.js k.new.lows k.new.highs k.ensures
+    scan-next (levels_at a.notes.now) a.count l.lines l.n l.j l.invariant c.lines_to-n.result c.lines_to-n.new.lines c.lines_to-n.ensures
+
+pub returns : goal.returns
+returns c =
+    let a = c.args in
+    let l = c.loop-j in
+    scan-end (levels_at a.notes.now) a.count l.lines l.n l.j l.invariant a.lines.now (omega arith)

@@ -6,6 +6,3 @@ use Rattle.table.proofs.records.write_closes.Given as goal
 
 abbrev pub invariant-loop-level : goal.invariant-loop-level
 invariant-loop-level l = Writing (log_bytes (closes_to l.from l.to)) l.start l.initial.out (log_bytes (closes_to l.level l.to)) l.at l.out
-
-abbrev pub decreases-loop-level : goal.decreases-loop-level
-decreases-loop-level l = l.level

@@ -2,33 +2,35 @@
 use mathlib.Core.Path.{◌∙◌}
 use native.Mathlib.Omega.{arith}
 use mir.Syntax.{w32}
-use Rattle.number.specs.Laws.{part-rest}
 use Rattle.number.specs.Word.{back}
-use Rattle.table.specs.LoopLaws.{low, closes-fit, open-fits, line-written, last_fit, log-written}
+use Rattle.table.specs.LoopLaws.{cut, low, closes-fit, open-fits, line-written, last_fit, log-written}
 use Rattle.table.proofs.records.write_records.Goals as goal
 
 pub write_closes-at-requires : goal.write_closes-at-requires
-write_closes-at-requires c = closes-fit c.loop-rest.invariant c.loop-rest-test.true c.read_u16-depth.ensures
+write_closes-at-requires c = let i = c.loop-line.invariant in let e = c.in-Some.ensures.steps in closes-fit i.log (cut e.1.0 e.1.1 i.size) c.read_u16-depth.ensures
 
 pub write_open-requires : goal.write_open-requires
-write_open-requires c = open-fits c.loop-rest.invariant c.loop-rest-test.true c.read_u16-depth.ensures c.write_closes-at.ensures
+write_open-requires c = let i = c.loop-line.invariant in let e = c.in-Some.ensures.steps in open-fits i.log (cut e.1.0 e.1.1 i.size) c.read_u16-depth.ensures c.write_closes-at.ensures
 
 pub overflow_add-at : goal.overflow_add-at
-overflow_add-at c = record { fits = omega (arith, open-fits c.loop-rest.invariant c.loop-rest-test.true c.read_u16-depth.ensures c.write_closes-at.ensures) }
+overflow_add-at c = let i = c.loop-line.invariant in let e = c.in-Some.ensures.steps in record { fits = omega (arith, open-fits i.log (cut e.1.0 e.1.1 i.size) c.read_u16-depth.ensures c.write_closes-at.ensures) }
 
 pub overflow_add-level : goal.overflow_add-level
-overflow_add-level c = record { fits = omega (arith, low c.loop-rest.invariant c.loop-rest-test.true, c.read_u16-depth.ensures) }
+overflow_add-level c = let i = c.loop-line.invariant in let e = c.in-Some.ensures.steps in record { fits = omega (arith, low i.log (cut e.1.0 e.1.1 i.size), c.read_u16-depth.ensures) }
 
-pub loop-rest-preserved : goal.loop-rest-preserved
-loop-rest-preserved c =
-    let l = c.loop-rest in
-    rw (part-rest 14 l.rest.now)
-    (line-written l.invariant c.loop-rest-test.true c.read_u16-depth.ensures c.write_closes-at.ensures
-    (back w32 _ c.read_i32.type_inv ∙ c.read_i32.ensures) (back w32 _ c.read_i32-in-loop-rest.type_inv ∙ c.read_i32-in-loop-rest.ensures) (back w32 _ c.read_i32-in-loop-rest-2.type_inv ∙ c.read_i32-in-loop-rest-2.ensures)
-    c.write_open.ensures)
+pub loop-line-preserved : goal.loop-line-preserved
+loop-line-preserved c =
+    let i = c.loop-line.invariant in
+    let e = c.in-Some.ensures.steps in
+    record {
+      log = line-written i.log (cut e.1.0 e.1.1 i.size) c.read_u16-depth.ensures c.write_closes-at.ensures
+          (back w32 _ c.read_i32.type_inv ∙ c.read_i32.ensures) (back w32 _ c.read_i32-in-loop-line.type_inv ∙ c.read_i32-in-loop-line.ensures) (back w32 _ c.read_i32-in-loop-line-2.type_inv ∙ c.read_i32-in-loop-line-2.ensures)
+          c.write_open.ensures;
+      size = e.0 ∙ i.size;
+    }
 
 pub write_closes-requires : goal.write_closes-requires
-write_closes-requires c = last_fit c.loop-rest.invariant c.loop-rest-test.false
+write_closes-requires c = let i = c.loop-line.invariant in let e = c.in-None.ensures.steps in last_fit i.log (omega (arith, e.1.0, i.size))
 
 pub returns : goal.returns
-returns c = (log-written c.loop-rest.invariant c.loop-rest-test.false c.write_closes.ensures).buffer
+returns c = let i = c.loop-line.invariant in let e = c.in-None.ensures.steps in (log-written i.log (omega (arith, e.1.0, i.size)) c.write_closes.ensures).buffer

@@ -1,6 +1,0 @@
-use Rattle.farms.specs.SlotLaws.{store-next}
-use Rattle.farms.proofs.store.Goals as goal
-
-pub loop-i-preserved : goal.loop-i-preserved
-loop-i-preserved c =
-    store-next c.loop-i.invariant c.requires c.loop-i-test.true
