@@ -55,6 +55,18 @@ ARMS = {
     "plan::plan": WRITTEN.format("plan::plan(&input, &mut out)"),
     "runs::runs": WRITTEN.format("runs::runs(&input, &mut out)"),
     "work::work": 'told(work::work(&input), |t| format!("{} {} {}", t.figure, t.joins, t.levels))',
+    "row_gate::open_row": """{
+            let mut notes = [None; 64];
+            let found = told(row_gate::open_row(&input, &mut notes), |row| format!("{} pieces", row.count));
+            format!("{found}; the last note {:?}", notes[63])
+        }""",
+    "run_level::place_of": """{
+            let (mut notes, mut ats) = ([None; 64], [0; 64]);
+            let found = row_gate::open_row(&input, &mut notes).ok().unwrap();
+            run_level::begin_pieces(&input, found.count, &mut ats);
+            let hills = run_level::hills::Hills { row: &input, count: found.count, mode: found.mode, ats: &ats, notes: &notes };
+            format!("{:?}", run_level::hills::place_of(hills, number))
+        }""",
     "whole_log::ask": 'told(whole_log::ask(&input), |n| format!("{n} opened"))',
     "table::write_log": WRITTEN.format("table::write_log(&input, &mut out)"),
     "table::read_table": WRITTEN.format("table::read_table(&input, &mut out)"),

@@ -1,13 +1,15 @@
 -- Laws that the proofs of the code use. Assumes nothing.
-use Rattle.std.specs.Prelude.{◌≡◌, ℕ, zero, suc, ◌+◌, ◌-◌, ◌*◌, ◌%◌, ◌^◌, ◌<◌, ◌≤◌, Bool, true, false, List, length, ℤ, pos, ◌≤ℤ◌, ◌<ℤ◌, unsigned_abs, refl}
+use Rattle.std.specs.Prelude.{◌≡◌, ℕ, zero, suc, ◌+◌, ◌-◌, ◌*◌, ◌%◌, ◌^◌, ◌<◌, ◌≤◌, Bool, true, false, List, length, ℤ, pos, ◌-ℤ◌, neg_ℤ, ◌≤ℤ◌, ◌<ℤ◌, unsigned_abs, refl}
 use Rattle.std.proofs.Common.{sym, subst, ◌∙◌, arith, to_z}
 use Rattle.std.proofs.Math.Path.{ap}
 use Rattle.std.proofs.Math.ListN.{get_or-eq_default}
 use Rattle.std.specs.Int.{w64}
 use Rattle.gate.specs.Outcome.{granted, question}
 use Rattle.number.specs.Bytes.{le_at, i64_at}
+use Rattle.number.specs.IntegerLaws.{canon, neg-law, abs-law, abs-+}
 use Rattle.number.specs.Modulo.{times_mod}
 use Rattle.modes.specs.FourModes.{read_stamp, is_stamp}
+use Rattle.modes.specs.Run.{read_stamp_run}
 use Rattle.modes.proofs.StoreLaws.{is-stamp, stored-range}
 use Rattle.modes.specs.declared.Run.{Run}
 use Rattle.summary.specs.Judge.{mode_at}
@@ -18,7 +20,7 @@ use Rattle.outcome.proofs.RunLaws.{length-least}
 use Rattle.run_back.specs.Judge.{run_at, RunNumbers, IsRunBytes}
 use Rattle.run_back.specs.Decide.{numbers_fit, is_run_bytes}
 use Rattle.run_back.specs.Inverse.{inverse}
-use Rattle.run_back.specs.Backwards.{inner_of}
+use Rattle.run_back.specs.Backwards.{back_stamp, inner_of}
 use Rattle.run_back.proofs.DecideLaws.{decide-run}
 use Rattle.run_back.proofs.ForwardLaws.{stamp-num}
 
@@ -67,12 +69,21 @@ module _ (b : List ℕ) where
 
 -- ---- 17, and the way back
 
--- back through a stamp's run, from the numbers of its stamps, as the machine wraps
-pub back-stamp-is : (k : Run) (y : ℤ) {i m q n : ℕ} → is_stamp y ≡ true → (read_stamp k.first).num ≡ m → (read_stamp k.second).num ≡ q → (read_stamp y).num ≡ n → i ≡ inverse m →
-    granted (pos ((i * ((n + (2 ^ 32 - q)) % 2 ^ 32)) % 2 ^ 32)) ≡ question 17 (is_stamp y) (granted (inner_of 4 k y))
-unfolding inner_of
-back-stamp-is k y {i} {m} {q} {n} e times plus outer h =
-    rw (e, h, ← times, ← plus, ← outer) (ap (λ r. granted (pos r)) (times_mod (inverse (read_stamp k.first).num) ((read_stamp y).num + (2 ^ 32 - (read_stamp k.second).num)) (2 ^ 32)))
+pub abs_diff : (y a : ℤ) → unsigned_abs (y -ℤ a) ≤ unsigned_abs y + unsigned_abs a
+abs_diff y a = omega (arith, abs-+ y (neg_ℤ a), neg-law a, abs-law (neg_ℤ a), abs-law a, canon a, canon (neg_ℤ a))
+
+module _ (k : Run) (y : ℤ) where
+  pub back-stamp-is : (r : ℤ) (n : ℕ) → is_stamp y ≡ true → r ≡ pos n → n ≡ (back_stamp (read_stamp_run k) (read_stamp y)).num → granted r ≡ question 17 (is_stamp y) (granted (inner_of 4 k y))
+  unfolding inner_of
+  back-stamp-is r n e p h = rw e (ap granted (p ∙ ap pos h))
+
+  -- the same from the numbers of the stamps, as the machine wraps
+  pub back-stamp-wrapped : {i m q n : ℕ} → is_stamp y ≡ true → (read_stamp k.first).num ≡ m → (read_stamp k.second).num ≡ q → (read_stamp y).num ≡ n → i ≡ inverse m →
+      granted (pos ((i * ((n + (2 ^ 32 - q)) % 2 ^ 32)) % 2 ^ 32)) ≡ question 17 (is_stamp y) (granted (inner_of 4 k y))
+  back-stamp-wrapped {i} {m} {q} {n} e times plus outer h =
+      let w : ℕ = (i * ((n + (2 ^ 32 - q)) % 2 ^ 32)) % 2 ^ 32 in
+      back-stamp-is (pos w) w e refl
+      (rw (h, ← times, ← plus, ← outer) (times_mod (inverse (read_stamp k.first).num) ((read_stamp y).num + (2 ^ 32 - (read_stamp k.second).num)) (2 ^ 32)))
 
 pub stamp_range : (z : ℤ) → is_stamp z ≡ true → (pos 0 ≤ℤ z) × (z <ℤ pos 4294967296)
 stamp_range z e = stored-range z (is-stamp z e)

@@ -1,7 +1,7 @@
 -- One turn of each loading loop, and the steps of a load. Assumes nothing.
 use Rattle.std.specs.Prelude.{◌≡◌, List, [], ◌∷◌, ℤ, set}
 use Rattle.std.proofs.Math.Path.{refl, subst}
-use Rattle.std.proofs.Common.{sym, ◌∙◌, zero-add, suc-add}
+use Rattle.std.proofs.Common.{sym, ◌∙◌, add-zero, zero-add, suc-add}
 use Prim.Native.Nat.{ℕ, zero, suc, ◌+◌, ◌-◌, ◌^◌, ◌≤◌, ◌<◌}
 use Rattle.std.proofs.Math.Numerals.{add-one}
 use native.Mathlib.Omega.{arith}
@@ -11,6 +11,7 @@ use Rattle.figure.specs.Stored.{size_of, none, combined, Combines}
 use Rattle.hill.specs.Summary.{Hill, hill}
 use Rattle.hill.specs.Valid.{weight_up, weight_down}
 use Rattle.hill.specs.Building.{push, join, close, merge}
+use Rattle.hill.proofs.Building.{push-nil}
 use Rattle.hill.proofs.Slopes.{rise-closes, fall-closes}
 use Rattle.summary.specs.Judge.{mode_at, rise_at, fall_at, left_at, middle_at, value_at, floor_at, ceiling_at, held_at, IsHill}
 use Rattle.summary.specs.Decode.{amounts_at, lefts_in, rights_in, hill_in}
@@ -19,7 +20,7 @@ use Rattle.summary.proofs.ModeValues.{Numbered, numbered}
 use Rattle.summary.proofs.Hills.{AllStored, hill-valid, hill-stored}
 use Rattle.slopes.specs.declared.Counts.{Counts}
 use Rattle.slopes.specs.declared.Slopes.{Slopes}
-use Rattle.slopes.specs.Arrays.{Arrays, arrays, Fig, slopes_of, weight_of, StandsFor}
+use Rattle.slopes.specs.Arrays.{Arrays, arrays, Fig, slopes_of, weight_of, Able, StandsFor}
 use Rattle.slopes.specs.Kept.{arrays_of}
 use Rattle.slopes.specs.Steps as step
 use Rattle.slopes.specs.Actions.{Pushed, CanClose, Joins, Added}
@@ -52,6 +53,10 @@ module _ (M : Mode) (b : List ℕ) where
       subst (λ (n : ℕ). weight_down M.algebra M.sizes (rights_in M.read b i) ≤ weight_down M.algebra M.sizes (rights_in M.read b n)) e (rights-more i (k - i))
 
 -- ---- the left values
+
+-- what arrays stand for as they are
+pub stands-still : {M : Mode} {A : Arrays} {c : Counts} → Able M A c → StandsFor M A c (slopes_of M A c) (weight_of M (slopes_of M A c))
+stands-still a = record { sound = a.sound; stored = a.stored; is = refl; fine = a.fine; light = omega arith }
 
 module _ {M : Mode} {b : List ℕ} {k i : ℕ} {A₀ A : Arrays} {c₀ c : Counts} (p : Sinks M b k A₀ c₀) (lt : i < k) (s : Sunk M b i A₀ c₀ A c) where
   next-light : weight_of M (slopes_of M A₀ c₀) + weight_up M.algebra M.sizes (lefts_in M.read b i) + size_of M (left_at b i) < 2 ^ 62
@@ -92,6 +97,11 @@ module _ {M : Mode} {b : List ℕ} {k i : ℕ} {A₀ A : Arrays} {c₀ c : Count
         next-sunk ex refl (after t (close M.algebra) (close-left (able t j.light) closed next-closes (add-one c.nl) refl ez))
 
 -- ---- the records
+
+pub none-stacked : (b : List ℕ) (k n : ℕ) (A : Arrays) → Stacked b k 0 n A A
+none-stacked b k n A m nl mid p =
+    let h = slopes_of (mode_of m) A (counts nl n mid) in
+    rw (add-zero n) (restate (stands-still p.able) (weight_of (mode_of m) h + 0) (sym (push-nil (mode_of m).algebra h)) (omega arith))
 
 push-more : {F R : Type 0} (e : R × F) (d : List (R × F)) (h : Hill F R) → push (e ∷ []) (push d h) ≡ push (e ∷ d) h
 push-more e d (hill u m f) = refl

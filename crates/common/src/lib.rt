@@ -41,6 +41,10 @@ fn name_record(log: &[u8], opened: u32, a: u32, b: u32) -> Result<u32, Refusal>
 pub fn common(log: &[u8], a: u32, b: u32) -> Result<u32, Refusal>
     ensures { answered result ≡ common_outcome log.now a b }
 {
-    let opened = whole_log::ask(log)?;
+    let opened = match whole_log::ask(log) {
+        Ok(opened) => opened,
+        // An arm, and no `?`: a wrong answer of it alone is tried (must-fail).
+        Err(no) => return Err(no),
+    };
     name_record(log, opened, a, b)
 }

@@ -63,17 +63,32 @@ pub record Inv (log rest : List ℕ) (t : Tally) (mid : Figures) (a : OpenAmount
   pub read : Reading log rest done t
   pub standing : t.fault ≡ None → t.start ≡ 0 → Standing (chunk_of done) t.level mid a h
 
-pub begin : {log : List ℕ} {t : Tally} {mid : Figures} → length log ≤ 65_536 → Fresh t → mid ≡ no_figures → Inv log log t mid NO_AMOUNTS NO_HOLDING
-begin {mid} short u e = record {
+-- arrays of 64, and nothing in them yet
+pub record Empty (mid : Figures) (a : OpenAmounts) (h : Holding) : Type 0 where
+  pub values : length a.values ≡ 64
+  pub floors : length a.floors ≡ 64
+  pub ceilings : length a.ceilings ≡ 64
+  pub held-net : length h.net ≡ 64
+  pub held-heaviest : length h.heaviest ≡ 64
+  pub held-eaten : length h.eaten ≡ 64
+  pub held-stamp : length h.stamp ≡ 64
+  pub figures : mid ≡ no_figures
+
+pub begin : {log : List ℕ} {t : Tally} {mid : Figures} {a : OpenAmounts} {h : Holding} → length log ≤ 65_536 → Fresh t → Empty mid a h → Inv log log t mid a h
+begin {mid} {a} {h} short u e = record {
   done = [];
   read = reading.begin short u;
-  standing = λ _ _. subst (λ (l : ℕ). Standing [] l mid NO_AMOUNTS NO_HOLDING) (sym u.level) record {
-    net = stands-none 1 refl refl refl refl (ap (λ (x : Figures). x.net) e);
-    heaviest = stands-none 2 refl refl refl refl (ap (λ (x : Figures). x.heaviest) e);
-    eaten = stands-none 5 refl refl refl refl (ap (λ (x : Figures). x.eaten) e);
-    stamp = stands-none 4 refl refl refl refl (ap (λ (x : Figures). x.stamp) e);
+  standing = λ _ _. subst (λ (l : ℕ). Standing [] l mid a h) (sym u.level) record {
+    net = stands-none 1 e.values e.floors e.ceilings e.held-net (ap (λ (x : Figures). x.net) e.figures);
+    heaviest = stands-none 2 e.values e.floors e.ceilings e.held-heaviest (ap (λ (x : Figures). x.heaviest) e.figures);
+    eaten = stands-none 5 e.values e.floors e.ceilings e.held-eaten (ap (λ (x : Figures). x.eaten) e.figures);
+    stamp = stands-none 4 e.values e.floors e.ceilings e.held-stamp (ap (λ (x : Figures). x.stamp) e.figures);
   };
 }
+
+-- the same of the arrays that the code begins with
+pub begin-none : {log : List ℕ} {t : Tally} {mid : Figures} → length log ≤ 65_536 → Fresh t → mid ≡ no_figures → Inv log log t mid NO_AMOUNTS NO_HOLDING
+begin-none short u e = begin short u record { values = refl; floors = refl; ceilings = refl; held-net = refl; held-heaviest = refl; held-eaten = refl; held-stamp = refl; figures = e }
 
 module _ {log rest : List ℕ} {t : Tally} {mid : Figures} {a : OpenAmounts} {h : Holding} (i : Inv log rest t mid a h) where
   abbrev xs : List (Record Amounts)

@@ -106,12 +106,16 @@ spoilt-is m f s e n = refl
 pub blank-written : (m : ℕ) (o o' : List ℕ) → 6 ≤ length o → o' ≡ sets o 0 (front_bytes 6 16 m) → Wrote (encode m blank) o o' 6
 blank-written m o o' h e = wrote (encode m blank) o o' 6 (sym (encode-length m blank)) (omega (arith, encode-length m blank)) (e ∙ ap (sets o 0) (blank-is m))
 
-pub spoilt-written : (m : ℕ) (s : SpoiltHead) (o o₁ o₂ : List ℕ) (f : ℕ) → f ≡ number_of s.fault → 16 ≤ length o
+pub spoilt-written : (m f s e n : ℕ) (o o₁ o₂ : List ℕ) → 16 ≤ length o → o₁ ≡ sets o 0 (front_bytes 16 17 m) → o₂ ≡ sets o₁ 6 (level_bytes f s e n)
+    → Wrote (encode m (part (spoilt f s e n))) o o₂ 16
+spoilt-written m f s e n o o₁ o₂ h e₁ e₂ =
+    let w : SummaryIn m = part (spoilt f s e n) in
+    wrote (encode m w) o o₂ 16 (sym (encode-length m w)) (omega (arith, encode-length m w)) (summary-stores o o₁ o₂ (level_bytes f s e n) 16 17 m e₁ e₂ ∙ ap (sets o 0) (spoilt-is m f s e n))
+
+-- of a head that names its fault
+pub head-written : (m : ℕ) (s : SpoiltHead) (o o₁ o₂ : List ℕ) (f : ℕ) → f ≡ number_of s.fault → 16 ≤ length o
     → o₁ ≡ sets o 0 (front_bytes 16 17 m) → o₂ ≡ sets o₁ 6 (level_bytes f s.start s.end s.opened) → Wrote (encode m (spoilt_said m s)) o o₂ 16
-spoilt-written m s o o₁ o₂ f ef h e₁ e₂ =
-    let w : SummaryIn m = spoilt_said m s in
-    wrote (encode m w) o o₂ 16 (sym (encode-length m w)) (omega (arith, encode-length m w))
-    (summary-stores o o₁ o₂ (level_bytes (number_of s.fault) s.start s.end s.opened) 16 17 m e₁ (rw ef at e₂) ∙ ap (sets o 0) (spoilt-is m (number_of s.fault) s.start s.end s.opened))
+head-written m s o o₁ o₂ f ef h e₁ e₂ = spoilt-written m (number_of s.fault) s.start s.end s.opened o o₁ o₂ h e₁ (rw ef at e₂)
 
 -- a hill: front, levels, left values, middle, records
 module _ (m p n : ℕ) (A : Arrays) (c : Counts) (o : List ℕ) (ok : Writes (mode_of m) A c p (length o)) where

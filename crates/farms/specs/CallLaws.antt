@@ -133,14 +133,14 @@ module _ (s piece : List ℕ) (farm cap : ℕ) (few : farm ≤ 7) (p : piece ≡
     came : {o : Outcome (List ℕ)} → written cap piece ≡ o → end_outcome (station_of s) farm cap ≡ o
     came e = end_is ∙ ap (λ t. question 5 t (written cap piece)) y ∙ e
 
-    pub end-12 : (x : Refusal) → r ≡ Err x → (end_outcome (station_of s) farm cap ≡ refused (number_of x)) × (after ≡ before)
+    pub end-12 : (x : Refusal) → r ≡ Err x → (end_outcome (station_of s) farm cap ≡ refused 12) × ((number_of x ≡ 12) × (after ≡ before))
     end-12 x e = go (leb (length piece) cap) refl (sym (ap answered e) ∙ h.answered)
       where
-        go : (t : Bool) → leb (length piece) cap ≡ t → refused (number_of x) ≡ length_answered (question 12 t (granted piece)) → (end_outcome (station_of s) farm cap ≡ refused (number_of x)) × (after ≡ before)
+        go : (t : Bool) → leb (length piece) cap ≡ t → refused (number_of x) ≡ length_answered (question 12 t (granted piece)) → (end_outcome (station_of s) farm cap ≡ refused 12) × ((number_of x ≡ 12) × (after ≡ before))
         go true q g = absurd (not-result (number_of x) (length piece) g)
         go false q g =
             let w : written cap piece ≡ refused 12 = ap (λ t. question 12 t (granted piece)) q in
-            (came w ∙ ap refused (one_number (sym g)), h.buffer ∙ ap (λ o. buffer_after o before) w)
+            (came w, (one_number g, h.buffer ∙ ap (λ o. buffer_after o before) w))
 
     module _ (n : ℕ) (e : r ≡ Ok n) where
       handed_out : written cap piece ≡ granted piece

@@ -1,7 +1,8 @@
 -- The slots of a state: what is held there, what is written there, and what the farms draw. Assumes nothing.
-use Rattle.std.specs.Prelude.{◌≡◌, refl, List, [], ◌++◌, ℕ, zero, suc, ◌+◌, ◌-◌, ◌*◌, ◌^◌, ◌≤◌, ◌<◌, min, length, take, drop, replicate}
-use Rattle.std.proofs.Common.{sym, ap, ◌∙◌, append_assoc, append-nil, add-zero, zero-add, arith, length-append, drop_of_length-le, take_all, drop-cons, take_at, length-take-le, le-leb}
+use Rattle.std.specs.Prelude.{◌≡◌, refl, List, [], ◌++◌, ℕ, zero, suc, ◌+◌, ◌-◌, ◌*◌, ◌^◌, ◌≤◌, ◌<◌, min, length, get_or, take, drop, set, replicate}
+use Rattle.std.proofs.Common.{sym, ap, ◌∙◌, append_assoc, append-nil, add-zero, zero-add, arith, length-set, length-append, drop_of_length-le, take_all, drop-cons, take_at, length-take-le, le-leb}
 use Rattle.std.proofs.lemmas.List.{length-replicate}
+use Rattle.std.proofs.Math.Seq.{take-length, paste, paste-zero, paste-suc}
 use Rattle.std.proofs.lemmas.Bool.{lt-leb}
 use Rattle.gate.specs.Outcome.{written, buffer_after}
 use Rattle.gate.proofs.Laws.{fits}
@@ -59,6 +60,29 @@ sum-all {s} {total} {k} i l =
     (omega (arith, i.sum, n), omega (arith, i.small))
 
 -- ---- what is written
+
+-- The first i of the bytes w are stored, from `at` on.
+pub record Storing (s w : List ℕ) (at i : ℕ) (t : List ℕ) : Type 0 where
+  pub few : i ≤ length w
+  pub same : t ≡ paste s at w i
+  pub size : length t ≡ length s
+
+pub store-start : (s w : List ℕ) (at : ℕ) → Storing s w at 0 s
+store-start s w at = record { few = omega arith; same = paste-zero s at w; size = refl }
+
+pub store-next : {s w : List ℕ} {at i : ℕ} {t : List ℕ} → Storing s w at i t → at + length w ≤ length s → i < length w → Storing s w at (i + 1) (set t (at + i) (get_or w i 0))
+store-next {s} {w} {at} {i} {t} h r l =
+    let n : i + 1 ≡ suc i = omega arith in
+    record {
+      few = omega arith;
+      same = ap (λ (x : List ℕ). set x (at + i) (get_or w i 0)) h.same ∙ paste-suc s at w i 0 (omega arith) l ∙ ap (paste s at w) (sym n);
+      size = length-set t (at + i) (get_or w i 0) ∙ h.size;
+    }
+
+pub store-end : {s w : List ℕ} {at i : ℕ} {t : List ℕ} → Storing s w at i t → length w ≤ i → t ≡ take at s ++ (w ++ drop (at + length w) s)
+store-end {s} {w} {at} {i} {t} h l =
+    let n : i ≡ length w = omega (arith, h.few) in
+    h.same ∙ ap (paste s at w) n ∙ ap (λ (x : List ℕ). take at s ++ x ++ drop (at + length w) s) (take-length w) ∙ append_assoc (take at s) w (drop (at + length w) s)
 
 pub slot-stored : (s w t : List ℕ) (farm : ℕ) → length w ≡ 1788 → t ≡ take (1788 * farm) s ++ (w ++ drop (1788 * farm + length w) s) → t ≡ take (1788 * farm) s ++ (w ++ drop (1788 * suc farm) s)
 slot-stored s w t farm l e = let k : 1788 * farm + length w ≡ 1788 * suc farm = omega arith in e ∙ ap (λ (n : ℕ). take (1788 * farm) s ++ (w ++ drop n s)) k

@@ -76,7 +76,10 @@ fn store(out: &mut [u8], at: usize, bytes: &[u8])
     requires { at + length bytes.now ≤ length out.old }
     ensures { out.new ≡ take at out.old ++ (bytes.now ++ drop (at + length bytes.now) out.old) }
 {
-    out[at..at + bytes.len()].copy_from_slice(bytes);
+    // Byte by byte: for `copy_from_slice` the library for C would want `memmove` from outside.
+    for i in 0..bytes.len() {
+        out[at + i] = bytes[i];
+    }
 }
 
 // A farm's slot written anew.
@@ -128,8 +131,11 @@ fn send_in(state: &mut [u8], farm: u32, summary: &[u8]) -> Result<(), Refusal>
     let end = held_end(&*state, at);
     let mut slot = [0u8; SLOT];
     // No 12: a slot has room for any summary.
-    let n = merge::merge(&state[at..end], summary, &mut slot)?;
-    settle(state, farm as usize, &slot, n)
+    match merge::merge(&state[at..end], summary, &mut slot) {
+        Ok(n) => settle(state, farm as usize, &slot, n),
+        // An arm, and no `?`: a wrong answer of it alone is tried (must-fail).
+        Err(no) => Err(no),
+    }
 }
 
 // A summary sent for a farm: questions 20, 5, 6 and 21.
@@ -164,7 +170,11 @@ fn end_in(state: &mut [u8], farm: u32, out: &mut [u8]) -> Result<usize, Refusal>
     }
     let at = SLOT * (farm as usize);
     let end = held_end(&*state, at);
-    let p = judge::judge(&state[at..end])?;
+    let p = match judge::judge(&state[at..end]) {
+        Ok(p) => p,
+        // An arm, and no `?`: a wrong answer of it alone is tried (must-fail).
+        Err(no) => return Err(no),
+    };
     let length = hand_out(&state[at..end], out)?;
     make_blank(state, farm as usize, p.mode);
     Ok(length)

@@ -24,11 +24,21 @@ found-is {f} e h = sym e ∙ ap verdict_of h
 
 -- ---- the lower of two
 
-pub lower-first : (x y : Refusal) → number_of x ≤ number_of y → verdict_of (Some x) ≡ low (verdict_of (Some x)) (verdict_of (Some y))
-lower-first x y h = ap refuse (omega arith)
+-- a stands no higher than b: by their numbers, and none above all faults
+abbrev pub NoHigher : Option Refusal → Option Refusal → Type 0
+NoHigher None None = Unit {0}
+NoHigher (Some x) None = Unit {0}
+NoHigher None (Some y) = ⊥
+NoHigher (Some x) (Some y) = number_of x ≤ number_of y
 
-pub lower-second : (x y : Refusal) → number_of y ≤ number_of x → verdict_of (Some y) ≡ low (verdict_of (Some x)) (verdict_of (Some y))
-lower-second x y h = ap refuse (omega arith)
+pub lower-first : (a b : Option Refusal) → NoHigher a b → verdict_of a ≡ low (verdict_of a) (verdict_of b)
+lower-first None None h = sym (low-pass pass)
+lower-first (Some x) None h = sym (low-pass (verdict_of (Some x)))
+lower-first None (Some y) h = absurd h
+lower-first (Some x) (Some y) h = ap refuse (omega arith)
+
+pub lower-second : (a b : Option Refusal) → NoHigher b a → verdict_of b ≡ low (verdict_of a) (verdict_of b)
+lower-second a b h = lower-first b a h ∙ low-comm (verdict_of b) (verdict_of a)
 
 -- ---- questions 7 and 8
 

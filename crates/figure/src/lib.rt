@@ -182,9 +182,7 @@ fn clamped_sum(a: i64, b: i64, low: i64, high: i64) -> i64
 fn stamp(value: i32, held: u32) -> u32
     ensures { result ≡ wrap (value +ℤ pos (31 * held)) }
 {
-    value
-        .cast_unsigned()
-        .wrapping_add(number::wrapping_mul(31, held))
+    number::bits_32(value).wrapping_add(number::wrapping_mul(31, held))
 }
 
 fn through_net(value: i32, held: i64) -> i64

@@ -34,6 +34,9 @@ pub fn heaviest_line(log: &[u8], out: &mut [u8]) -> Result<usize, Refusal>
     ensures answer { answered result ≡ length_answered (heaviest_line_outcome log.now (length out.old)) }
     ensures buffer { out.new ≡ buffer_after (heaviest_line_outcome log.now (length out.old)) out.old }
 {
-    whole_log::ask(log)?;
-    put_line(log, out)
+    match whole_log::ask(log) {
+        Ok(_) => put_line(log, out),
+        // An arm, and no `?`: a wrong answer of it alone is tried (must-fail).
+        Err(no) => Err(no),
+    }
 }

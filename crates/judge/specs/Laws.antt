@@ -200,3 +200,7 @@ fault-number {b} v = go (eqb (fault_at b) 7) (eqb (fault_at b) 8) refl refl
     go true t e f = sym (eqb-true (fault_at b) 7 e)
     go false true e f = sym (eqb-true (fault_at b) 8 f)
     go false false e f = Prim.grind (arith, v.fault-low, v.fault-high, eqb-false (fault_at b) 7 e, eqb-false (fault_at b) 8 f)
+
+-- the number of that fault is 7 to 9
+pub fault-range : {b : List ℕ} → IsSpoilt b → (7 ≤ number_of (spoilt_head_at b).fault) × (number_of (spoilt_head_at b).fault ≤ 9)
+fault-range v = let e = fault-number v in (omega (arith, e, v.fault-low), omega (arith, e, v.fault-high))

@@ -6,7 +6,7 @@ use Rattle.modes.specs.FourModes.{Amounts}
 use Rattle.figure.specs.Mode.{mode_of}
 use Rattle.figure.specs.Stored.{none}
 use Rattle.modes.specs.declared.Held.{Held}
-use Rattle.judge.specs.declared.Head.TheVariants.{Spoilt, Hill}
+use Rattle.judge.specs.declared.Head.TheVariants.{Blank, Spoilt, Hill}
 use Rattle.judge.specs.Judged.{held_in}
 use Rattle.hill.specs.Verdict.{Verdict, pass, refuse, low, joint, count}
 use Rattle.hill.proofs.VerdictLaws.{low-fst, low-snd, joint-pass, refuse-pass}
@@ -181,7 +181,10 @@ module _ (m : ℕ) where
                 stands = λ v. record { sound = r.sound; stored = r.stored; is = r.is ∙ x; fine = subst (Fine (mode_of m)) x r.fine; light = light (merge_summary 𝒜 s (decode m b)) both-accepted };
               }
 
-    -- ---- its head, where it is not blank
+    -- ---- its head, by the three cases
+
+    pub says-blank : s ≡ blank → Said m Blank A s
+    says-blank e = record { writable = tt; is = sym e }
 
     pub says-spoilt : {p : Numbers} {r : Refusal} → SaysPart m p s → p.fault ≡ Some r → Said m (Spoilt (spoilt_head r p.start p.end p.opened)) A s
     says-spoilt {p} {r} h e = record { writable = tt; is = go h.said (sym (found-is h.says.fault e)) h.says.start h.says.end h.says.opened ∙ sym h.is }

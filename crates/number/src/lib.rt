@@ -37,16 +37,16 @@ fn signed_32(x: u32) -> i32
 }
 
 // The bits of x.
-fn bits_32(x: i32) -> u32
+pub fn bits_32(x: i32) -> u32
     ensures { result ≡ of_z w32 x }
 {
     x.cast_unsigned()
 }
 
-fn bits_64(x: i64) -> u64
-    ensures { result ≡ of_z w64 x }
+pub fn bits_64(z: i64) -> u64
+    ensures { result ≡ of_z w64 z }
 {
-    x.cast_unsigned()
+    z.cast_unsigned()
 }
 
 pub fn read_i32(s: &[u8], at: usize) -> i32

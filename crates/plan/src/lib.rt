@@ -17,7 +17,11 @@ pub fn plan(row: &[u8], out: &mut [u8]) -> Result<usize, Refusal>
     ensures buffer { out.new ≡ buffer_after (plan_outcome row.now (length out.old)) out.old }
 {
     let mut notes = [None; 64];
-    let found = row_gate::open_row(row, &mut notes)?;
+    let found = match row_gate::open_row(row, &mut notes) {
+        Ok(found) => found,
+        // An arm, and no `?`: a wrong answer of it alone is tried (must-fail).
+        Err(no) => return Err(no),
+    };
     let mut lines = [Line::default(); 128];
     let n = row_plan::scan::scan(&notes, found.count, &mut lines);
     let total = 12 * n;

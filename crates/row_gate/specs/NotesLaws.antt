@@ -1,6 +1,6 @@
 -- One piece more is judged and noted. Assumes nothing.
 use Rattle.std.specs.Prelude.{◌≡◌, refl, Bool, true, false, cond, ◌&&◌, List, [], ◌∷◌, ℕ, zero, suc, ◌+◌, ◌-◌, ◌≤◌, ◌<◌, eqb, length, get_or, set, take, drop, Option, None}
-use Rattle.std.proofs.Common.{sym, ap, ◌∙◌, true≢false, add-one, arith, below_more, eq-eqb, ne_eqb, length-set, drop_of_length-le, get_or-set_same, get_or-set_other, drop-cons}
+use Rattle.std.proofs.Common.{sym, ap, subst, ◌∙◌, true≢false, add-one, arith, below_more, eq-eqb, ne_eqb, length-set, drop_of_length-le, get_or-set_same, get_or-set_other, drop-cons}
 use Rattle.gate.specs.Outcome.{refused, granted}
 use Rattle.number.specs.Laws.{part-rest}
 use Rattle.row.specs.Row.{first_length, row_pieces}
@@ -10,11 +10,20 @@ use Rattle.summary.specs.Decide.{is_summary}
 use Rattle.judge.specs.declared.Piece.{Piece}
 use Rattle.judge.specs.declared.Numbers.{Numbers}
 use Rattle.judge.specs.Judged.{head_at}
-use Rattle.judge.specs.Numbers.{numbers_of}
-use Rattle.judge.specs.Laws.{Judges, judged-mode}
+use Rattle.judge.specs.Numbers.{Fits, numbers_of, AllInBounds}
+use Rattle.judge.specs.Laws.{Judges, judged-mode, summary-fits, in-bounds}
 use Rattle.outcome.specs.Outcomes.{all_summaries, all_of, first_mode, mode_of_all}
 use Rattle.outcome.proofs.Laws.{mode-5, mode-6, mode-all}
-use Rattle.row_gate.specs.Notes.{note_at, AllNoted}
+use Rattle.row_gate.specs.Notes.{note_at, Noted, NotedAll}
+
+-- ---- the notes, in their bounds
+
+set-within : (notes : List (Option Numbers)) (k : ℕ) (n : Option Numbers) → ((i : ℕ) → AllInBounds (note_at notes i)) → AllInBounds n → (i : ℕ) → AllInBounds (note_at (set notes k n) i)
+set-within [] k n h b i = h i
+set-within (x ∷ xs) zero n h b zero = b
+set-within (x ∷ xs) zero n h b (suc i) = h (suc i)
+set-within (x ∷ xs) (suc k) n h b zero = h zero
+set-within (x ∷ xs) (suc k) n h b (suc i) = set-within xs k n (λ j. h (suc j)) b i
 
 -- ---- the loop over the pieces
 
@@ -22,25 +31,27 @@ first_of : (ps : List (List ℕ)) → 0 < length ps → first_mode ps ≡ mode_a
 first_of [] h = absurd (omega arith)
 first_of (p ∷ ps) h = refl
 
-pub record Judging (row : List ℕ) (notes : List (Option Numbers)) (rest : List ℕ) (k mode : ℕ) (same : Bool) : Type 0 where
+pub record Judging (row : List ℕ) (before notes : List (Option Numbers)) (rest : List ℕ) (k mode : ℕ) (same : Bool) : Type 0 where
   pub left : row_pieces rest ≡ drop k (row_pieces row)
   pub good : all_summaries (row_pieces row) ≡ all_summaries (drop k (row_pieces row))
   pub mode-is : 0 < k → first_mode (row_pieces row) ≡ mode
   pub same-is : all_of (first_mode (row_pieces row)) (row_pieces row) ≡ (same && all_of (first_mode (row_pieces row)) (drop k (row_pieces row)))
   pub long : length notes ≡ 64
+  pub bounds : Noted before → Noted notes
   pub noted : (i : ℕ) → i < k → note_at notes i ≡ numbers_of (head_at (get_or (row_pieces row) i []))
 
-pub judging-start : (row : List ℕ) (notes : List (Option Numbers)) → length notes ≡ 64 → Judging row notes row 0 0 true
+pub judging-start : (row : List ℕ) (notes : List (Option Numbers)) → length notes ≡ 64 → Judging row notes notes row 0 0 true
 judging-start row notes l = record {
   left = refl;
   good = refl;
   mode-is = λ h. absurd (omega arith);
   same-is = refl;
   long = l;
+  bounds = λ w. w;
   noted = λ i h. absurd (omega arith);
 }
 
-module _ (row : List ℕ) (notes : List (Option Numbers)) (rest : List ℕ) (k mode : ℕ) (same : Bool) (v : Judging row notes rest k mode same) where
+module _ (row : List ℕ) (before notes : List (Option Numbers)) (rest : List ℕ) (k mode : ℕ) (same : Bool) (v : Judging row before notes rest k mode same) where
   abbrev ps : List (List ℕ)
   ps = row_pieces row
 
@@ -64,8 +75,8 @@ module _ (row : List ℕ) (notes : List (Option Numbers)) (rest : List ℕ) (k m
     not-all : is_summary (take first rest) ≡ false → all_summaries ps ≡ false
     not-all n = v.good ∙ ap all_summaries next-piece ∙ ap (λ (t : Bool). t && all_summaries (drop (suc k) ps)) (ap is_summary (sym this-piece) ∙ n)
 
-    pub judging-not : is_summary (take first rest) ≡ false → (refused 5 ≡ mode_of_all ps) × (all_summaries ps ≡ true → AllNoted ps notes)
-    judging-not n = let f = not-all n in (sym (mode-5 ps f), λ t. absurd (true≢false (sym t ∙ f)))
+    pub judging-not : is_summary (take first rest) ≡ false → (refused 5 ≡ mode_of_all ps) × NotedAll ps before notes
+    judging-not n = let f = not-all n in (sym (mode-5 ps f), record { in-range = v.bounds; noted = λ t. absurd (true≢false (sym t ∙ f)) })
 
     both : (a b c : Bool) → (a && (b && c)) ≡ ((a && b) && c)
     both true b c = refl
@@ -79,7 +90,7 @@ module _ (row : List ℕ) (notes : List (Option Numbers)) (rest : List ℕ) (k m
         go (suc i) z = v.mode-is (omega arith) ∙ sym (e ∙ ap (λ (t : Bool). cond t m mode) (ne_eqb k 0 (omega arith)))
 
     pub judging-next : (p : Piece) (n : Option Numbers) (m' : ℕ) → k < 64 → Judges (take first rest) p → n ≡ numbers_of p.head → m' ≡ cond (eqb k 0) p.mode mode →
-        Judging row (set notes k n) (take (length rest - first) (drop first rest)) (k + 1) m' (same && eqb m' p.mode)
+        Judging row before (set notes k n) (take (length rest - first) (drop first rest)) (k + 1) m' (same && eqb m' p.mode)
     judging-next p n m' few j en em =
         let b : List ℕ = take first rest in
         let here : b ≡ get_or ps k [] = this-piece in
@@ -94,6 +105,7 @@ module _ (row : List ℕ) (notes : List (Option Numbers)) (rest : List ℕ) (k m
           same-is = v.same-is ∙ ap (λ (l : List (List ℕ)). same && all_of (first_mode ps) l) next-piece ∙ both same (eqb (first_mode ps) (mode_at (get_or ps k []))) (all_of (first_mode ps) (drop (suc k) ps)) ∙
               ap (λ (t : Bool). (same && t) && all_of (first_mode ps) (drop (suc k) ps)) (ap (λ (x : ℕ). eqb x (mode_at (get_or ps k []))) first-mode ∙ ap (eqb m') mode-here) ∙ ap (λ (l : List (List ℕ)). (same && eqb m' p.mode) && all_of (first_mode ps) l) (sym one);
           long = length-set notes k n ∙ v.long;
+          bounds = λ w. record { each = set-within notes k n (v.bounds w).each (subst AllInBounds (sym en) (in-bounds p.head (subst Fits (sym (ap (λ (x : Piece). x.head) j.piece)) (summary-fits b j.summary)))) };
           noted = λ i l. below_more (λ i. note_at (set notes k n) i ≡ numbers_of (head_at (get_or ps i []))) k
               (λ i l. get_or-set_other notes k i n None (omega arith) ∙ v.noted i l) (get_or-set_same notes k n None (omega (arith, v.long)) ∙ note-here) i l;
         }
@@ -112,8 +124,11 @@ module _ (row : List ℕ) (notes : List (Option Numbers)) (rest : List ℕ) (k m
         and-true true = refl
         and-true false = refl
 
-    pub judging-mode : same ≡ true → granted mode ≡ mode_of_all (row_pieces row)
-    judging-mode s = sym (mode-all (row_pieces row) all-good (all_same ∙ s) ∙ ap granted (v.mode-is (omega arith)))
+    noted_all : NotedAll (row_pieces row) before notes
+    noted_all = record { in-range = v.bounds; noted = λ t i l. v.noted i (omega arith) }
 
-    pub judging-6 : same ≡ false → refused 6 ≡ mode_of_all (row_pieces row)
-    judging-6 s = sym (mode-6 (row_pieces row) all-good (all_same ∙ s))
+    pub judging-mode : same ≡ true → (granted mode ≡ mode_of_all (row_pieces row)) × NotedAll (row_pieces row) before notes
+    judging-mode s = (sym (mode-all (row_pieces row) all-good (all_same ∙ s) ∙ ap granted (v.mode-is (omega arith))), noted_all)
+
+    pub judging-6 : same ≡ false → (refused 6 ≡ mode_of_all (row_pieces row)) × NotedAll (row_pieces row) before notes
+    judging-6 s = (sym (mode-6 (row_pieces row) all-good (all_same ∙ s)), noted_all)

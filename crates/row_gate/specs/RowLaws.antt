@@ -1,5 +1,5 @@
 -- What is noted of a row's pieces is what its summaries say: its fault. Assumes nothing.
-use Rattle.std.specs.Prelude.{◌≡◌, refl, List, [], ◌∷◌, map, ℕ, zero, suc, ◌+◌, ◌≤◌, ◌<◌, length, get_or, take, Option, None}
+use Rattle.std.specs.Prelude.{◌≡◌, refl, List, [], ◌∷◌, map, ℕ, zero, suc, ◌+◌, ◌≤◌, ◌<◌, length, get_or, take, Option, Some, None}
 use Rattle.std.proofs.Common.{sym, ap, ap₂, subst, ◌∙◌, arith, length-take}
 use Rattle.std.proofs.Math.Logic.{dite}
 use Rattle.std.proofs.Math.Decide.{dec_lt}
@@ -18,7 +18,7 @@ use Rattle.plan_work.specs.Gate.{row_fault}
 use Rattle.outcome.specs.Laws.{AllIn}
 use Rattle.row_gate.specs.Told.{Told, told_of, told_fault, told_of_note}
 use Rattle.row_gate.specs.ToldLaws.{fault-row}
-use Rattle.row_gate.specs.Notes.{note_at, Noted, AllNoted}
+use Rattle.row_gate.specs.Notes.{note_at, opened_of, Noted, Few, AllNoted}
 
 -- ---- one piece
 
@@ -30,6 +30,15 @@ told-piece m b (is_hill v) =
     let s : peak_at b + rise_at b ≡ start_at b = omega (arith, v.peak-start) in
     let e : peak_at b + fall_at b ≡ end_at b = omega (arith, v.peak-end) in
     rw (head-hill b (λ x. omega (arith, v.layout.kind_fits)) (λ x. omega (arith, v.layout.kind_fits)), reading-hill (mode_of m).read b v.layout.kind_fits, lefts-length (mode_of m).read b (rise_at b), rights-length (mode_of m).read b (fall_at b), s, e)
+
+-- ---- notes in their bounds open few records
+
+few-note : (n : Option Numbers) → AllInBounds n → opened_of n ≤ 100_001
+few-note None b = omega arith
+few-note (Some n) b = b.opened-few
+
+pub few-of : {notes : List (Option Numbers)} → Noted notes → Few notes
+few-of w = record { each = λ k. few-note _ (w.each k) }
 
 -- ---- the pieces of a row
 

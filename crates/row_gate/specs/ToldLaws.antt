@@ -6,11 +6,10 @@ use Rattle.hill.specs.Verdict.{Verdict, low, joint, count, ends}
 use Rattle.hill.proofs.VerdictLaws.{low-assoc, low-left}
 use Rattle.hill.specs.Summary.{Summary, Part, blank, part, verdict, start, end, opened}
 use Rattle.plan_work.specs.Gate.{parts_of, spoilt_fault, join_fault, total_opened, last_end, row_fault}
-use Rattle.judge.specs.Numbers.{AllInBounds}
 use Rattle.judge.specs.declared.Numbers.{Numbers}
 use Rattle.row_gate.specs.declared.faults.Span.{Span}
 use Rattle.row_gate.specs.Told.{Told, nothing, told_of, after_some, told_fault, told_of_note, onward_from, opened_by, Passed}
-use Rattle.row_gate.specs.Notes.{note_at, Noted}
+use Rattle.row_gate.specs.Notes.{note_at, opened_of, Few}
 
 -- ---- the fault that the gate finds
 
@@ -56,10 +55,10 @@ module _ (notes : List (Option Numbers)) where
         let ts : List Told = map told_of_note (drop (k + 1) notes) in
         record { light = omega (arith, v.light); all = sym (past-blank s ts) ∙ ap (λ (n : Option Numbers). onward_from s (told_of_note n ∷ ts)) (sym e) ∙ ap (onward_from s) (sym (told-next k h)) ∙ v.all }
 
-    few-opened : (n : Numbers) → Noted notes → note_at notes k ≡ Some n → n.opened ≤ 100_001
-    few-opened n w e = (subst AllInBounds e (w.each k)).opened-few
+    pub few-opened : (n : Numbers) → Few notes → note_at notes k ≡ Some n → n.opened ≤ 100_001
+    few-opened n w e = subst (λ (x : Option Numbers). opened_of x ≤ 100_001) e (w.each k)
 
-    pub span-next : (n : Numbers) (r : Span) → Noted notes → k < length notes → note_at notes k ≡ Some n → Passed s n r → Spanning notes (Some r) (k + 1)
+    pub span-next : (n : Numbers) (r : Span) → Few notes → k < length notes → note_at notes k ≡ Some n → Passed s n r → Spanning notes (Some r) (k + 1)
     span-next n r w h e p =
         let ts : List Told = map told_of_note (drop (k + 1) notes) in
         record { light = omega (arith, p.opened, v.light, few-opened n w e); all = p.is ts ∙ ap (λ (x : Option Numbers). onward_from s (told_of_note x ∷ ts)) (sym e) ∙ ap (onward_from s) (sym (told-next k h)) ∙ v.all }

@@ -1,7 +1,7 @@
 // Questions 7 to 11 of a row, from what is noted of its pieces.
 ghost use Rattle.std.specs.Prelude.{◌≡◌, [], ◌+◌, ◌≤◌, map, length};
 ghost use Rattle.fault.specs.Fault.{verdict_of};
-ghost use Rattle.row_gate.specs.Notes.{Noted};
+ghost use Rattle.row_gate.specs.Notes.{Few};
 ghost use Rattle.row_gate.specs.Told.{told_of_note, told_fault, opened_by, onward_from, Passed};
 
 use gate::Refusal;
@@ -51,8 +51,8 @@ fn lowest(s: Option<Span>) -> Option<Refusal>
 
 // The lowest fault of a row.
 pub fn row_fault(notes: &[Option<Numbers>]) -> Option<Refusal>
-    requires few { length notes.now ≤ 64 }
-    requires noted { Noted notes.now }
+    requires count_bound { length notes.now ≤ 64 }
+    requires few { Few notes.now }
     ensures { verdict_of result ≡ told_fault (map told_of_note notes.now) }
 {
     let mut s = None;

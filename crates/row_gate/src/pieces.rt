@@ -1,9 +1,9 @@
 // Questions 5 and 6 of a row's pieces, and what is noted of them.
-ghost use Rattle.std.specs.Prelude.{◌≡◌, true, cond, ◌≤◌, ◌<◌, eqb, length};
+ghost use Rattle.std.specs.Prelude.{◌≡◌, cond, ◌≤◌, ◌<◌, eqb, length};
 ghost use Rattle.gate.specs.Answers.{answered};
 ghost use Rattle.row.specs.Row.{row_pieces};
-ghost use Rattle.outcome.specs.Outcomes.{all_summaries, mode_of_all};
-ghost use Rattle.row_gate.specs.Notes.{AllNoted};
+ghost use Rattle.outcome.specs.Outcomes.{mode_of_all};
+ghost use Rattle.row_gate.specs.Notes.{NotedAll};
 
 use gate::Refusal;
 use judge::Numbers;
@@ -23,7 +23,7 @@ pub fn judge_pieces(
 ) -> Result<u16, Refusal>
     requires { (length (row_pieces row.now) ≡ count) × (0 < count) × (count ≤ 64) }
     ensures answer { answered result ≡ mode_of_all (row_pieces row.now) }
-    ensures notes { all_summaries (row_pieces row.now) ≡ true → AllNoted (row_pieces row.now) notes.new }
+    ensures notes { NotedAll (row_pieces row.now) notes.old notes.new }
 {
     let mut rest = row;
     let mut mode = 0;

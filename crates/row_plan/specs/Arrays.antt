@@ -1,12 +1,13 @@
 -- The levels noted of a row, and the lines of its plan as they are held. Definitions only.
-use Rattle.std.specs.Prelude.{◌≡◌, List, ◌++◌, map, ℕ, ◌≤◌, length, take, Option, Some, None}
+use Rattle.std.specs.Prelude.{◌≡◌, List, ◌++◌, map, ℕ, ◌≤◌, ◌<◌, length, get_or, take, Option, Some, None}
 use Rattle.std.proofs.Math.Decide.{dec_lt}
 use Rattle.gate.specs.declared.Refusal.{Refusal}
 use Rattle.join_plan.specs.Plan.{Levels, blank, hill, Line}
 use Rattle.join_plan.specs.Scan.{line_if, lines_to}
 use Rattle.judge.specs.declared.Numbers.{Numbers}
-use Rattle.row_gate.specs.Notes.{note_at}
+use Rattle.row_gate.specs.Notes.{note_at, no_peak}
 use Rattle.row_plan.specs.declared.Line.{Line as HeldLine}
+use Rattle.row_plan.specs.declared.scan.OpenDepths.{OpenDepths}
 
 -- The levels of a chunk: of one that is no hill none.
 abbrev pub hill_levels : Option Numbers → Levels
@@ -24,6 +25,19 @@ levels_of (Some p) = levels_unless p.fault p
 
 abbrev pub levels_at : List (Option Numbers) → ℕ → Levels
 levels_at notes k = levels_of (note_at notes k)
+
+-- The depths that a chunk leaves open: from its peak to below its end.
+abbrev pub open_depths : Levels → OpenDepths
+open_depths blank = record { peak = no_peak; end = 0 }
+open_depths (hill start peak end) = record { peak = peak; end = end }
+
+abbrev pub depths_at : List OpenDepths → ℕ → OpenDepths
+depths_at depths k = get_or depths k (record { peak = 0; end = 0 })
+
+-- The depths that the first n chunks leave open are noted.
+pub record DepthsNoted (notes : List (Option Numbers)) (depths : List OpenDepths) (n : ℕ) : Type 0 where
+  pub long : length depths ≡ 64
+  pub each : (i : ℕ) → i < n → depths_at depths i ≡ open_depths (levels_at notes i)
 
 abbrev pub line_in : HeldLine → Line
 line_in l = record { i = l.i; j = l.j; lowest = l.low; highest = l.high }

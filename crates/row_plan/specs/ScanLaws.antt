@@ -1,15 +1,18 @@
 -- One turn of the scan keeps one line more, or none. Assumes nothing.
 use Rattle.std.specs.Prelude.{◌≡◌, List, [], ◌∷◌, ◌++◌, ℕ, zero, suc, ◌+◌, ◌-◌, ◌≤◌, ◌<◌, min, max, length, take, set, Option, Some}
 use Rattle.std.proofs.Math.Path.{refl, sym, ap}
-use Rattle.std.proofs.Common.{◌∙◌, le_refl, suc-add, zero-add, add-one, arith, append_assoc, append-nil, length-append, length-set}
+use Rattle.std.proofs.Common.{◌∙◌, le_refl, suc-add, zero-add, add-one, arith, append_assoc, append-nil, length-append, length-set, get_or-set_same, get_or-set_other}
 use Rattle.std.proofs.lemmas.List.{map-append, length-map, length-take-le, take_more_set}
+use Rattle.std.proofs.Math.Logic.{dite}
 use Rattle.std.proofs.Math.Decide.{dec_lt}
-use Rattle.join_plan.specs.Plan.{Levels, blank, Line}
+use Rattle.join_plan.specs.Plan.{Levels, blank, hill, Line}
 use Rattle.join_plan.specs.Scan.{line_if, line_of, passed, walk, lines_to, plan}
 use Rattle.join_plan.proofs.PlanFacts.{walk-stop}
 use Rattle.judge.specs.declared.Numbers.{Numbers}
+use Rattle.row_gate.specs.Notes.{no_peak}
 use Rattle.row_plan.specs.declared.Line.{Line as HeldLine}
-use Rattle.row_plan.specs.Arrays.{hill_levels, levels_at, line_in, lines_in, Kept, line_within, lines_to_at}
+use Rattle.row_plan.specs.declared.scan.OpenDepths.{OpenDepths}
+use Rattle.row_plan.specs.Arrays.{hill_levels, levels_at, open_depths, depths_at, DepthsNoted, line_in, lines_in, Kept, line_within, lines_to_at}
 
 -- ---- the lines held
 
@@ -50,6 +53,37 @@ room-one n i j low top b h = go (dec_lt low top) b
     go (yes y) b = omega arith
     go (no y) b = absurd (y h)
 
+-- ---- the depths that chunks leave open
+
+module _ (notes : List (Option Numbers)) where
+  pub depths-start : (depths : List OpenDepths) → length depths ≡ 64 → DepthsNoted notes depths 0
+  depths-start depths l = record { long = l; each = λ i h. absurd (omega arith) }
+
+  pub depths-more : (depths : List OpenDepths) (j : ℕ) (d : OpenDepths) → DepthsNoted notes depths j → j < 64 → d ≡ open_depths (levels_at notes j) → DepthsNoted notes (set depths j d) (j + 1)
+  depths-more depths j d v h e = record { long = length-set depths j d ∙ v.long; each = each }
+    where
+      each : (i : ℕ) → i < j + 1 → depths_at (set depths j d) i ≡ open_depths (levels_at notes i)
+      each i l = dite (dec_lt i j)
+          (λ q. get_or-set_other depths j i d _ (omega arith) ∙ v.each i q)
+          (λ q. let f : i ≡ j = omega arith in
+          ap (λ (k : ℕ). depths_at (set depths j d) k) f ∙ get_or-set_same depths j d _ (omega (arith, v.long)) ∙ e ∙ ap (λ (k : ℕ). open_depths (levels_at notes k)) (sym f))
+
+-- a chunk that is no hill has no line
+line-depths : (c : Levels) (i j p m : ℕ) → line_of c i j p m ≡ line_within i j (max (open_depths c).peak p) (min (open_depths c).end m)
+unfolding line_of line_if
+line-depths blank i j p m = none (dec_lt (max no_peak p) (min 0 m))
+  where
+    none : (t : Dec (max no_peak p < min 0 m)) → [] ≡ line_if i j (max no_peak p) (min 0 m) t
+    none (yes y) = absurd (omega arith)
+    none (no y) = refl
+line-depths (hill start peak end) i j p m = refl
+
+-- and lowers no minimum
+passed-depths : (c : Levels) (m : ℕ) → m ≤ no_peak → passed c m ≡ min (open_depths c).peak m
+unfolding passed
+passed-depths blank m h = omega arith
+passed-depths (hill start peak end) m h = refl
+
 -- ---- one chunk: what is kept, with the lines still to come, is the lines to chunk j behind those before
 
 -- the lines so far, the bound m and chunk i
@@ -80,6 +114,28 @@ module _ (notes : List (Option Numbers)) (j : ℕ) where
     unfolding line_of passed
     walk-past e = record { within = v.within; all = rw e at here }
 
+    -- a chunk by the depths that it leaves open
+    module _ (q : OpenDepths) (e : q ≡ open_depths (levels_at notes i)) where
+      split-depths : (lines_in (take n held) ++ line_within i j (max q.peak p) (min q.end m)) ++ walk chunks j p (passed (levels_at notes i) m) i ≡ before
+      split-depths = append_assoc (lines_in (take n held)) _ _ ∙ (rw (line-depths (levels_at notes i) i j p m, sym e) at here)
+
+      pub walk-depths-room : length before ≤ 128 → n + length (line_within i j (max q.peak p) (min q.end m)) ≤ 128
+      walk-depths-room b =
+          let x : List Line = lines_in (take n held) ++ line_within i j (max q.peak p) (min q.end m) in
+          omega (arith, ap length split-depths, length-append x (walk chunks j p (passed (levels_at notes i) m) i), length-append (lines_in (take n held)) (line_within i j (max q.peak p) (min q.end m)), length-lines held n v.within)
+
+      pub walk-depths : m ≤ no_peak → (r : ℕ) (held' : List HeldLine) → Kept (line_within i j (max q.peak p) (min q.end m)) n held r held' → Walking notes j before held' p (min q.peak m) i r
+      walk-depths h r held' k =
+          let w : passed (levels_at notes i) m ≡ min q.peak m = passed-depths (levels_at notes i) m h ∙ ap (λ (d : OpenDepths). min d.peak m) (sym e) in
+          record { within = k.within; all = ap (λ l. l ++ walk chunks j p (min q.peak m) i) k.lines ∙ (rw w at split-depths) }
+
+      -- one whose peak is above the minimum
+      pub walk-above : m ≤ no_peak → m < q.peak → Walking notes j before held p m i n
+      walk-above h a =
+          let w : min q.peak m ≡ m = omega arith in
+          rw w at (walk-depths h n held (keep-none held n i j (max q.peak p) (min q.end m) v.within (omega arith)))
+
+    -- a chunk that is a hill
     module _ (q : Numbers) (e : levels_at notes i ≡ hill_levels (Some q)) where
       split : (lines_in (take n held) ++ line_within i j (max q.peak p) (min q.end m)) ++ walk chunks j p (min q.peak m) i ≡ before
       unfolding line_of passed

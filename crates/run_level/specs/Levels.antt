@@ -7,7 +7,7 @@ use Rattle.figure.specs.Mode.{mode_of}
 use Rattle.figure.specs.Stored.{amounts}
 use Rattle.summary.specs.Judge.{start_at, peak_at, end_at, value_at, floor_at, ceiling_at, held_at, left_at, IsHill}
 use Rattle.judge.specs.declared.Numbers.{Numbers}
-use Rattle.row_gate.specs.Notes.{note_at}
+use Rattle.row_gate.specs.Notes.{no_peak, peak_unless, note_at}
 use Rattle.run_level.specs.declared.Place.{Place}
 use Rattle.run_level.specs.declared.RunLevel.{RunLevel}
 
@@ -23,14 +23,14 @@ pub record Begun (row : List ℕ) (count : ℕ) (ats : List ℕ) : Type 0 where
   pub long : length ats ≡ 64
   pub each : (k : ℕ) → k < count → get_or ats k 0 ≡ begin_of row k
 
--- The levels noted of a piece, and 0 of a blank.
+-- The levels noted of a piece. A blank starts at 0, and what is no hill has no peak.
 abbrev pub start_of : Option Numbers → ℕ
 start_of None = 0
 start_of (Some n) = n.start
 
 abbrev pub peak_of : Option Numbers → ℕ
-peak_of None = 0
-peak_of (Some n) = n.peak
+peak_of None = no_peak
+peak_of (Some n) = peak_unless n.fault n.peak
 
 abbrev pub place_in : List ℕ → List (Option Numbers) → ℕ → Place
 place_in ats notes k = record { piece = k; at = get_or ats k 0; start = start_of (note_at notes k); peak = peak_of (note_at notes k) }

@@ -4,6 +4,7 @@ ghost use Rattle.run_level.specs.Levels.{place_in};
 
 use super::Place;
 use judge::Numbers;
+use row_gate::NO_PEAK;
 
 // The row, the number of its pieces and their mode, where each piece begins, and what is noted of it.
 #[derive(Clone, Copy)]
@@ -15,13 +16,15 @@ pub struct Hills<'a> {
     pub notes: &'a [Option<Numbers>; 64],
 }
 
-// The place of piece k. One that is blank has no levels, and 0 stands for them.
+// The place of piece k. A blank starts at 0, and a piece that is no hill has no peak.
 pub fn place_of(hills: Hills, k: usize) -> Place
     requires { k < 64 }
     ensures { result ≡ place_in hills.entry.ats.now hills.entry.notes.now k }
 {
-    let (start, peak) = match hills.notes[k] {
-        None => (0, 0),
+    let note = hills.notes[k];
+    let (start, peak) = match note {
+        None => (0, NO_PEAK),
+        Some(n) if n.fault.is_some() => (n.start, NO_PEAK),
         Some(n) => (n.start, n.peak),
     };
     Place {

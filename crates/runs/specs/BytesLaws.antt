@@ -9,7 +9,7 @@ use Rattle.figure.specs.Mode.{mode_of}
 use Rattle.modes.specs.declared.Run.{Run}
 use Rattle.summary.specs.Layout.{i64_bytes}
 use Rattle.outcome.specs.Outcomes.{has_fourth, run_length, run_front, run_bytes, each_run}
-use Rattle.outcome.proofs.RunLaws.{length_front}
+use Rattle.outcome.proofs.RunLaws.{length_most, length_front}
 use Rattle.row_plan.specs.WroteLaws.{put_next}
 
 -- the six stores of a run
@@ -52,6 +52,9 @@ one_more s k n h = omega (arith, mul-le-mul {n₁ = s} {m₁ = suc k} {n₂ = s}
 -- the same where the code has both as numbers
 pub room_for : (s k n l m : ℕ) → s ≡ run_length m → k < n → run_length m * n ≤ l → s * k + run_length m ≤ l
 room_for s k n l m e h r = rw e (omega (arith, one_more (run_length m) k n h))
+
+pub few_bytes : (s n m : ℕ) → s ≡ run_length m → n ≤ 128 → s * n ≤ 4864
+few_bytes s n m e h = rw e (mul-le-mul {n₁ = run_length m} {m₁ = n} {n₂ = 38} {m₂ = 128} (length_most m) h)
 
 pub each_append : (m : ℕ) (a b : List (mode_of m).context.K) → each_run m (a ++ b) ≡ each_run m a ++ each_run m b
 each_append m [] b = refl

@@ -29,45 +29,50 @@ use Rattle.run_level.specs.Levels.{Begun}
 use Rattle.run_level.specs.Along.{row_in}
 use Rattle.run_level.specs.AlongLaws.{plan-count, lines-few, along}
 use Rattle.runs.specs.Runs.{Lines, lines_runs}
+use Rattle.runs.specs.BytesLaws.{few_bytes}
+
+-- ---- the lines of a row that is let through
+
+module _ {row : List ℕ} {count m : ℕ} {notes : List (Option Numbers)} (t : LetThrough row count m notes) {held₀ held : List HeldLine} {n : ℕ} (k : Kept (plan (levels_at notes) count) 0 held₀ n held) where
+  -- as many bytes a line
+  pub runs-length : length (lines_runs row m (plan_of_row (row_in m row))) ≡ run_length m * n
+  runs-length =
+      length-each m (runs_of (mode_of m).context (row_in m row)) ∙
+      ap (λ (l : ℕ). run_length m * l) (runs-count (mode_of m).context (mode_of m).sizes (λ r f. f) (row_in m row) (valid-row m (row_pieces row) t.all) ∙ sym (plan-count t k))
+
+  -- all are written
+  pub runs-written : (b out : List ℕ) (total : ℕ) → total ≡ run_length m * n → total ≤ length b → out ≡ sets b 0 (lines_runs row m (lines_in (take n held))) → Wrote (lines_runs row m (plan_of_row (row_in m row))) (granted total) b out
+  runs-written b out total p h e =
+      wrote-all (lines_runs row m (plan_of_row (row_in m row))) b out total (p ∙ sym runs-length) (omega (arith, runs-length)) (e ∙ ap (λ (l : List Line). sets b 0 (lines_runs row m l)) (k.lines ∙ plan-is t))
+
+  pub all_lines : {ats : List ℕ} → Begun row count ats → Lines row m ats notes (take n held)
+  all_lines b = record { count = count; along = along t k b }
+
+-- ---- the call
 
 pub runs-not : (row b : List ℕ) (n : ℕ) → ask_all row ≡ refused n → (refused n ≡ length_answered (runs_outcome row (length b))) × (b ≡ buffer_after (runs_outcome row (length b)) b)
 unfolding runs_outcome
 runs-not row b n e = call-refused runs_bytes row b n e
 
--- ---- a row that is let through
+pub runs-wrote : (row before after : List ℕ) (r : Outcome ℕ) (count m : ℕ) (notes : List (Option Numbers)) → LetThrough row count m notes → Wrote (lines_runs row m (plan_of_row (row_in m row))) r before after →
+    (r ≡ length_answered (runs_outcome row (length before))) × (after ≡ buffer_after (runs_outcome row (length before)) before)
+unfolding runs_outcome runs_bytes
+runs-wrote row before after r count m notes t w = call-wrote runs_bytes row before after r count m notes t w
 
-module _ {row : List ℕ} {count m : ℕ} {notes : List (Option Numbers)} (t : LetThrough row count m notes) {held₀ held : List HeldLine} {n : ℕ} (k : Kept (plan (levels_at notes) count) 0 held₀ n held) where
-  abbrev these : List Line
-  these = plan_of_row (row_in m row)
+module _ {row : List ℕ} {count m : ℕ} {notes : List (Option Numbers)} (t : LetThrough row count m notes) {held₀ held : List HeldLine} {n : ℕ} (k : Kept (plan (levels_at notes) count) 0 held₀ n held)
+    (bytes : ℕ) (e : bytes ≡ run_length m) where
+  pub runs-few : bytes * n ≤ 4864
+  runs-few = few_bytes bytes n m e (lines-few t k)
 
-  -- as many bytes a line
-  runs-length : length (lines_runs row m these) ≡ run_length m * n
-  runs-length =
-      length-each m (runs_of (mode_of m).context (row_in m row)) ∙
-      ap (λ (l : ℕ). run_length m * l) (runs-count (mode_of m).context (mode_of m).sizes (λ r f. f) (row_in m row) (valid-row m (row_pieces row) t.all) ∙ sym (plan-count t k))
+  total-is : bytes * n ≡ run_length m * n
+  total-is = ap (λ (b : ℕ). b * n) e
 
-  pub all_lines : {ats : List ℕ} → Begun row count ats → Lines row m ats notes (take n held)
-  all_lines b = record { count = count; along = along t k b }
+  pub runs-short : (b : List ℕ) → length b < bytes * n → (refused 12 ≡ length_answered (runs_outcome row (length b))) × (b ≡ buffer_after (runs_outcome row (length b)) b)
+  runs-short b h = runs-wrote row b b (refused 12) count m notes t (too_short (lines_runs row m (plan_of_row (row_in m row))) b (omega (arith, total-is, runs-length t k)))
 
-  module _ (bytes : ℕ) (e : bytes ≡ run_length m) where
-    pub few_bytes : bytes * n ≤ 4864
-    few_bytes = rw e (mul-le-mul {n₁ = run_length m} {m₁ = n} {n₂ = 38} {m₂ = 128} (length_most m) (lines-few t k))
-
-    total-is : bytes * n ≡ length (lines_runs row m these)
-    total-is = ap (λ (b : ℕ). b * n) e ∙ sym runs-length
-
-    runs-wrote : (before after : List ℕ) (r : Outcome ℕ) → Wrote (lines_runs row m these) r before after → (r ≡ length_answered (runs_outcome row (length before))) × (after ≡ buffer_after (runs_outcome row (length before)) before)
-    unfolding runs_outcome runs_bytes
-    runs-wrote before after r w = call-wrote runs_bytes row before after r count m notes t w
-
-    pub runs-short : (b : List ℕ) → length b < bytes * n → (refused 12 ≡ length_answered (runs_outcome row (length b))) × (b ≡ buffer_after (runs_outcome row (length b)) b)
-    runs-short b h = runs-wrote b b (refused 12) (too_short (lines_runs row m these) b (omega (arith, total-is)))
-
-    -- all are written
-    pub runs-written : (b out : List ℕ) → bytes * n ≤ length b → out ≡ sets b 0 (lines_runs row m (lines_in (take n held))) →
-        (granted (bytes * n) ≡ length_answered (runs_outcome row (length b))) × (out ≡ buffer_after (runs_outcome row (length b)) b)
-    runs-written b out h f =
-        runs-wrote b out (granted (bytes * n)) (wrote-all (lines_runs row m these) b out (bytes * n) total-is (omega (arith, total-is)) (f ∙ ap (λ (l : List Line). sets b 0 (lines_runs row m l)) (k.lines ∙ plan-is t)))
+  pub runs-answered : (b out : List ℕ) → bytes * n ≤ length b → out ≡ sets b 0 (lines_runs row m (lines_in (take n held))) →
+      (granted (bytes * n) ≡ length_answered (runs_outcome row (length b))) × (out ≡ buffer_after (runs_outcome row (length b)) b)
+  runs-answered b out h f = runs-wrote row b out (granted (bytes * n)) count m notes t (runs-written t k b out (bytes * n) total-is h f)
 
 -- ---- at most 125 runs
 

@@ -247,14 +247,15 @@ module _ (xs : List (Record Amounts)) where
 
   -- ---- the beginning and the end of the log
 
-  printing-start : {page : Page} {before : List ℕ} {s : Progress} → Formed xs → ((p d : ℕ) → OpensAt xs p d → InColumns (number_at xs p) d (printed page.mode xs p))
-      → 27 * page.lines ≤ length before → s.opened ≡ 0 → s.middle ≡ none (mode_of page.mode) → Printing xs page 0 before s NONE_OPEN before
-  printing-start {page} f columns room eo em = record {
+  printing-start : {page : Page} {before : List ℕ} {s : Progress} {os : Open} → Formed xs → ((p d : ℕ) → OpensAt xs p d → InColumns (number_at xs p) d (printed page.mode xs p))
+      → 27 * page.lines ≤ length before → length os.amounts.values ≡ 64 → length os.amounts.floors ≡ 64 → length os.amounts.ceilings ≡ 64 → length os.held ≡ 64 → length os.numbers ≡ 64
+      → s.opened ≡ 0 → s.middle ≡ none (mode_of page.mode) → Printing xs page 0 before s os before
+  printing-start {page} f columns room ev ef ec eh en eo em = record {
     formed = f;
     columns = columns;
     room = room;
     stack = [];
-    open-records = record { numbers = numbers-start xs f refl eo; carried = tt; arrays = stands-none page.mode refl refl refl refl em };
+    open-records = record { numbers = numbers-start xs f en eo; carried = tt; arrays = stands-none page.mode ev ef ec eh em };
     so_far = record { size = refl; after = refl; filled = λ p d o l a b. absurd (omega arith) };
   }
 
@@ -308,15 +309,21 @@ pub record Pass (log : List ℕ) (page : Page) (before rest : List ℕ) (s : Pro
   pub second : Second records rest place
   pub printing : Printing records page place before s os out
 
-pub pass-start : {log : List ℕ} {page : Page} {before : List ℕ} {s : Progress} → PageFits log page (length before) → s.opened ≡ 0 → s.middle ≡ none (mode_of page.mode) → Pass log page before log s NONE_OPEN before
-pass-start {page = page} b eo em = record {
+pub pass-start : {log : List ℕ} {page : Page} {before : List ℕ} {s : Progress} {os : Open} → PageFits log page (length before)
+    → length os.amounts.values ≡ 64 → length os.amounts.floors ≡ 64 → length os.amounts.ceilings ≡ 64 → length os.held ≡ 64 → length os.numbers ≡ 64
+    → s.opened ≡ 0 → s.middle ≡ none (mode_of page.mode) → Pass log page before log s os before
+pass-start {page = page} b ev ef ec eh en eo em = record {
   records = b.records;
   is = b.is;
   there = b.there;
   place = 0;
   second = second.begin b.is;
-  printing = printing-start b.records (formed b.records b.is.fine) (fits page.mode b.in_use b.is) b.fits eo em;
+  printing = printing-start b.records (formed b.records b.is.fine) (fits page.mode b.in_use b.is) b.fits ev ef ec eh en eo em;
 }
+
+-- the same of the arrays that the code begins with
+pub pass-start-none : {log : List ℕ} {page : Page} {before : List ℕ} {s : Progress} → PageFits log page (length before) → s.opened ≡ 0 → s.middle ≡ none (mode_of page.mode) → Pass log page before log s NONE_OPEN before
+pass-start-none b eo em = pass-start b refl refl refl refl refl eo em
 
 module _ {log : List ℕ} {page : Page} {before rest : List ℕ} {s : Progress} {os : Open} {out : List ℕ} (i : Pass log page before rest s os out) where
   module _ {f : Fields} (e : read_of rest ≡ granted f) where

@@ -55,6 +55,10 @@ pub fn sheet(log: &[u8], mode: u32, page: u32, out: &mut [u8]) -> Result<usize, 
     if !figure::in_use(mode) {
         return Err(Refusal::Mode);
     }
-    let opened = whole_log::ask(log)?;
+    let opened = match whole_log::ask(log) {
+        Ok(opened) => opened,
+        // An arm, and no `?`: a wrong answer of it alone is tried (must-fail).
+        Err(no) => return Err(no),
+    };
     put_page(log, mode as u16, opened, page, out)
 }

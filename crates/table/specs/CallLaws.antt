@@ -25,6 +25,21 @@ use Rattle.table.specs.Promised.{first_no, TableFits}
 
 -- ---- questions 3, 13 and 10
 
+module _ (readable nest some : Bool) where
+  pub no-3 : readable ≡ false → Some no.Unreadable ≡ first_no readable nest some
+  no-3 h = rw h
+
+  module _ (h : readable ≡ true) where
+    pub no-13 : nest ≡ false → Some no.NotNested ≡ first_no readable nest some
+    no-13 n = rw (h, n)
+
+    module _ (n : nest ≡ true) where
+      pub no-10 : some ≡ false → Some no.NoRecord ≡ first_no readable nest some
+      no-10 s = rw (h, n, s)
+
+      pub all_yes : some ≡ true → None ≡ first_no readable nest some
+      all_yes s = rw (h, n, s)
+
 -- What the first "no" settles of a table: none that it is taken, and any the refusal.
 pub record Settled (table : List ℕ) (f : Option Refusal) : Type 0 where
   pub yes : f ≡ None → Taken table

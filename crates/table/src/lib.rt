@@ -81,6 +81,10 @@ pub fn read_table(log: &[u8], out: &mut [u8]) -> Result<usize, Refusal>
     ensures answer { answered result ≡ length_answered (read_table_outcome log.now (length out.old)) }
     ensures buffer { out.new ≡ buffer_after (read_table_outcome log.now (length out.old)) out.old }
 {
-    let opened = whole_log::ask(log)?;
+    let opened = match whole_log::ask(log) {
+        Ok(opened) => opened,
+        // An arm, and no `?`: a wrong answer of it alone is tried (must-fail).
+        Err(no) => return Err(no),
+    };
     put_table(log, opened, out)
 }

@@ -26,18 +26,22 @@ pub not-both : {b : Bool} → b ≡ true → b ≡ false → ⊥
 not-both e f = subst T (sym e ∙ f) tt
 
 module _ (y : Record Amounts) {from to o : ℕ} (es : start_level y ≡ from) (ee : end_level y ≡ to) (eo : opens y ≡ o) (t : Tally) where
-  pub further : (xs : List (Record Amounts)) (f j : Option Refusal) → not t.begun ≡ false → verdict_of f ≡ low (verdict_of t.fault) (verdict_of j) → verdict_of j ≡ joint t.level from → Tallied xs t
+  pub joined : (xs : List (Record Amounts)) (f : Option Refusal) → not t.begun ≡ false → verdict_of f ≡ low (verdict_of t.fault) (joint t.level from) → Tallied xs t
       → Tallied (xs ++ (y ∷ [])) (record t { level = to; fault = f; opened = t.opened + o })
-  further [] f j b ef ej s = absurd (not-both (begun t.begun b) s.begun)
-  further (x ∷ xs) f j b ef ej s =
+  joined [] f b e s = absurd (not-both (begun t.begun b) s.begun)
+  joined (x ∷ xs) f b e s =
       let g = grown net x xs y in
       record {
         begun = s.begun;
         start = s.start;
         level = sym ee ∙ sym g.end;
-        fault = ef ∙ rw (ej, s.fault, s.level, ← es) (sym g.joint);
+        fault = e ∙ rw (s.fault, s.level, ← es) (sym g.joint);
         opened = omega (arith, g.opened, s.opened, eo);
       }
+
+  pub further : (xs : List (Record Amounts)) (f j : Option Refusal) → not t.begun ≡ false → verdict_of f ≡ low (verdict_of t.fault) (verdict_of j) → verdict_of j ≡ joint t.level from → Tallied xs t
+      → Tallied (xs ++ (y ∷ [])) (record t { level = to; fault = f; opened = t.opened + o })
+  further xs f j b ef ej s = joined xs f b (rw ej at ef) s
 
 pub level-is : (y : Record Amounts) (u : Tally) (xs : List (Record Amounts)) → Tallied (xs ++ (y ∷ [])) u → u.level ≡ end_level y
 level-is y u [] s = s.level

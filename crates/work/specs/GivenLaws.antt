@@ -2,6 +2,7 @@
 use Rattle.std.specs.Prelude.{◌≡◌, refl, Bool, true, false, ◌&&◌, cond, List, ◌≢◌, ℕ, zero, suc, ◌+◌, ◌-◌, ◌*◌, ◌^◌, ◌≤◌, ◌<◌, leb, eqb, ℤ, pos, length, get_or, Option}
 use Rattle.std.proofs.Common.{sym, ap, ap₂, ◌∙◌, add-one, arith, eq-eqb, ne_eqb, to_z}
 use Rattle.std.proofs.Math.Path.{subst}
+use Rattle.std.proofs.lemmas.Bool.{eqb-false}
 use Rattle.std.proofs.lemmas.List.{length-map}
 use Rattle.std.specs.Int.{w64}
 use Rattle.number.specs.Bytes.{le_at, i64_at}
@@ -19,12 +20,13 @@ use Rattle.judge.specs.declared.Numbers.{Numbers}
 use Rattle.row_plan.specs.declared.Line.{Line as HeldLine}
 use Rattle.row_plan.specs.Arrays.{line_in}
 use Rattle.run_level.specs.declared.Place.{Place}
-use Rattle.run_level.specs.Levels.{piece_of, begin_of, place_in}
+use Rattle.row_gate.specs.Notes.{note_at}
+use Rattle.run_level.specs.Levels.{piece_of, begin_of, peak_of, place_in}
 use Rattle.run_level.specs.Laws.{piece_inside, piece-field}
 use Rattle.run_level.specs.Along.{row_in, line_at}
 use Rattle.work.specs.Stores.{Stores, own, stores_same, size_is, size-stored, stores-none, can-combine, stores-combined}
 use Rattle.work.specs.Promised.{outcome_most, IsPlaceOfHill, middle_if, with_middle, AddsMiddle, Middles, AddsOutcome, with_outcome, OutsStored, done_in, done_of, Gives, Given}
-use Rattle.work.specs.RowLaws.{valid, row-light, peak-hill, hill-place, middle-stored, middle-small, middle-noted}
+use Rattle.work.specs.RowLaws.{valid, row-light, noted-hill, noted-place, middle-stored, middle-small, middle-noted}
 
 -- ---- a middle value
 
@@ -106,9 +108,9 @@ module _ {row : List ℕ} {count m : ℕ} {ats : List ℕ} {notes : List (Option
         subst (λ (x : Place). AddsMiddle row m x level z) (sym ep)
         (subst (AddsMiddle row m (place_in ats notes k) level) (sym ez)
         (record {
-          hill = λ e. hill-place v.ready k here (peak-hill v.ready k here (omega (arith, v.level-low)));
-          middle-stored = λ e. middle-stored v.ready k here (peak-hill v.ready k here (omega (arith, v.level-low)));
-          light = λ e. middle-small v.ready k here (peak-hill v.ready k here (omega (arith, v.level-low)));
+          hill = λ e. noted-place v.ready k here (omega (arith, v.level-high));
+          middle-stored = λ e. middle-stored v.ready k here (noted-hill v.ready k here (omega (arith, v.level-high)));
+          light = λ e. middle-small v.ready k here (noted-hill v.ready k here (omega (arith, v.level-high)));
           stored = w.stores.stored;
           room = omega (arith, light);
         }))
@@ -117,10 +119,16 @@ module _ {row : List ℕ} {count m : ℕ} {ats : List ℕ} {notes : List (Option
     between_next p z r s ep ez es t =
         let f = middles_at N.algebra level (strictly_between N.algebra R i k) in
         let e : with_middle row m p level z ≡ middles_at N.algebra level (strictly_between N.algebra R i (k + 1)) =
-        (λ i'. with_middle row m (ep i') level (ez i')) ∙ ap₂ N.algebra.◌⊗◌ w.stores.reads (sym (middle-noted v.ready k here level v.level-low)) ∙
+        (λ i'. with_middle row m (ep i') level (ez i')) ∙ ap₂ N.algebra.◌⊗◌ w.stores.reads (sym (middle-noted v.ready k here level v.level-high)) ∙
         sym (middles-step N.algebra N.laws R i k level w.after (omega (arith, length-map (row_pieces row) (decode m), v.ready.let_through.long))) ∙
         ap (λ (n : ℕ). middles_at N.algebra level (strictly_between N.algebra R i n)) (sym (add-one k)) in
         record { after = omega (arith, w.after); near = omega arith; stores = stores_same N r s _ es (subst (Stores N r) e t) }
+
+    -- a piece with another peak adds nothing
+    pub between_skip : eqb (peak_of (note_at notes k)) level ≡ false → Between row m i j level acc (k + 1)
+    between_skip e =
+        let p : Place = place_in ats notes k in
+        between_next p acc acc acc refl refl refl (adds_none row m p level acc (adds-next p acc refl refl) acc refl (eqb-false p.peak level e))
 
   pub between-end : (acc : ℤ) (k : ℕ) → Between row m i j level acc k → j ≤ k → Stores N acc (middles_at N.algebra level (strictly_between N.algebra R i j))
   between-end acc k w h = let e : k ≡ j = omega (arith, w.near) in subst (λ (n : ℕ). Stores N acc (middles_at N.algebra level (strictly_between N.algebra R i n))) e w.stores
@@ -209,7 +217,7 @@ module _ {row : List ℕ} {count m : ℕ} {ats : List ℕ} {notes : List (Option
   outcomes_of = outcomes_at Q.algebra line.i line.j (line.high + 1) (done_of Q lines outs)
 
   pub gives-middles : Middles row count m ats notes line.i line.j (line.high + 1)
-  gives-middles = record { ready = v.ready; order = v.order; within = v.within; level-low = omega arith }
+  gives-middles = record { ready = v.ready; order = v.order; within = v.within; level-high = omega (arith, v.level-high) }
 
   module _ (x y a b : ℤ) (ex : x ≡ a) (ey : y ≡ b) (s : Stores Q a middles_of) (t : Stores Q b outcomes_of) where
     both-room : Q.sizes.size middles_of + Q.sizes.size outcomes_of < 2 ^ 63

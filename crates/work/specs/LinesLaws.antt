@@ -41,7 +41,7 @@ use Rattle.run_level.specs.Along.{row_in, Ready, Along, line_at, levels_of}
 use Rattle.run_level.specs.AlongLaws.{line-levels-of, line-is}
 use Rattle.work.specs.Stores.{Stores, stores_same, stores-is, own, size_is, size-stored}
 use Rattle.work.specs.Promised.{most, Runs, OutsStored, done_in, done_of, Gives, Given, WorksLine, AllWorked}
-use Rattle.work.specs.RowLaws.{valid, row-light, noted-hill, middle-stored, IsWhole, no-hill}
+use Rattle.work.specs.RowLaws.{valid, row-light, some-hill, middle-stored, IsWhole, none-no-hill}
 
 -- ---- one line
 
@@ -271,7 +271,7 @@ module _ {row : List ℕ} {count m : ℕ} {ats : List ℕ} {notes : List (Option
     from-here = drop-cons S k blank (omega (arith, length-map (row_pieces row) (decode m), t.let_through.long))
 
     pub is-hill : true ≡ is_some (note_at notes k) → IsHill (piece_of row k)
-    is-hill l = let n = some-is (note_at notes k) l in noted-hill t k h n.0 n.1 (λ f s e o q. subst Begins (from-here ∙ ap (λ (x : SummaryIn m). x ∷ drop (suc k) S) q) w.begins)
+    is-hill l = let n = some-is (note_at notes k) l in some-hill t k h n.0 n.1 (λ f s e o q. subst Begins (from-here ∙ ap (λ (x : SummaryIn m). x ∷ drop (suc k) S) q) w.begins)
 
     -- A hill.
     pub seek-hill : true ≡ is_some (note_at notes k) → (p : Place) (z y : ℤ) → p ≡ place_in ats notes k → y ≡ z → z ≡ middle_at (piece_of row p.piece) → Stores (mode_of m) y (one_middle (mode_of m).algebra S)
@@ -286,7 +286,7 @@ module _ {row : List ℕ} {count m : ℕ} {ats : List ℕ} {notes : List (Option
 
     -- No hill: a blank.
     pub seek-next : false ≡ is_some (note_at notes k) → Seeking row count m (k + 1)
-    seek-next l = go (summary_at (mode_of m).algebra S k) from-here (no-hill t k h (none-is (note_at notes k) l))
+    seek-next l = go (summary_at (mode_of m).algebra S k) from-here (none-no-hill t k h (none-is (note_at notes k) l))
       where
         go : (s : SummaryIn m) → drop k S ≡ s ∷ drop (suc k) S → (IsWhole s → ⊥) → Seeking row count m (k + 1)
         go blank e n = subst (Seeking row count m) (sym (add-one k)) (record { near = omega arith; begins = subst Begins e w.begins; same = sym (ap (one_middle (mode_of m).algebra) e) ∙ w.same })

@@ -64,7 +64,7 @@ pub record Middles (row : List ℕ) (count m : ℕ) (ats : List ℕ) (notes : Li
   pub ready : Ready row count m ats notes
   pub order : i < j
   pub within : j ≤ count
-  pub level-low : 0 < level
+  pub level-high : level ≤ 64
 
 -- ---- outcomes
 

@@ -22,7 +22,7 @@ use Rattle.plan_work.specs.Fair.{ValidRow}
 use Rattle.plan_work.specs.Runs.{peak_of_summary, slopes_of, summary_at}
 use Rattle.plan_work.specs.WorkSizes.{load}
 use Rattle.plan_work.proofs.WorkSizes.{load_fits, middle-light}
-use Rattle.row_gate.specs.Notes.{note_at}
+use Rattle.row_gate.specs.Notes.{no_peak, note_at}
 use Rattle.outcome.proofs.Through.{valid-row}
 use Rattle.row_gate.specs.RowLaws.{each_in, decoded-at}
 use Rattle.run_level.specs.Levels.{piece_of, peak_of, place_in}
@@ -74,7 +74,7 @@ module _ {row : List ℕ} {count m : ℕ} {ats : List ℕ} {notes : List (Option
   abbrev noted : ℕ → (mode_of m).algebra.Fig
   noted level = middle_if row m (place_in ats notes k) level
 
-  not_noted : (level : ℕ) → 0 < level → peak_of (note_at notes k) ≡ 0 → noted level ≡ (mode_of m).algebra.ι
+  not_noted : (level : ℕ) → level ≤ 64 → 64 < peak_of (note_at notes k) → noted level ≡ (mode_of m).algebra.ι
   not_noted level l n = rw (ne_eqb (peak_of (note_at notes k)) level (omega arith))
 
   pub hill-middle : IsHill b → middle (slopes_of (mode_of m).algebra (summary_at (mode_of m).algebra (row_in m row) k)) ≡ (mode_of m).read (middle_at b)
@@ -87,7 +87,10 @@ module _ {row : List ℕ} {count m : ℕ} {ats : List ℕ} {notes : List (Option
   blank-note : kind_at b ≡ 16 → note_at notes k ≡ None
   blank-note v = note-is ∙ ap numbers_of (head-blank b v)
 
-  spoilt-peak : kind_at b ≡ 17 → peak_of (note_at notes k) ≡ 0
+  blank-peak : kind_at b ≡ 16 → peak_of (note_at notes k) ≡ no_peak
+  blank-peak v = ap peak_of (blank-note v)
+
+  spoilt-peak : kind_at b ≡ 17 → peak_of (note_at notes k) ≡ no_peak
   spoilt-peak v = ap peak_of (note-is ∙ ap numbers_of (head-spoilt b v))
 
   hill-note : IsHill b → note_at notes k ≡ numbers_of (Hill (hill_head_at b))
@@ -96,19 +99,19 @@ module _ {row : List ℕ} {count m : ℕ} {ats : List ℕ} {notes : List (Option
   hill-peak : (v : IsHill b) → peak_of (note_at notes k) ≡ peak_at b
   hill-peak v = ap peak_of (hill-note v)
 
-  -- A peak above 0 is a hill's.
-  pub peak-hill : 0 < peak_of (note_at notes k) → IsHill b
-  peak-hill l = go is
+  -- A peak below `no_peak` is a hill's.
+  pub noted-hill : peak_of (note_at notes k) < no_peak → IsHill b
+  noted-hill l = go is
     where
       go : IsSummary b → IsHill b
-      go (is_blank f) = absurd (omega (arith, ap peak_of (blank-note f.kind_fits)))
+      go (is_blank f) = absurd (omega (arith, blank-peak f.kind_fits))
       go (is_spoilt v) = absurd (omega (arith, spoilt-peak v.layout.kind_fits))
       go (is_hill v) = v
 
   -- What is noted is a hill's, where nothing spoilt is.
-  pub noted-hill : (n : Numbers) → note_at notes k ≡ Some n → ((f s e o : ℕ) → summary_at (mode_of m).algebra (row_in m row) k ≡ part (spoilt f s e o) → ⊥) → IsHill b
+  pub some-hill : (n : Numbers) → note_at notes k ≡ Some n → ((f s e o : ℕ) → summary_at (mode_of m).algebra (row_in m row) k ≡ part (spoilt f s e o) → ⊥) → IsHill b
   unfolding decode
-  noted-hill n e unspoilt = go is
+  some-hill n e unspoilt = go is
     where
       go : IsSummary b → IsHill b
       go (is_blank f) = let z : None ≡ Some n = sym (blank-note f.kind_fits) ∙ e in cc
@@ -117,6 +120,9 @@ module _ {row : List ℕ} {count m : ℕ} {ats : List ℕ} {notes : List (Option
 
   pub hill-place : IsHill b → IsPlaceOfHill row (place_in ats notes k)
   hill-place v = record { placed = placed t.let_through t.begun k h v; is = v }
+
+  pub noted-place : peak_of (note_at notes k) < no_peak → IsPlaceOfHill row (place_in ats notes k)
+  noted-place l = hill-place (noted-hill l)
 
   -- Its middle value stands for a figure, and is light.
   pub middle-stored : IsHill b → IsStored (mode_of m) (middle_at b)
@@ -128,27 +134,31 @@ module _ {row : List ℕ} {count m : ℕ} {ats : List ℕ} {notes : List (Option
       omega (arith, size_is (mode_of m) (middle_at b), middle-light (mode_of m).algebra (mode_of m).sizes (row_in m row) (valid t.let_through) k, row-light t.let_through)
 
   -- WHAT IS NOTED is what the plan's definition takes.
-  pub middle-noted : (level : ℕ) → 0 < level → at_level (summary_at (mode_of m).algebra (row_in m row) k) level ≡ noted level
+  pub middle-noted : (level : ℕ) → level ≤ 64 → at_level (summary_at (mode_of m).algebra (row_in m row) k) level ≡ noted level
   unfolding decode
   middle-noted level l = go is
     where
       go : IsSummary b → at_level (summary_at (mode_of m).algebra (row_in m row) k) level ≡ noted level
       go (is_blank f) =
           ap (λ (s : SummaryIn m). at_level s level) (decoded ∙ reading-blank (mode_of m).read b f.kind_fits) ∙ cond_same (eqb 0 level) (mode_of m).algebra.ι ∙
-          sym (not_noted level l (ap peak_of (blank-note f.kind_fits)))
+          sym (not_noted level l (omega (arith, blank-peak f.kind_fits)))
       go (is_spoilt v) =
           ap (λ (s : SummaryIn m). at_level s level) (decoded ∙ reading-spoilt (mode_of m).read b v.layout.kind_fits) ∙ cond_same (eqb 0 level) (mode_of m).algebra.ι ∙
-          sym (not_noted level l (spoilt-peak v.layout.kind_fits))
+          sym (not_noted level l (omega (arith, spoilt-peak v.layout.kind_fits)))
       go (is_hill v) =
           ap (λ (s : SummaryIn m). at_level s level) (decoded ∙ reading-hill (mode_of m).read b v.layout.kind_fits) ∙
           ap (λ (n : ℕ). cond (eqb n level) ((mode_of m).read (middle_at b)) (mode_of m).algebra.ι) (sym (hill-peak v))
 
-  -- Where nothing is noted there is no hill.
-  pub no-hill : note_at notes k ≡ None → IsWhole (summary_at (mode_of m).algebra (row_in m row) k) → ⊥
+  -- A peak above all levels is no hill's.
+  pub no-hill : 64 < peak_of (note_at notes k) → IsWhole (summary_at (mode_of m).algebra (row_in m row) k) → ⊥
   unfolding decode
-  no-hill e w = go is
+  no-hill l w = go is
     where
       go : IsSummary b → ⊥
       go (is_blank f) = subst IsWhole (decoded ∙ reading-blank (mode_of m).read b f.kind_fits) w
       go (is_spoilt v) = subst IsWhole (decoded ∙ reading-spoilt (mode_of m).read b v.layout.kind_fits) w
-      go (is_hill v) = let z : None ≡ numbers_of (Hill (hill_head_at b)) = sym e ∙ hill-note v in cc
+      go (is_hill v) = omega (arith, hill-peak v, v.peak-start, v.start-high)
+
+  -- Where nothing is noted there is no hill.
+  pub none-no-hill : note_at notes k ≡ None → IsWhole (summary_at (mode_of m).algebra (row_in m row) k) → ⊥
+  none-no-hill e = no-hill (omega (arith, ap peak_of e))

@@ -1,9 +1,9 @@
 // The x of a line: the middle values of the hills between its two, and the outcomes of earlier lines.
-ghost use Rattle.std.specs.Prelude.{◌≡◌, length};
+ghost use Rattle.std.specs.Prelude.{◌≡◌, ◌≤◌, eqb, length};
 ghost use Rattle.figure.specs.Mode.{mode_of};
 ghost use Rattle.summary.specs.Judge.{middle_at};
 ghost use Rattle.plan_work.specs.Work.{middles_at, outcomes_at, strictly_between};
-ghost use Rattle.run_level.specs.Levels.{piece_of};
+ghost use Rattle.run_level.specs.Levels.{piece_of, peak_of};
 ghost use Rattle.work.specs.Stores.{Stores};
 ghost use Rattle.run_level.specs.Along.{row_in};
 ghost use Rattle.work.specs.Promised.{
@@ -19,6 +19,7 @@ ghost use Rattle.work.specs.Promised.{
   Given,
 };
 
+use judge::Numbers;
 use row_plan::Line;
 use run_level::Place;
 use run_level::hills::{Hills, place_of};
@@ -43,13 +44,27 @@ fn add_middle(row: &[u8], mode: u16, piece: Place, level: u8, acc: i64) -> i64
     figure::combine(mode, acc, read_middle(row, piece))
 }
 
-// The middle values of the hills between i and j with this peak, combined. The level is above 0, which stands for the peak of a piece that is no hill.
+// Whether a piece is a hill with this peak. Few are, so it is asked before a place is made.
+fn has_peak(note: Option<Numbers>, level: u8) -> bool
+    requires { level ≤ 64 }
+    ensures { result ≡ eqb (peak_of note) level }
+{
+    match note {
+        None => false,
+        Some(n) => (n.peak == level) & n.fault.is_none(),
+    }
+}
+
+// The middle values of the hills between i and j with this peak, combined.
 fn middles(hills: Hills, i: u8, j: u8, level: u8) -> i64
     requires { Middles hills.row.now hills.count hills.mode hills.ats.now hills.notes.now i j level }
     ensures { Stores (mode_of hills.entry.mode) result (middles_at (mode_of hills.entry.mode).algebra level (strictly_between (mode_of hills.entry.mode).algebra (row_in hills.entry.mode hills.entry.row.now) i j)) }
 {
     let mut acc = figure::nothing(hills.mode);
     for k in usize::from(i) + 1..usize::from(j) {
+        if !has_peak(hills.notes[k], level) {
+            continue;
+        }
         acc = add_middle(hills.row, hills.mode, place_of(hills, k), level, acc);
     }
     acc

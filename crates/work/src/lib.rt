@@ -27,7 +27,11 @@ pub fn work(row: &[u8]) -> Result<Totals, Refusal>
     ensures answer { worked_answer result ≡ work_outcome row.now }
 {
     let mut notes = [None; 64];
-    let found = row_gate::open_row(row, &mut notes)?;
+    let found = match row_gate::open_row(row, &mut notes) {
+        Ok(found) => found,
+        // An arm, and no `?`: a wrong answer of it alone is tried (must-fail).
+        Err(no) => return Err(no),
+    };
     let mut lines = [Line::default(); 128];
     let n = row_plan::scan::scan(&notes, found.count, &mut lines);
     let mut ats = [0; 64];

@@ -4,7 +4,7 @@ use Rattle.gate.specs.Outcome.{granted}
 use Rattle.number.specs.Word.{back}
 use Rattle.modes.specs.FourModes.{is_stamp}
 use Rattle.figure.specs.Mode.{mode_of}
-use Rattle.backwards.specs.Laws.{back-stamp-is, stamp_range, stamp-as}
+use Rattle.backwards.specs.Laws.{back-stamp-wrapped, stamp_range, stamp-as}
 use Rattle.backwards.proofs.back_stamp.Goals as goal
 
 is-stamp-y : (y : ℤ) {b : Bool} → b ≡ (mode_of 4).is_figure y → b ≡ true → is_stamp y ≡ true
@@ -28,4 +28,4 @@ returns c =
     let times = stamp-as k.first _ (c.requires.times-stamp refl) (c.to_u32-m.ensures ∙ back w64 k.first (search rules)) in
     let plus = stamp-as k.second _ (c.requires.plus-stamp refl) (c.to_u32-q.ensures ∙ back w64 k.second (search rules)) in
     let outer = stamp-as y _ yes (c.to_u32.ensures ∙ to_z-of_z c.ranges.y) in
-    ap granted (back w64 c.from.result c.from.type_inv ∙ c.from.ensures) ∙ back-stamp-is k y yes times plus outer c.inverse_of.ensures
+    ap granted (back w64 c.from.result c.from.type_inv ∙ c.from.ensures) ∙ back-stamp-wrapped k y yes times plus outer c.inverse_of.ensures

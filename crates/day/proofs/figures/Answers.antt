@@ -11,7 +11,7 @@ pub returns-then-log-gt65536 : goal.returns-then-log-gt65536
 returns-then-log-gt65536 c = sym (too_long c.args.log.now c.if-log-gt65536.true)
 
 pub loop-rest-init : goal.loop-rest-init
-loop-rest-init c = laws.begin c.if-log-gt65536.false c.fresh-t.ensures c.no_figures-mid.ensures
+loop-rest-init c = laws.begin-none c.if-log-gt65536.false c.fresh-t.ensures c.no_figures-mid.ensures
 
 pub returns-in_default : goal.returns-in_default
 returns-in_default c = sym (laws.stopped c.loop-rest.invariant (omega (arith, c.loop-rest-test.true)) (sym c.in_default.ensures))

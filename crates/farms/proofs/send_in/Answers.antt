@@ -1,5 +1,4 @@
 use Rattle.std.proofs.Common.{◌≡◌, refl}
-use Rattle.std.proofs.lemmas.Result.{err_from_is_err_and}
 use Rattle.gate.specs.Outcome.{refused}
 use Rattle.valley_station.specs.Station.{send_outcome}
 use Rattle.valley_station.specs.State.{station_of}
@@ -16,17 +15,16 @@ returns-then-farm-gt7 c =
 pub settle-requires : goal.settle-requires
 settle-requires c =
     let a = c in
-    record { state_len = (a.requires, c.if-farm-gt7.false); slot = sent-slot a.args.state.now _ a.args.summary.now a.args.farm c.if-farm-gt7.false (held-part a.args.state.now _ _ c.held_end-end.ensures) _ _ c.merge.ensures.answer c.merge.ensures.buffer c.in_ok-n.was }
+    record { state_len = (a.requires, c.if-farm-gt7.false); slot = sent-slot a.args.state.now _ a.args.summary.now a.args.farm c.if-farm-gt7.false (held-part a.args.state.now _ _ c.held_end-end.ensures) _ _ c.merge.ensures.answer c.merge.ensures.buffer c.in-Ok.is }
 
-pub returns : goal.returns
-returns c =
+pub returns-in-Ok : goal.returns-in-Ok
+returns-in-Ok c =
     let a = c in
-    let r = sent a.args.state.now _ a.args.summary.now a.args.farm c.if-farm-gt7.false (held-part a.args.state.now _ _ c.held_end-end.ensures) _ _ c.merge.ensures.answer c.merge.ensures.buffer _ _ c.in_ok-n.was c.settle.ensures.answer c.settle.ensures.state in
+    let r = sent a.args.state.now _ a.args.summary.now a.args.farm c.if-farm-gt7.false (held-part a.args.state.now _ _ c.held_end-end.ensures) _ _ c.merge.ensures.answer c.merge.ensures.buffer _ _ c.in-Ok.is c.settle.ensures.answer c.settle.ensures.state in
     record { answer = r.0; state = r.1 }
 
-pub returns-in_err-n : goal.returns-in_err-n
-returns-in_err-n c =
+pub returns-in-Err : goal.returns-in-Err
+returns-in-Err c =
     let a = c in
-    let e = err_from_is_err_and c.from_residual.result c.from_residual.ensures.1 in
-    let n = not-sent a.args.state.now _ a.args.summary.now a.args.farm c.if-farm-gt7.false (held-part a.args.state.now _ _ c.held_end-end.ensures) _ _ c.merge.ensures.answer c.merge.ensures.buffer c.in_err-n.was in
-    rw (e.1, e.2, n) record { answer = refl; state = refl }
+    let n = not-sent a.args.state.now _ a.args.summary.now a.args.farm c.if-farm-gt7.false (held-part a.args.state.now _ _ c.held_end-end.ensures) _ _ c.merge.ensures.answer c.merge.ensures.buffer c.in-Err.is in
+    rw n record { answer = refl; state = refl }

@@ -8,5 +8,5 @@ pub returns : goal.returns
 unfolding wrap
 returns c =
     ap₂ (λ (x y : ℕ). (x + y) % 2 ^ 32)
-    (c.cast_unsigned.ensures ∙ ap (of_z w32) (to_z-of_z c.ranges.value) ∙ sym (wrap-bits c.args.value c.ranges.value)) c.wrapping_mul.ensures
+    (c.bits_32.ensures ∙ ap (of_z w32) (to_z-of_z c.ranges.value) ∙ sym (wrap-bits c.args.value c.ranges.value)) c.wrapping_mul.ensures
     ∙ sym (wrap-+ c.args.value (pos (31 * c.args.held)))

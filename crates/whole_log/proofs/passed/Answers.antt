@@ -1,8 +1,8 @@
--- A further record is added to the tally: `further` of specs/TallyLaws.antt.
-use Rattle.whole_log.specs.TallyLaws.{further}
+-- A further record is added to the tally: `joined` of specs/TallyLaws.antt.
+use Rattle.whole_log.specs.TallyLaws.{joined}
 use Rattle.whole_log.proofs.passed.Goals as goal
 
 pub returns : goal.returns
 returns c xs y s es ee eo =
     let a = c in
-    further y es ee eo a.args.t xs c.lower.result c.joint.result c.if-not-t.false c.lower.ensures c.joint.ensures s
+    joined y es ee eo a.args.t xs c.with_joint.result c.if-not-t.false c.with_joint.ensures s

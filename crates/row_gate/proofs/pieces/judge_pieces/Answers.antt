@@ -15,7 +15,7 @@ pub returns-in_err-piece : goal.returns-in_err-piece
 returns-in_err-piece c =
     let n = judges-not _ _ c.judge.ensures _ c.in_err-piece.was in
     let p = err_from_is_err_and c.from_residual.result c.from_residual.ensures.1 in
-    let r = judging-not _ _ _ _ _ _ c.loop-k.invariant (omega arith) _ c.first_length-first.ensures n.0 in
+    let r = judging-not _ _ _ _ _ _ _ c.loop-k.invariant (omega arith) _ c.first_length-first.ensures n.0 in
     record { answer = rw (p.1, p.2, n.1) r.0; notes = r.1 }
 
 pub numbers_of-requires : goal.numbers_of-requires
@@ -35,4 +35,4 @@ loop-k-preserved c =
     let l = c.loop-k in
     let p = c.in_ok-piece.piece in
     let j = judges _ c.judge.result c.judge.ensures p c.in_ok-piece.was in
-    judging-next _ _ _ _ _ _ l.invariant (omega arith) _ c.first_length-first.ensures p _ _ (omega arith) j c.numbers_of.ensures c.first_mode-mode.ensures
+    judging-next _ _ _ _ _ _ _ l.invariant (omega arith) _ c.first_length-first.ensures p _ _ (omega arith) j c.numbers_of.ensures c.first_mode-mode.ensures

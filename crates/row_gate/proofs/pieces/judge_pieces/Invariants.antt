@@ -3,4 +3,4 @@ use Rattle.row_gate.specs.NotesLaws.{Judging}
 use Rattle.row_gate.proofs.pieces.judge_pieces.Given as goal
 
 abbrev pub invariant-loop-k : goal.invariant-loop-k
-invariant-loop-k l = Judging l.row l.notes l.rest l.k l.mode l.same
+invariant-loop-k l = Judging l.row l.initial.notes l.notes l.rest l.k l.mode l.same

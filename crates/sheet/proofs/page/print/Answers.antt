@@ -3,11 +3,11 @@ use Rattle.std.proofs.Common.{refl, sym, ◌∙◌, arith, w64}
 use Rattle.number.specs.Word.{back}
 use Rattle.record.proofs.Laws.{sound}
 use Rattle.whole_log.specs.Second as second
-use Rattle.sheet.specs.PrintingLaws.{pass-start, pass-ready, pass-next, pass-end}
+use Rattle.sheet.specs.PrintingLaws.{pass-start-none, pass-ready, pass-next, pass-end}
 use Rattle.sheet.proofs.page.print.Goals as goal
 
 pub loop-rest-init : goal.loop-rest-init
-loop-rest-init c = pass-start c.requires refl (back w64 c.nothing.result c.nothing.type_inv ∙ c.nothing.ensures)
+loop-rest-init c = pass-start-none c.requires refl (back w64 c.nothing.result c.nothing.type_inv ∙ c.nothing.ensures)
 
 pub returns-in_default : goal.returns-in_default
 returns-in_default c xs i =
